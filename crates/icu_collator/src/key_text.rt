@@ -1,6 +1,7 @@
 //! The elements of a text for its key, as variable weighting leaves them (UTS #10, "Variable Weighting").
 
-ghost use Rattle.std.specs.Prelude.{◌≡◌, false, IfOk, map};
+ghost use Rattle.std.specs.Prelude.{◌≡◌, ◌++◌, [], None, false, IfOk, map, option_to_list};
+ghost use Rattle.icu_collator.specs.inner.KeyElements.{steady_elements_left};
 ghost use Rattle.icu_weighting.specs.Handled.{handled, stayed};
 
 use icu_cursor::{ElementCursor, FirstChars, LongPiece, SteadyCursor};
@@ -18,12 +19,25 @@ where
     FirstChars<T>: CountedText,
 {
     alloc: Global,
-    cursor: ElementCursor<'c, 'd, T>,
+    cursor: Option<ElementCursor<'c, 'd, T>>,
     steady: Option<Box<SteadyCursor<'c, 'd, T>>>,
 }
 
+/// The next element of a cursor that never stops, where there is one.
+fn next_of_steady<T: CountedText>(
+    steady: &mut Option<Box<SteadyCursor<'_, '_, T>>>,
+) -> Option<CollationElement>
+    ensures next { steady_elements_left T.text steady.old
+        ≡ option_to_list result ++ steady_elements_left T.text steady.new }
+    ensures end { result ≡ None → steady_elements_left T.text steady.old ≡ [] }
+{
+    match steady {
+        Some(begun) => begun.next(),
+        None => None,
+    }
+}
+
 impl<'c, 'd, T: CountedText> KeyElements<'c, 'd, T> {
-    ghost use Rattle.std.specs.Prelude.{[], ◌++◌, None, option_to_list};
     ghost use Rattle.icu_cursor.specs.Cursors.{cursor_gives};
     ghost use Rattle.icu_collator.specs.inner.KeyElements.{key_elements_left};
 
@@ -34,9 +48,53 @@ impl<'c, 'd, T: CountedText> KeyElements<'c, 'd, T> {
     {
         KeyElements {
             alloc,
-            cursor,
+            cursor: Some(cursor),
             steady: None,
         }
+    }
+
+    /// The next element, where the cursor gives it at once. `None` says nothing.
+    #[inline(always)]
+    fn next_at_once(&mut self) -> Option<CollationElement>
+        ensures { key_elements_left T.text self.old
+            ≡ option_to_list result ++ key_elements_left T.text self.new }
+    {
+        match &mut self.cursor {
+            Some(cursor) => cursor.next_at_once(),
+            None => None,
+        }
+    }
+
+    /// The next element, or `None` after the last one, where the cursor doesn't give it at once. Fails only where an
+    /// allocation does.
+    #[inline(never)]
+    fn next_read(&mut self) -> Result<Option<CollationElement>, AllocError>
+        ensures next { IfOk result (λ next. key_elements_left T.text self.old
+            ≡ option_to_list next ++ key_elements_left T.text self.new) }
+        ensures end { IfOk result (λ next. next ≡ None → key_elements_left T.text self.old ≡ []) }
+    {
+        match &mut self.cursor {
+            Some(cursor) => match cursor.read_next() {
+                Ok(next) => Ok(next),
+                Err(LongPiece) => self.go_on(),
+            },
+            None => Ok(next_of_steady(&mut self.steady)),
+        }
+    }
+
+    /// The next element at a long piece.
+    fn go_on(&mut self) -> Result<Option<CollationElement>, AllocError>
+        ensures next { IfOk result (λ next. key_elements_left T.text self.old
+            ≡ option_to_list next ++ key_elements_left T.text self.new) }
+        ensures end { IfOk result (λ next. next ≡ None → key_elements_left T.text self.old ≡ []) }
+    {
+        let Some(cursor) = self.cursor.take() else {
+            return Ok(next_of_steady(&mut self.steady));
+        };
+        let mut steady = SteadyCursor::new(cursor);
+        let next = steady.next();
+        self.steady = Some(Box::new(self.alloc, steady)?);
+        Ok(next)
     }
 
     /// The next element, or `None` after the last one. Fails only where an allocation does.
@@ -46,38 +104,10 @@ impl<'c, 'd, T: CountedText> KeyElements<'c, 'd, T> {
             ≡ option_to_list next ++ key_elements_left T.text self.new) }
         ensures end { IfOk result (λ next. next ≡ None → key_elements_left T.text self.old ≡ []) }
     {
-        match &mut self.steady {
-            Some(steady) => Ok(steady.next()),
-            None => self.next_of_cursor(),
+        match self.next_at_once() {
+            Some(element) => Ok(Some(element)),
+            None => self.next_read(),
         }
-    }
-
-    /// The next element, where no long piece came before.
-    #[inline(always)]
-    fn next_of_cursor(&mut self) -> Result<Option<CollationElement>, AllocError>
-        requires { self.old.steady ≡ None }
-        ensures next { IfOk result (λ next. key_elements_left T.text self.old
-            ≡ option_to_list next ++ key_elements_left T.text self.new) }
-        ensures end { IfOk result (λ next. next ≡ None → key_elements_left T.text self.old ≡ []) }
-    {
-        match self.cursor.next() {
-            Ok(next) => Ok(next),
-            Err(LongPiece) => self.go_on(),
-        }
-    }
-
-    /// The next element at a long piece.
-    #[inline(never)]
-    fn go_on(&mut self) -> Result<Option<CollationElement>, AllocError>
-        requires { self.old.steady ≡ None }
-        ensures next { IfOk result (λ next. key_elements_left T.text self.old
-            ≡ option_to_list next ++ key_elements_left T.text self.new) }
-        ensures end { IfOk result (λ next. next ≡ None → key_elements_left T.text self.old ≡ []) }
-    {
-        let mut steady = SteadyCursor::new(&self.cursor);
-        let next = steady.next();
-        self.steady = Some(Box::new(self.alloc, steady)?);
-        Ok(next)
     }
 }
 

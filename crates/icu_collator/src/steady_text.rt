@@ -33,7 +33,7 @@ impl<'c, 'd, T: CountedText> SteadyText<'c, 'd, T> {
             ≡ handled handling last_variable false (cursor_gives T.text cursor.entry) }
     {
         SteadyText {
-            elements: SteadyCursor::new(&cursor),
+            elements: SteadyCursor::new(cursor),
             weighting: VariableWeighting::new(handling, last_variable),
         }
     }

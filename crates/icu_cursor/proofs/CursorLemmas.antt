@@ -12,7 +12,7 @@ use Rattle.icu_facts.specs.KeptFacts.{IsPair, char_elements}
 use Rattle.icu_cursor.specs.declared.facts_cursor.FactsCursor.{FactsCursor}
 use Rattle.icu_cursor.specs.FactsCursors.{facts_give, GivesNextOrEnds, GoesOn}
 use Rattle.icu_cursor.specs.inner.NumberElements.{IsNumberPiece}
-use Rattle.icu_cursor.specs.inner.Pieces.{IsPiece}
+use Rattle.icu_cursor.specs.inner.Pieces.{IsPiece, IsPieceBegun}
 use Rattle.icu_cursor.specs.inner.Standing.{StandsBefore}
 use Rattle.icu_cursor.proofs.PieceLemmas.{nothing, pieces_part}
 
@@ -104,6 +104,12 @@ module _ (reading : Reading) (ready : List Element) (before : List ℕ) (none : 
       → ready ++ elements_after reading before (nfd all) ≡ first ++ (others ++ elements_after reading before (nfd rest))
   piece_read all part rest es first others h given is =
       sym (piece_begun all part rest es h given) ∙ ready_taken first es others _ is
+
+  -- as where it is begun first
+  pub begun_first : (all whole rest : List ℕ) (es : List Element) → all ≡ whole → IsPieceBegun reading before whole es rest
+      → ready ++ elements_after reading before (nfd all) ≡ es ++ elements_after reading before (nfd rest)
+  begun_first all whole rest es is h =
+      sym (piece_begun all h.piece rest es (record { parts = is ∙ h.is.parts; boundary = h.is.boundary }) h.elements)
 
   -- so is a number
   pub number_read : (all whole rest : List ℕ) (es first others : List Element) → all ≡ whole → IsNumberPiece reading whole rest es → es ≡ first ++ others

@@ -2,6 +2,8 @@
 use Rattle.std.specs.Prelude.{ℕ, List, [], ◌++◌, Option, Some, None}
 use Rattle.icu_entries.specs.Elements.{Element}
 use Rattle.icu_encodings.specs.declared.encoded_text.EncodedText.{Ghosts}
+use Rattle.icu_decomposed_text.specs.declared.matchable_text.MatchableText.{MatchableText}
+use Rattle.icu_decomposed_text.specs.MatchableTexts.{unread_text}
 use Rattle.icu_steady_elements.specs.declared.steady_elements.SteadyElements.{SteadyElements}
 use Rattle.icu_steady_elements.specs.SteadyElements.{elements_left}
 use Rattle.icu_cursor.specs.declared.first_chars.FirstChars.{FirstChars}
@@ -10,9 +12,9 @@ use Rattle.icu_cursor.specs.Cursors.{cursor_gives}
 use Rattle.icu_cursor.specs.inner.FirstChars.{first_chars}
 
 -- the elements that a piece still gives, where one was begun
-abbrev pub piece_gives : {T : Type 0} {encoded : Ghosts (FirstChars T)} → (T → List ℕ) → Option (SteadyElements (FirstChars T) encoded) → List Element
+abbrev pub piece_gives : {T : Type 0} {encoded : Ghosts (FirstChars T)} → (T → List ℕ) → Option (SteadyElements (MatchableText (FirstChars T) encoded)) → List Element
 piece_gives text None = []
-piece_gives text (Some s) = elements_left (first_chars text) s
+piece_gives text (Some s) = elements_left (unread_text (first_chars text)) s
 
 -- the elements that a steady cursor still gives: those of the piece that was begun, and those that come after it
 abbrev pub steady_gives : {T : Type 0} {encoded : Ghosts (FirstChars T)} → (T → List ℕ) → SteadyCursor T encoded → List Element

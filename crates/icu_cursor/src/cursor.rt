@@ -8,35 +8,34 @@ ghost use Rattle.icu_facts.specs.FewElements.{few_elements};
 use crate::cursor_tables::CursorTables;
 use crate::digit_run::read_number;
 use crate::last_characters::LastCharacters;
-use crate::piece::{few_of_piece, split_piece};
 use crate::ready_elements::ReadyElements;
 use crate::stands::stands_before;
 use crate::{CharFacts, FactsKind, Kept};
-use icu_decomposed_text::CountedText;
+use icu_encodings::EncodedText;
 use icu_entries::CollationElement;
 use icu_facts::FewElements;
 
-/// The characters that come next are read together, and give more elements than an `ElementCursor` keeps. Nothing is
-/// read of them: a `SteadyCursor` goes on from there.
+/// The characters that come next have to be read together, and are more than 64. Nothing is read of them: a
+/// `SteadyCursor` goes on from there.
 #[derive(Debug, Clone, Copy)]
 pub struct LongPiece;
 
 /// Reads an encoded text and gives its collation elements, one by one (UTS #10, "Produce Collation Element Arrays"). A
 /// character that gives the same elements wherever it stands is read from what is kept of it; any other with what
-/// follows it up to the next character before which the text may be cut. It never allocates, and is small: where such a
-/// piece gives more elements than three, it stops.
+/// follows it up to the next character before which the text may be cut. It never allocates: where such a piece has more
+/// than 64 characters once it is decomposed, it stops.
 #[derive(Debug, Clone, Copy)]
 pub struct ElementCursor<'c, 'd, T> {
     pub(crate) tables: &'c CursorTables<'d>,
     pub(crate) text: T,
     pub(crate) recent: LastCharacters,
-    pub(crate) ready: ReadyElements,
+    pub(crate) ready: ReadyElements<'d>,
 }
 
-impl<'c, 'd, T: CountedText> ElementCursor<'c, 'd, T> {
+impl<'c, 'd, T: EncodedText> ElementCursor<'c, 'd, T> {
     ghost use Rattle.icu_cursor.specs.Cursors.{cursor_reading, cursor_gives};
     ghost use Rattle.icu_facts.specs.KeptFacts.{IsNumberDigit, char_elements};
-    ghost use Rattle.icu_cursor.specs.inner.Unread.{HasNothingReady};
+    ghost use Rattle.icu_cursor.specs.inner.Unread.{HasNothingReady, HasReadNothing};
     ghost use Rattle.icu_cursor.specs.inner.Standing.{Serves, StandsAnywhere, StandsBefore};
 
     /// Reads a text, by these tables.
@@ -49,12 +48,12 @@ impl<'c, 'd, T: CountedText> ElementCursor<'c, 'd, T> {
             tables,
             text,
             recent: LastCharacters::new(),
-            ready: ReadyElements::none(),
+            ready: ReadyElements::none(tables.reading()),
         }
     }
 
     /// The next element, or `None` after the last one. `LongPiece` where the characters that come next have to be read
-    /// together and give more than three elements: the elements to come stay the same then.
+    /// together and are more than 64: the elements to come stay the same then.
     #[inline]
     pub fn next(&mut self) -> Result<Option<CollationElement>, LongPiece>
         ensures next { IfOk result (λ next. cursor_gives T.text self.old
@@ -63,14 +62,23 @@ impl<'c, 'd, T: CountedText> ElementCursor<'c, 'd, T> {
         ensures stays { OnErr result (cursor_gives T.text self.new
             ≡ cursor_gives T.text self.old) }
     {
-        let first = if self.ready.is_empty() {
+        match self.next_at_once() {
+            Some(element) => Ok(Some(element)),
+            None => self.read_next(),
+        }
+    }
+
+    /// The next element, where it stands ready or the next character is read by itself. `None` says nothing: the
+    /// elements to come stay the same then.
+    #[inline]
+    pub fn next_at_once(&mut self) -> Option<CollationElement>
+        ensures { cursor_gives T.text self.old
+            ≡ option_to_list result ++ cursor_gives T.text self.new }
+    {
+        if self.ready.is_empty() {
             self.take_lone()
         } else {
             self.take_ready()
-        };
-        match first {
-            Some(element) => Ok(Some(element)),
-            None => self.read_next(),
         }
     }
 
@@ -198,9 +206,9 @@ impl<'c, 'd, T: CountedText> ElementCursor<'c, 'd, T> {
         self.read_few(c, &few, rest)
     }
 
-    /// The next element, or `None` after the last one, of a text whose next character isn't read at once.
+    /// The next element, or `None` after the last one, as `next` returns it: where `next_at_once` had none.
     #[inline(never)]
-    pub(crate) fn read_next(&mut self) -> Result<Option<CollationElement>, LongPiece>
+    pub fn read_next(&mut self) -> Result<Option<CollationElement>, LongPiece>
         ensures next { IfOk result (λ next. cursor_gives T.text self.old
             ≡ option_to_list next ++ cursor_gives T.text self.new) }
         ensures end { IfOk result (λ next. next ≡ None → cursor_gives T.text self.old ≡ []) }
@@ -232,7 +240,7 @@ impl<'c, 'd, T: CountedText> ElementCursor<'c, 'd, T> {
         ensures next { IfOk result (λ first. cursor_gives T.text self.old
             ≡ option_to_list first ++ cursor_gives T.text self.new) }
         ensures shorter { OnOk result (length (T.text self.new.text) ≤ length (T.text rest)) }
-        ensures stays { OnErr result (self.new ≡ self.old) }
+        ensures stays { OnErr result (HasReadNothing T.text self.old self.new) }
     {
         let tables = self.tables;
         match tables.kept(c) {
@@ -251,7 +259,7 @@ impl<'c, 'd, T: CountedText> ElementCursor<'c, 'd, T> {
         ensures next { IfOk result (λ first. cursor_gives T.text self.old
             ≡ option_to_list first ++ cursor_gives T.text self.new) }
         ensures shorter { OnOk result (length (T.text self.new.text) ≤ length (T.text rest)) }
-        ensures stays { OnErr result (self.new ≡ self.old) }
+        ensures stays { OnErr result (HasReadNothing T.text self.old self.new) }
     {
         match self.tables.own_element(c) {
             Some(element) => {
@@ -272,7 +280,7 @@ impl<'c, 'd, T: CountedText> ElementCursor<'c, 'd, T> {
         ensures next { IfOk result (λ first. cursor_gives T.text self.old
             ≡ option_to_list first ++ cursor_gives T.text self.new) }
         ensures shorter { OnOk result (length (T.text self.new.text) ≤ length (T.text rest)) }
-        ensures stays { OnErr result (self.new ≡ self.old) }
+        ensures stays { OnErr result (HasReadNothing T.text self.old self.new) }
     {
         match self.tables.own_elements(c) {
             Some(few) => Ok(self.read_few(c, &few, rest)),
@@ -305,7 +313,7 @@ impl<'c, 'd, T: CountedText> ElementCursor<'c, 'd, T> {
         ensures next { IfOk result (λ first. cursor_gives T.text self.old
             ≡ option_to_list first ++ cursor_gives T.text self.new) }
         ensures shorter { OnOk result (length (T.text self.new.text) ≤ length (T.text rest)) }
-        ensures stays { OnErr result (self.new ≡ self.old) }
+        ensures stays { OnErr result (HasReadNothing T.text self.old self.new) }
     {
         match self.tables.syllable_elements(c) {
             Some(few) => Ok(self.read_few(c, &few, rest)),
@@ -322,7 +330,7 @@ impl<'c, 'd, T: CountedText> ElementCursor<'c, 'd, T> {
         ensures next { IfOk result (λ first. cursor_gives T.text self.old
             ≡ option_to_list first ++ cursor_gives T.text self.new) }
         ensures shorter { OnOk result (length (T.text self.new.text) ≤ length (T.text rest)) }
-        ensures stays { OnErr result (self.new ≡ self.old) }
+        ensures stays { OnErr result (HasReadNothing T.text self.old self.new) }
     {
         let facts = self.tables.other_facts(c);
         self.read_char(c, &facts, rest)
@@ -342,7 +350,7 @@ impl<'c, 'd, T: CountedText> ElementCursor<'c, 'd, T> {
         ensures next { IfOk result (λ first. cursor_gives T.text self.old
             ≡ option_to_list first ++ cursor_gives T.text self.new) }
         ensures shorter { OnOk result (length (T.text self.new.text) ≤ length (T.text rest)) }
-        ensures stays { OnErr result (self.new ≡ self.old) }
+        ensures stays { OnErr result (HasReadNothing T.text self.old self.new) }
     {
         if stands_before(self.tables, facts, rest) {
             return Ok(self.read_facts(c, facts, rest));
@@ -384,7 +392,7 @@ impl<'c, 'd, T: CountedText> ElementCursor<'c, 'd, T> {
         ensures next { IfOk result (λ first. cursor_gives T.text self.old
             ≡ option_to_list first ++ cursor_gives T.text self.new) }
         ensures shorter { OnOk result (length (T.text self.new.text) ≤ length (T.text rest)) }
-        ensures stays { OnErr result (self.new ≡ self.old) }
+        ensures stays { OnErr result (HasReadNothing T.text self.old self.new) }
     {
         let Some(lead) = self.tables.reading().numeric_primary else {
             return self.read_piece(c, rest);
@@ -396,7 +404,7 @@ impl<'c, 'd, T: CountedText> ElementCursor<'c, 'd, T> {
         Ok(self.ready.begin_number(&read.0))
     }
 
-    /// Reads the piece that a character begins, where it gives three elements at most. Out of line: a function clears
+    /// Reads the piece that a character begins, where it is short, and gives its first element. Out of line: a function clears
     /// its large locals each time that it is called, and a piece's reader is large.
     #[inline(never)]
     fn read_piece(&mut self, c: char, rest: T) -> Result<Option<CollationElement>, LongPiece>
@@ -405,15 +413,12 @@ impl<'c, 'd, T: CountedText> ElementCursor<'c, 'd, T> {
         ensures next { IfOk result (λ first. cursor_gives T.text self.old
             ≡ option_to_list first ++ cursor_gives T.text self.new) }
         ensures shorter { OnOk result (length (T.text self.new.text) ≤ length (T.text rest)) }
-        ensures stays { OnErr result (self.new ≡ self.old) }
+        ensures stays { OnErr result (HasReadNothing T.text self.old self.new) }
     {
-        let Some((piece, left)) = split_piece(self.tables, self.text) else {
-            return Err(LongPiece);
-        };
-        let Some(few) = few_of_piece(self.tables, self.recent, piece) else {
+        let Some(left) = self.ready.begin_piece(self.tables, self.recent, c, rest) else {
             return Err(LongPiece);
         };
         self.text = left;
-        Ok(self.ready.begin_few(&few))
+        Ok(self.take_ready())
     }
 }

@@ -18,6 +18,7 @@ impl FewDigits {
 
     /// One digit.
     #[tactic(auto, unfolding(crate::specs::inner::NumberElements::few_digits))]
+    #[inline(always)]
     pub(crate) fn new(digit: u8) -> FewDigits
         ensures { few_digits result ≡ digit ∷ [] }
     {

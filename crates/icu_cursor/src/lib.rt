@@ -8,11 +8,11 @@ pub mod cursor_tables;
 mod digit_run;
 pub mod facts_cursor;
 mod few_digits;
-mod few_given;
 pub mod first_chars;
 mod last_characters;
 mod piece;
 mod ready_elements;
+mod short_piece;
 mod stands;
 pub mod steady_cursor;
 

@@ -3,7 +3,7 @@
 ghost use Rattle.std.specs.Prelude.{◌≡◌, ◌<◌, ◌+◌, [], None, IfSome, drop, length};
 ghost use Rattle.unicode_normalization.specs.Forms.{nfd};
 ghost use Rattle.icu_elements.specs.TextElements.{elements_after};
-ghost use Rattle.icu_facts.specs.FewElements.{few_elements};
+ghost use Rattle.icu_decomposed_text.specs.MatchableTexts.{unread_text};
 ghost use Rattle.icu_steady_elements.specs.SteadyElements.{elements_left};
 ghost use Rattle.icu_cursor.specs.Cursors.{cursor_reading};
 ghost use Rattle.icu_cursor.specs.inner.FirstChars.{first_chars};
@@ -12,11 +12,9 @@ ghost use Rattle.icu_cursor.specs.inner.Places.{BeginsAtBoundary};
 ghost use Rattle.icu_cursor.specs.inner.ReadCharacters.{context_read};
 
 use crate::cursor_tables::CursorTables;
-use crate::few_given::few_of;
 use crate::first_chars::FirstChars;
 use crate::last_characters::LastCharacters;
-use icu_decomposed_text::CountedText;
-use icu_facts::FewElements;
+use icu_decomposed_text::{CountedText, MatchableText};
 use icu_steady_elements::SteadyElements;
 
 /// The text behind the first character of what is left, where the text may not be cut before that.
@@ -59,22 +57,9 @@ pub(crate) fn read_piece<'d, T: CountedText>(
     tables: &CursorTables<'d>,
     before: LastCharacters,
     piece: FirstChars<T>,
-) -> SteadyElements<'d, FirstChars<T>>
-    ensures { elements_left (first_chars T.text) result ≡ elements_after
+) -> SteadyElements<'d, MatchableText<FirstChars<T>>>
+    ensures { elements_left (unread_text (first_chars T.text)) result ≡ elements_after
         (cursor_reading tables.now) (context_read before) (nfd (first_chars T.text piece)) }
 {
-    SteadyElements::after(before.recent(), piece, tables.reading())
-}
-
-/// The elements of a piece that comes after these characters, or `None` where they are more than three.
-#[inline(never)]
-pub(crate) fn few_of_piece<T: CountedText>(
-    tables: &CursorTables<'_>,
-    before: LastCharacters,
-    piece: FirstChars<T>,
-) -> Option<FewElements>
-    ensures { IfSome result (λ few. few_elements few ≡ elements_after
-        (cursor_reading tables.now) (context_read before) (nfd (first_chars T.text piece))) }
-{
-    few_of(&mut read_piece(tables, before, piece))
+    SteadyElements::after(before.recent(), MatchableText::new(piece), tables.reading())
 }

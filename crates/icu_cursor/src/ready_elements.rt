@@ -1,56 +1,63 @@
 //! The elements that were read of a text and not given yet.
 
-ghost use Rattle.std.specs.Prelude.{◌≡◌, ◌++◌, [], None, false, IsTrue, map, option_to_list};
+ghost use Rattle.std.specs.Prelude.{◌≡◌, ◌≤◌, ◌∷◌, ◌++◌, [], None, false, IfSome, IsTrue, length, map, option_to_list};
 ghost use Rattle.icu_entries.specs.Elements.{of_primary};
 ghost use Rattle.icu_facts.specs.FewElements.{few_elements};
 ghost use Rattle.icu_facts.specs.KeptFacts.{char_elements};
+ghost use Rattle.icu_short_text.specs.ShortTexts.{short_unread};
+ghost use Rattle.icu_steady_elements.specs.SteadyElements.{elements_left};
 ghost use Rattle.icu_steady_numbers.specs.SteadyNumbers.{weights_left};
-ghost use Rattle.icu_cursor.specs.inner.Ready.{HasNoneLeft, elements_ready, number_ready};
+ghost use Rattle.icu_cursor.specs.inner.Pieces.{IsPieceBegun};
+ghost use Rattle.icu_cursor.specs.inner.ReadCharacters.{context_read};
+ghost use Rattle.icu_cursor.specs.inner.Ready.{HasNoneLeft, elements_ready};
 
 use crate::CharFacts;
 use crate::char_elements::CharElements;
+use crate::cursor_tables::CursorTables;
+use crate::last_characters::LastCharacters;
+use crate::short_piece::begin_short;
+use icu_elements::{RecentChars, TextReading};
+use icu_encodings::EncodedText;
 use icu_entries::CollationElement;
 use icu_facts::FewElements;
+use icu_short_text::ShortText;
+use icu_steady_elements::SteadyElements;
 use icu_steady_numbers::SteadyNumber;
 
-/// The elements that were read and not given yet: a few, or those of a number.
+/// The elements that were read and not given yet: a few of a character, or those of a short piece or of a number.
 #[derive(Debug, Clone, Copy)]
-pub(crate) struct ReadyElements {
+pub(crate) struct ReadyElements<'d> {
     pub(crate) few: CharElements,
-    pub(crate) number: Option<SteadyNumber>,
+    pub(crate) piece: SteadyElements<'d, ShortText>,
+    /// Whether the piece may have some left.
+    pub(crate) in_piece: bool,
     /// Whether some may be left. One flag, since it is asked before each element.
     pub(crate) may_be_left: bool,
-    ghost none_left: { may_be_left ≡ false → HasNoneLeft few number },
+    ghost no_piece: { in_piece ≡ false → elements_left short_unread piece ≡ [] },
+    ghost none_left: { may_be_left ≡ false → HasNoneLeft few piece },
 }
 
-/// The next element of a number. After its last one there is no number any more.
-fn next_of_number(number: &mut Option<SteadyNumber>) -> Option<CollationElement>
-    ensures next { number_ready number.old ≡ option_to_list result ++ number_ready number.new }
-    ensures end { result ≡ None → number_ready number.new ≡ [] }
+/// Gives the elements of a number next.
+fn give_number(piece: &mut SteadyElements<'_, ShortText>, number: &SteadyNumber)
+    ensures { elements_left short_unread piece.new ≡ map of_primary (weights_left number.now) }
 {
-    let Some(begun) = number else {
-        return None;
-    };
-    match begun.next() {
-        Some(weight) => Some(CollationElement::new_from_primary(weight)),
-        None => {
-            *number = None;
-            None
-        }
-    }
+    piece.place.text.clear();
+    piece.give_number(number);
 }
 
-impl ReadyElements {
+impl<'d> ReadyElements<'d> {
+    ghost use Rattle.icu_cursor.specs.Cursors.{cursor_reading};
     ghost use Rattle.icu_cursor.specs.inner.AllReady.{all_ready};
 
     /// None.
     #[inline(always)]
-    pub(crate) fn none() -> ReadyElements
+    pub(crate) fn none(reading: TextReading<'d>) -> ReadyElements<'d>
         ensures { all_ready result ≡ [] }
     {
         ReadyElements {
             few: CharElements::none(),
-            number: None,
+            piece: SteadyElements::after(RecentChars::new(), ShortText::new(), reading),
+            in_piece: false,
             may_be_left: false,
         }
     }
@@ -95,20 +102,51 @@ impl ReadyElements {
             ≡ option_to_list result ++ all_ready self.new }
     {
         self.may_be_left = true;
-        self.number = Some(*number);
-        self.take_of_number()
+        self.in_piece = true;
+        give_number(&mut self.piece, number);
+        self.take_of_piece()
     }
 
-    /// The next of the elements of a number, where no other is left.
+    /// Begins to give the elements of the piece that a character begins, after these characters, where none is left,
+    /// and returns the text from its end on. `None` where the piece isn't short.
     #[inline]
-    fn take_of_number(&mut self) -> Option<CollationElement>
+    pub(crate) fn begin_piece<T: EncodedText>(
+        &mut self,
+        tables: &CursorTables<'d>,
+        before: LastCharacters,
+        first: char,
+        text: T,
+    ) -> Option<T>
+        requires { all_ready self.old ≡ [] }
+        ensures begun { IfSome result (λ rest. IsPieceBegun (cursor_reading tables.now)
+            (context_read before) (first ∷ T.text text) (all_ready self.new) (T.text rest)) }
+        ensures rest { IfSome result (λ rest. length (T.text rest) ≤ length (T.text text)) }
+        ensures none { result ≡ None → all_ready self.new ≡ [] }
+    {
+        self.may_be_left = true;
+        self.in_piece = true;
+        match begin_short(tables, before, first, text, &mut self.piece) {
+            Some(rest) => Some(rest),
+            None => {
+                self.in_piece = false;
+                self.may_be_left = false;
+                None
+            }
+        }
+    }
+
+    /// The next of the elements of a piece or a number, where no other is left.
+    #[inline]
+    fn take_of_piece(&mut self) -> Option<CollationElement>
         requires { elements_ready self.old.few ≡ [] }
         ensures next { all_ready self.old ≡ option_to_list result ++ all_ready self.new }
         ensures end { result ≡ None → all_ready self.new ≡ [] }
     {
         self.may_be_left = true;
-        let next = next_of_number(&mut self.number);
-        self.may_be_left = next.is_some();
+        self.in_piece = true;
+        let next = self.piece.next();
+        self.in_piece = next.is_some();
+        self.may_be_left = self.in_piece;
         next
     }
 
@@ -123,10 +161,10 @@ impl ReadyElements {
         }
         match self.few.take_first() {
             Some(element) => {
-                self.may_be_left = self.number.is_some() || !self.few.is_empty();
+                self.may_be_left = self.in_piece || !self.few.is_empty();
                 Some(element)
             }
-            None => self.take_of_number(),
+            None => self.take_of_piece(),
         }
     }
 }

@@ -7,7 +7,7 @@ ghost use Rattle.icu_cursor.specs.SteadyCursors.{piece_gives};
 use crate::cursor::{ElementCursor, LongPiece};
 use crate::first_chars::FirstChars;
 use crate::piece::{read_piece, split_piece};
-use icu_decomposed_text::CountedText;
+use icu_decomposed_text::{CountedText, MatchableText};
 use icu_entries::CollationElement;
 use icu_steady_elements::SteadyElements;
 
@@ -19,7 +19,7 @@ where
     FirstChars<T>: CountedText,
 {
     pub(crate) plain: ElementCursor<'c, 'd, T>,
-    pub(crate) piece: Option<SteadyElements<'d, FirstChars<T>>>,
+    pub(crate) piece: Option<SteadyElements<'d, MatchableText<FirstChars<T>>>>,
 }
 
 impl<'c, 'd, T: CountedText> SteadyCursor<'c, 'd, T> {
@@ -27,19 +27,17 @@ impl<'c, 'd, T: CountedText> SteadyCursor<'c, 'd, T> {
     ghost use Rattle.icu_cursor.specs.inner.Unread.{HasNothingReady};
 
     /// All elements that a cursor still gives.
-    pub fn new(cursor: &ElementCursor<'c, 'd, T>) -> SteadyCursor<'c, 'd, T>
-        ensures { steady_gives T.text result ≡ cursor_gives T.text cursor.now }
+    pub fn new(cursor: ElementCursor<'c, 'd, T>) -> SteadyCursor<'c, 'd, T>
+        ensures { steady_gives T.text result ≡ cursor_gives T.text cursor.entry }
     {
-        let plain = ElementCursor {
-            tables: cursor.tables,
-            text: cursor.text,
-            recent: cursor.recent,
-            ready: cursor.ready,
-        };
-        SteadyCursor { plain, piece: None }
+        SteadyCursor {
+            plain: cursor,
+            piece: None,
+        }
     }
 
     /// The next element, or `None` after the last one.
+    #[inline(never)]
     pub fn next(&mut self) -> Option<CollationElement>
         ensures next { steady_gives T.text self.old
             ≡ option_to_list result ++ steady_gives T.text self.new }
@@ -81,7 +79,7 @@ impl<'c, 'd, T: CountedText> SteadyCursor<'c, 'd, T> {
 
 /// The next element of a piece. After its last one there is no piece any more.
 fn next_of_piece<T: CountedText>(
-    piece: &mut Option<SteadyElements<'_, FirstChars<T>>>,
+    piece: &mut Option<SteadyElements<'_, MatchableText<FirstChars<T>>>>,
 ) -> Option<CollationElement>
     ensures next { piece_gives T.text piece.old
         ≡ option_to_list result ++ piece_gives T.text piece.new }

@@ -1,17 +1,15 @@
 -- What a reader of elements still gives.
 use Rattle.std.specs.Prelude.{ℕ, List}
-use Rattle.icu_encodings.specs.declared.encoded_text.EncodedText.{Ghosts}
 use Rattle.icu_entries.specs.Elements.{Element}
 use Rattle.icu_elements.specs.LastChars.{recent_chars}
 use Rattle.icu_elements.specs.Reading.{reading_of}
-use Rattle.icu_decomposed_text.specs.MatchableTexts.{unread_text}
 use Rattle.icu_steady_elements.specs.declared.steady_elements.SteadyElements.{SteadyElements}
 use Rattle.icu_steady_elements.specs.inner.StepElements.{elements_to_give}
 
 -- the decomposed text that is left
-abbrev pub text_left : {T : Type 0} {encoded : Ghosts T} → (T → List ℕ) → SteadyElements T encoded → List ℕ
-text_left text s = unread_text text s.place.text
+abbrev pub text_left : {X : Type 0} → (X → List ℕ) → SteadyElements X → List ℕ
+text_left unread s = unread s.place.text
 
 -- the elements that it still gives: those of the step in hand, and those of the text that is left
-unfoldable pub elements_left : {T : Type 0} {encoded : Ghosts T} → (T → List ℕ) → SteadyElements T encoded → List Element
-elements_left text s = elements_to_give (reading_of s.reading) s.given (recent_chars s.place.recent) (text_left text s)
+unfoldable pub elements_left : {X : Type 0} → (X → List ℕ) → SteadyElements X → List Element
+elements_left unread s = elements_to_give (reading_of s.reading) s.given (recent_chars s.place.recent) (text_left unread s)

@@ -5,8 +5,9 @@ mod final_elements;
 mod number_digits;
 mod run_digits;
 pub mod steady_elements;
-mod steady_place;
+pub mod steady_place;
 mod steady_step;
 mod step_elements;
 
 pub use steady_elements::SteadyElements;
+pub use steady_place::SteadyPlace;

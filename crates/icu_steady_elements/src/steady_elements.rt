@@ -1,7 +1,8 @@
 //! The elements of a text, one by one.
 
-ghost use Rattle.std.specs.Prelude.{◌≡◌, ◌<◌, ◌++◌, [], None, false, IfSome, length, option_to_list, MatchBool};
-ghost use Rattle.unicode_normalization.specs.Forms.{nfd};
+ghost use Rattle.std.specs.Prelude.{◌≡◌, ◌<◌, ◌++◌, [], None, false, IfSome, length, map, option_to_list, MatchBool};
+ghost use Rattle.icu_entries.specs.Elements.{of_primary};
+ghost use Rattle.icu_steady_numbers.specs.SteadyNumbers.{weights_left};
 ghost use Rattle.icu_elements.specs.Reading.{reading_of};
 ghost use Rattle.icu_elements.specs.LastChars.{recent_chars};
 ghost use Rattle.icu_elements.specs.TextElements.{elements_after, elements_of};
@@ -11,53 +12,73 @@ use crate::run_digits::{read_number, take_digit};
 use crate::steady_place::SteadyPlace;
 use crate::steady_step::read_char;
 use crate::step_elements::StepElements;
-use icu_decomposed_text::{CountedText, MatchableText, TextForMatches};
+use icu_decomposed_text::TextForMatches;
 use icu_elements::{RecentChars, TextReading};
 use icu_entries::CollationElement;
+use icu_steady_numbers::SteadyNumber;
 
-/// Reads a text and gives its collation elements, one by one (UTS #10, "Produce Collation Element Arrays"). The text is
-/// decomposed while it is read. No call allocates or fails, and the state doesn't grow with the text.
+/// Reads a decomposed text and gives its collation elements, one by one (UTS #10, "Produce Collation Element Arrays"). No
+/// call allocates or fails, and the state doesn't grow with the text.
 #[derive(Debug, Clone, Copy)]
-pub struct SteadyElements<'d, T: CountedText> {
+pub struct SteadyElements<'d, X> {
     pub(crate) reading: TextReading<'d>,
-    pub(crate) place: SteadyPlace<MatchableText<T>>,
+    /// How far the text is read.
+    pub place: SteadyPlace<X>,
     pub(crate) given: StepElements<'d>,
 }
 
-impl<'d, T: CountedText> SteadyElements<'d, T> {
+impl<'d, X: TextForMatches> SteadyElements<'d, X> {
     ghost use Rattle.icu_steady_elements.specs.SteadyElements.{elements_left, text_left};
     ghost use Rattle.icu_steady_elements.specs.inner.StepElements.{given_left, IsBetweenSteps};
 
-    /// All elements of a text, in any encoding, decomposed or not.
-    pub fn new(text: T, reading: TextReading<'d>) -> SteadyElements<'d, T>
-        ensures { elements_left T.EncodedText.text result
-            ≡ elements_of (reading_of reading.entry) (nfd (T.EncodedText.text text)) }
+    /// All elements of a text.
+    pub fn new(text: X, reading: TextReading<'d>) -> SteadyElements<'d, X>
+        ensures { elements_left X.unread result
+            ≡ elements_of (reading_of reading.entry) (X.unread text) }
     {
         SteadyElements::after(RecentChars::new(), text, reading)
     }
 
     /// All elements of a text that stands after these characters, which prefixes look back at.
-    pub fn after(recent: RecentChars, text: T, reading: TextReading<'d>) -> SteadyElements<'d, T>
-        ensures { elements_left T.EncodedText.text result ≡ elements_after
-            (reading_of reading.entry) (recent_chars recent) (nfd (T.EncodedText.text text)) }
+    pub fn after(recent: RecentChars, text: X, reading: TextReading<'d>) -> SteadyElements<'d, X>
+        ensures { elements_left X.unread result ≡ elements_after
+            (reading_of reading.entry) (recent_chars recent) (X.unread text) }
     {
         SteadyElements {
             reading,
-            place: SteadyPlace {
-                recent,
-                text: MatchableText::new(text),
-            },
+            place: SteadyPlace { recent, text },
             given: StepElements::Final(FinalElements::Ended),
         }
     }
 
+    /// Begins to read the text that is left, after these characters, which prefixes look back at. What is left of the
+    /// last step is given no more.
+    #[inline]
+    pub fn restart(&mut self, recent: RecentChars, reading: TextReading<'d>)
+        ensures { elements_left X.unread self.new ≡ elements_after
+            (reading_of reading.entry) (recent_chars recent) (text_left X.unread self.old) }
+    {
+        self.reading = reading;
+        self.place.recent = recent;
+        self.given = StepElements::Final(FinalElements::Ended);
+    }
+
+    /// Gives the elements of a number, where no text is left. What is left of the last step is given no more.
+    #[inline]
+    pub fn give_number(&mut self, number: &SteadyNumber)
+        requires { text_left X.unread self.old ≡ [] }
+        ensures { elements_left X.unread self.new ≡ map of_primary (weights_left number.now) }
+    {
+        self.given = StepElements::Digit(*number);
+    }
+
     /// The next element, or `None` after the last one.
     pub fn next(&mut self) -> Option<CollationElement>
-        ensures next { elements_left T.EncodedText.text self.old
-            ≡ option_to_list result ++ elements_left T.EncodedText.text self.new }
-        ensures end { result ≡ None → elements_left T.EncodedText.text self.old ≡ [] }
-        ensures smaller { IfSome result (λ e. length (elements_left T.EncodedText.text self.new)
-            < length (elements_left T.EncodedText.text self.old)) }
+        ensures next { elements_left X.unread self.old
+            ≡ option_to_list result ++ elements_left X.unread self.new }
+        ensures end { result ≡ None → elements_left X.unread self.old ≡ [] }
+        ensures smaller { IfSome result (λ e. length (elements_left X.unread self.new)
+            < length (elements_left X.unread self.old)) }
     {
         'steps: loop {
             let next = self.given.next();
@@ -74,12 +95,12 @@ impl<'d, T: CountedText> SteadyElements<'d, T> {
     /// character was left.
     fn take_step(&mut self) -> bool
         requires { given_left self.old.given ≡ [] }
-        ensures elements { elements_left T.EncodedText.text self.new
-            ≡ elements_left T.EncodedText.text self.old }
+        ensures elements { elements_left X.unread self.new
+            ≡ elements_left X.unread self.old }
         ensures shorter { MatchBool result
-            (length (text_left T.EncodedText.text self.new)
-            < length (text_left T.EncodedText.text self.old))
-            (elements_left T.EncodedText.text self.old ≡ []) }
+            (length (text_left X.unread self.new)
+            < length (text_left X.unread self.old))
+            (elements_left X.unread self.old ≡ []) }
     {
         if self.take_number() {
             return true;
@@ -91,12 +112,12 @@ impl<'d, T: CountedText> SteadyElements<'d, T> {
     /// and returns `false`: no run is in hand then.
     fn take_number(&mut self) -> bool
         requires { given_left self.old.given ≡ [] }
-        ensures elements { elements_left T.EncodedText.text self.new
-            ≡ elements_left T.EncodedText.text self.old }
+        ensures elements { elements_left X.unread self.new
+            ≡ elements_left X.unread self.old }
         ensures shorter { MatchBool result
-            (length (text_left T.EncodedText.text self.new)
-            < length (text_left T.EncodedText.text self.old))
-            (text_left T.EncodedText.text self.new ≡ text_left T.EncodedText.text self.old) }
+            (length (text_left X.unread self.new)
+            < length (text_left X.unread self.old))
+            (text_left X.unread self.new ≡ text_left X.unread self.old) }
         ensures ended { result ≡ false → IsBetweenSteps self.new.given }
     {
         let Some(lead) = self.given.lead() else {
@@ -114,12 +135,12 @@ impl<'d, T: CountedText> SteadyElements<'d, T> {
     /// Takes the step at the next character. Returns whether one was left.
     fn take_char(&mut self) -> bool
         requires { IsBetweenSteps self.old.given }
-        ensures elements { elements_left T.EncodedText.text self.new
-            ≡ elements_left T.EncodedText.text self.old }
+        ensures elements { elements_left X.unread self.new
+            ≡ elements_left X.unread self.old }
         ensures shorter { MatchBool result
-            (length (text_left T.EncodedText.text self.new)
-            < length (text_left T.EncodedText.text self.old))
-            (elements_left T.EncodedText.text self.old ≡ []) }
+            (length (text_left X.unread self.new)
+            < length (text_left X.unread self.old))
+            (elements_left X.unread self.old ≡ []) }
     {
         let Some(c) = self.place.text.next() else {
             return false;

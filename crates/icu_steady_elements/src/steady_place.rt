@@ -7,9 +7,11 @@ use icu_elements::RecentChars;
 
 /// How far a text is read: the characters that were consumed last, and those that are still to be read.
 #[derive(Debug, Clone, Copy)]
-pub(crate) struct SteadyPlace<X> {
-    pub(crate) recent: RecentChars,
-    pub(crate) text: X,
+pub struct SteadyPlace<X> {
+    /// The characters that were consumed last.
+    pub recent: RecentChars,
+    /// What is still to be read.
+    pub text: X,
 }
 
 /// The next character of a text, which is still to be read.

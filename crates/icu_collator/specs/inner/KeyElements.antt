@@ -1,8 +1,9 @@
 -- The elements of a text that are still to come for its key.
-use Rattle.std.specs.Prelude.{ℕ, List, Some, None, map}
+use Rattle.std.specs.Prelude.{ℕ, List, [], Option, Some, None, map}
 use Rattle.icu_encodings.specs.declared.encoded_text.EncodedText.{Ghosts}
 use Rattle.icu_entries.specs.Elements.{Element}
 use Rattle.icu_cursor.specs.declared.first_chars.FirstChars.{FirstChars}
+use Rattle.icu_cursor.specs.declared.steady_cursor.SteadyCursor.{SteadyCursor}
 use Rattle.icu_cursor.specs.Cursors.{cursor_gives}
 use Rattle.icu_cursor.specs.SteadyCursors.{steady_gives}
 use Rattle.icu_weighting.specs.Handled.{HandledElement, stayed}
@@ -11,9 +12,14 @@ use Rattle.icu_collator.specs.declared.key_text.KeyElements.{KeyElements}
 use Rattle.icu_collator.specs.declared.key_text.HandledKeyText.{HandledKeyText}
 use Rattle.icu_collator.specs.declared.key_text.PlainKeyText.{PlainKeyText}
 
--- the elements that are still to come: those of the cursor that never stops, once there is one
+-- the elements of the cursor that never stops, where there is one
+abbrev pub steady_elements_left : {T : Type 0} {encoded : Ghosts (FirstChars T)} → (T → List ℕ) → Option (Box (SteadyCursor T encoded)) → List Element
+steady_elements_left text None = []
+steady_elements_left text (Some s) = steady_gives text s.value
+
+-- the elements that are still to come: those of the cursor that stops, or of the one that never does
 abbrev pub key_elements_left : {T : Type 0} {encoded : Ghosts (FirstChars T)} → (T → List ℕ) → KeyElements T encoded → List Element
-key_elements_left text k = elim k.steady [ None ↦ cursor_gives text k.cursor | Some s ↦ steady_gives text s.value ]
+key_elements_left text k = elim k.cursor [ None ↦ steady_elements_left text k.steady | Some c ↦ cursor_gives text c ]
 
 -- as variable weighting leaves them
 abbrev pub handled_for_key : {T : Type 0} {encoded : Ghosts (FirstChars T)} → (T → List ℕ) → HandledKeyText T encoded → List HandledElement

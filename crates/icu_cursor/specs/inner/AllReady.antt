@@ -1,9 +1,11 @@
 -- All elements that were read and not given yet.
 use Rattle.std.specs.Prelude.{List, ◌++◌}
 use Rattle.icu_entries.specs.Elements.{Element}
+use Rattle.icu_short_text.specs.ShortTexts.{short_unread}
+use Rattle.icu_steady_elements.specs.SteadyElements.{elements_left}
 use Rattle.icu_cursor.specs.declared.ready_elements.ReadyElements.{ReadyElements}
-use Rattle.icu_cursor.specs.inner.Ready.{elements_ready, number_ready}
+use Rattle.icu_cursor.specs.inner.Ready.{elements_ready}
 
--- those of a character, and those of a number
+-- those of a character, and those of a piece
 abbrev pub all_ready : ReadyElements → List Element
-all_ready r = elements_ready r.few ++ number_ready r.number
+all_ready r = elements_ready r.few ++ elements_left short_unread r.piece

@@ -1,12 +1,27 @@
-use Rattle.std.proofs.Common.{option_to_list}
-use Rattle.icu_facts.specs.FewElements.{few_elements}
+use Rattle.std.proofs.Common.{List, ◌++◌, refl, sym, ap, ◌∙◌}
+use Rattle.unicode_normalization.specs.Forms.{nfd}
+use Rattle.icu_entries.specs.Elements.{Element}
+use Rattle.icu_elements.specs.TextElements.{elements_after}
 use Rattle.icu_cursor.specs.Cursors.{cursor_reading, cursor_gives}
 use Rattle.icu_cursor.specs.inner.ReadCharacters.{context_read}
-use Rattle.icu_cursor.proofs.CursorLemmas.{piece_read}
+use Rattle.icu_cursor.proofs.CursorLemmas.{begun_first}
 use Rattle.icu_cursor.proofs.cursor.ElementCursor.read_piece.Goals as goal
+
+pub returns-in_default-clause-stays : goal.returns-in_default-clause-stays
+unfolding cursor_gives
+returns-in_default-clause-stays g c =
+    let cursor = c.args.self.now in
+    let unread = elements_after (cursor_reading cursor.tables.now) (context_read cursor.recent) (nfd (g.T.EncodedText.text cursor.text)) in
+    let nothing = c.in_default.ensures.none refl in
+    record {
+      gives = ap (λ (es : List Element). es ++ unread) (nothing ∙ sym c.requires.nothing);
+      nothing = nothing;
+      text_is = refl;
+    }
 
 pub returns-clause-next : goal.returns-clause-next
 unfolding cursor_gives
 returns-clause-next g c =
-    piece_read (cursor_reading c.args.self.now.tables.now) _ (context_read c.args.self.now.recent) c.requires.nothing (g.T.EncodedText.text c.args.self.now.text) _
-    (g.T.EncodedText.text c.in-Some.left) (few_elements c.in-Some-few_of_piece.few) (option_to_list c.begin_few.result) _ c.in-Some.ensures.piece c.in-Some-few_of_piece.ensures c.begin_few.ensures
+    let cursor = c.args.self.now in
+    begun_first (cursor_reading cursor.tables.now) _ (context_read cursor.recent) c.requires.nothing (g.T.EncodedText.text cursor.text) _ (g.T.EncodedText.text c.in-Some.left) _ c.requires.text c.in-Some.ensures.begun
+    ∙ c.take_ready.ensures.next

@@ -7,7 +7,8 @@ begin-first-requires c = (both_empty _ _ c.requires).0
 
 pub invariant_of-self : goal.invariant_of-self
 invariant_of-self c = record {
-  none_left = λ none. record { of_char = c.is_empty.ensures (flag_of_empty _ none); of_number = (both_empty _ _ c.requires).1 };
+  no_piece = c.args.self.now.no_piece;
+  none_left = λ none. record { of_char = c.is_empty.ensures (flag_of_empty _ none); of_piece = (both_empty _ _ c.requires).1 };
 }
 
 pub returns : goal.returns

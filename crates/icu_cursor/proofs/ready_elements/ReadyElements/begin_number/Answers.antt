@@ -1,12 +1,15 @@
-use Rattle.std.proofs.Common.{◌++◌, List, map, sym, ap, ◌∙◌}
-use Rattle.icu_entries.specs.Elements.{Element, of_primary}
-use Rattle.icu_steady_numbers.specs.SteadyNumbers.{weights_left}
+use Rattle.std.proofs.Common.{◌++◌, List, sym, ap, ◌∙◌}
+use Rattle.icu_entries.specs.Elements.{Element}
+use Rattle.icu_short_text.specs.ShortTexts.{short_unread}
+use Rattle.icu_steady_elements.specs.SteadyElements.{elements_left}
 use Rattle.icu_cursor.proofs.ReadyLemmas.{both_empty}
 use Rattle.icu_cursor.proofs.ready_elements.ReadyElements.begin_number.Goals as goal
 
-pub take_of_number-requires : goal.take_of_number-requires
-take_of_number-requires c = (both_empty _ _ c.requires).0
+pub take_of_piece-requires : goal.take_of_piece-requires
+take_of_piece-requires c = (both_empty _ _ c.requires).0
 
 pub returns : goal.returns
 returns c =
-    sym (ap (λ (es : List Element). es ++ map of_primary (weights_left c.args.number.now)) (both_empty _ _ c.requires).0) ∙ c.take_of_number.ensures.next
+    sym c.give_number.ensures
+    ∙ sym (ap (λ (es : List Element). es ++ elements_left short_unread c.give_number.new.piece) (both_empty _ _ c.requires).0)
+    ∙ c.take_of_piece.ensures.next

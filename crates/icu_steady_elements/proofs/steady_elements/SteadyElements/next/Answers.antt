@@ -9,7 +9,7 @@ pub returns-then-is_some-clause-next : goal.returns-then-is_some-clause-next
 unfolding elements_left
 returns-then-is_some-clause-next g c =
     sym c.steps.invariant
-    ∙ element_next (reading_of c.steps.self.reading) c.steps.self.given (recent_chars c.steps.self.place.recent) (text_left g.T.EncodedText.text c.steps.self)
+    ∙ element_next (reading_of c.steps.self.reading) c.steps.self.given (recent_chars c.steps.self.place.recent) (text_left g.X.TextForMatches.unread c.steps.self)
     c.next-next.result c.next-next.new.self c.next-next.ensures.next c.next-next.ensures.run
 
 pub returns-then-is_some-clause-smaller : goal.returns-then-is_some-clause-smaller
@@ -20,7 +20,7 @@ unfolding elements_left
 returns-then-not-take_step-clause-next g c =
     let none : c.next-next.result ≡ None = not_some c.next-next.result (search rules) in
     sym c.steps.invariant
-    ∙ none_next (reading_of c.steps.self.reading) c.steps.self.given (recent_chars c.steps.self.place.recent) (text_left g.T.EncodedText.text c.steps.self)
+    ∙ none_next (reading_of c.steps.self.reading) c.steps.self.given (recent_chars c.steps.self.place.recent) (text_left g.X.TextForMatches.unread c.steps.self)
     c.next-next.result c.next-next.new.self none c.next-next.ensures.next c.next-next.ensures.run
     ∙ sym c.take_step.ensures.elements
 
@@ -29,7 +29,7 @@ unfolding elements_left
 returns-then-not-take_step-clause-end g c = λ ended.
     let none : c.next-next.result ≡ None = not_some c.next-next.result (search rules) in
     sym c.steps.invariant
-    ∙ none_next (reading_of c.steps.self.reading) c.steps.self.given (recent_chars c.steps.self.place.recent) (text_left g.T.EncodedText.text c.steps.self)
+    ∙ none_next (reading_of c.steps.self.reading) c.steps.self.given (recent_chars c.steps.self.place.recent) (text_left g.X.TextForMatches.unread c.steps.self)
     c.next-next.result c.next-next.new.self none c.next-next.ensures.next c.next-next.ensures.run
     ∙ c.if-not-take_step.ensures.shorter
 
@@ -38,6 +38,6 @@ unfolding elements_left
 steps-preserved g c =
     let none : c.next-next.result ≡ None = not_some c.next-next.result (search rules) in
     c.take_step.ensures.elements
-    ∙ sym (none_next (reading_of c.steps.self.reading) c.steps.self.given (recent_chars c.steps.self.place.recent) (text_left g.T.EncodedText.text c.steps.self)
+    ∙ sym (none_next (reading_of c.steps.self.reading) c.steps.self.given (recent_chars c.steps.self.place.recent) (text_left g.X.TextForMatches.unread c.steps.self)
     c.next-next.result c.next-next.new.self none c.next-next.ensures.next c.next-next.ensures.run)
     ∙ c.steps.invariant

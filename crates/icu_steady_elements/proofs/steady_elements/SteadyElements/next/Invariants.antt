@@ -4,7 +4,7 @@ use Rattle.icu_steady_elements.proofs.steady_elements.SteadyElements.next.Given 
 
 -- nothing is lost
 abbrev pub invariant-steps : goal.invariant-steps
-invariant-steps g l = elements_left g.T.EncodedText.text l.self ≡ elements_left g.T.EncodedText.text l.fn.self
+invariant-steps g l = elements_left g.X.TextForMatches.unread l.self ≡ elements_left g.X.TextForMatches.unread l.fn.self
 
 abbrev pub decreases-steps : goal.decreases-steps
-decreases-steps g l = length (text_left g.T.EncodedText.text l.self)
+decreases-steps g l = length (text_left g.X.TextForMatches.unread l.self)

@@ -12,7 +12,7 @@ pub returns-in_default-take_digit-clause-elements : goal.returns-in_default-take
 unfolding elements_left
 returns-in_default-take_digit-clause-elements g c =
     let reading : Reading = reading_of c.args.self.now.reading in
-    let text : List ℕ = text_left g.T.EncodedText.text c.args.self.now in
+    let text : List ℕ = text_left g.X.TextForMatches.unread c.args.self.now in
     let lead_is : run_lead c.args.self.now.given ≡ Some c.in-Some.lead = search rules in
     let ended = c.in_default-take_digit.ensures in
     ap₂ (elements_after reading) ended.recent ended.unread
@@ -24,7 +24,7 @@ unfolding elements_left
 returns-clause-elements g c =
     let reading : Reading = reading_of c.args.self.now.reading in
     let before : List ℕ = recent_chars c.args.self.now.place.recent in
-    let text : List ℕ = text_left g.T.EncodedText.text c.args.self.now in
+    let text : List ℕ = text_left g.X.TextForMatches.unread c.args.self.now in
     let lead_is : run_lead c.args.self.now.given ≡ Some c.in-Some.lead = search rules in
     c.read_number-number.ensures.elements
     ∙ run_digit_read reading c.in-Some-take_digit.digit before text _ _ c.in-Some-take_digit.ensures c.in-Some.lead

@@ -1,0 +1,11 @@
+use Rattle.std.specs.Prelude.{◌≡◌, ◌≤◌, ◌+◌, ◌++◌, ◌∷◌, [], true, length, drop, take}
+use Rattle.std.specs.List.{insert, list_all}
+use Rattle.unicode_normalization.specs.Order.{is_ordered, is_reorderable, canonical_order}
+use Rattle.icu_short_text.specs.inner.Places.{IsPassed}
+use Rattle.icu_short_text.proofs.order_place.place.Given as goal
+
+abbrev pub invariant-back : goal.invariant-back
+invariant-back l = (l.at ≤ length l.out) × IsPassed (drop l.at l.out) l.c
+
+abbrev pub decreases-back : goal.decreases-back
+decreases-back l = l.at

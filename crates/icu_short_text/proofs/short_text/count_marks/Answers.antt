@@ -1,0 +1,11 @@
+use Rattle.std.proofs.Common.{◌≡◌, ◌+◌, ◌∙◌, [], ℕ, length, drop, sym, ap, arith}
+use Rattle.std.proofs.lemmas.List.{drop_all}
+use Rattle.icu_decomposed_text.specs.UnreadTexts.{marks_up_to}
+use Rattle.icu_short_text.proofs.short_text.count_marks.Goals as goal
+
+pub returns : goal.returns
+unfolding marks_up_to
+returns c =
+    let none : drop c.marks.count c.args.chars.now ≡ [] = drop_all c.marks.count c.args.chars.now (omega arith) in
+    let all = c.marks.invariant.1 ∙ ap (λ l. c.marks.count + length (marks_up_to c.args.class l)) none in
+    omega (arith, all)

@@ -1,0 +1,12 @@
+-- What is left of a short text.
+use Rattle.std.specs.Prelude.{ℕ, List}
+use Rattle.icu_short_text.specs.declared.short_text.ShortText.{ShortText}
+use Rattle.icu_short_text.specs.inner.Rooms.{chars_between}
+
+-- the characters that are still to be read
+unfoldable pub short_unread : ShortText → List ℕ
+short_unread t = chars_between t.next t.end t.room
+
+-- how many of them were passed over
+abbrev pub short_passed : ShortText → ℕ
+short_passed t = t.passed

@@ -1,0 +1,14 @@
+-- Where a character goes in a text in canonical order.
+use Rattle.std.specs.Prelude.{◌≡◌, ℕ, true, false, List, [], ◌∷◌}
+use Rattle.unicode_normalization.specs.Order.{is_reorderable}
+
+-- the character stays behind the last of these
+abbrev pub StaysBehind : List ℕ → ℕ → Type 0
+StaysBehind [] c = Unit {0}
+StaysBehind (a ∷ []) c = is_reorderable a c ≡ false
+StaysBehind (a ∷ b ∷ xs) c = StaysBehind (b ∷ xs) c
+
+-- the character goes before each of these
+abbrev pub IsPassed : List ℕ → ℕ → Type 0
+IsPassed [] c = Unit {0}
+IsPassed (a ∷ xs) c = (is_reorderable a c ≡ true) × IsPassed xs c
