@@ -74,7 +74,7 @@ impl<'c, 'd, T: CountedText> KeyElements<'c, 'd, T> {
         ensures end { IfOk result (λ next. next ≡ None → key_elements_left T.text self.old ≡ []) }
     {
         match &mut self.cursor {
-            Some(cursor) => match cursor.read_next() {
+            Some(cursor) => match cursor.next_read() {
                 Ok(next) => Ok(next),
                 Err(LongPiece) => self.go_on(),
             },

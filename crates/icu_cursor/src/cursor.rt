@@ -64,13 +64,13 @@ impl<'c, 'd, T: EncodedText> ElementCursor<'c, 'd, T> {
     {
         match self.next_at_once() {
             Some(element) => Ok(Some(element)),
-            None => self.read_next(),
+            None => self.next_read(),
         }
     }
 
     /// The next element, where it stands ready or the next character is read by itself. `None` says nothing: the
     /// elements to come stay the same then.
-    #[inline]
+    #[inline(always)]
     pub fn next_at_once(&mut self) -> Option<CollationElement>
         ensures { cursor_gives T.text self.old
             ≡ option_to_list result ++ cursor_gives T.text self.new }
@@ -206,9 +206,21 @@ impl<'c, 'd, T: EncodedText> ElementCursor<'c, 'd, T> {
         self.read_few(c, &few, rest)
     }
 
-    /// The next element, or `None` after the last one, as `next` returns it: where `next_at_once` had none.
+    /// The next element, or `None` after the last one, where `next_at_once` had none: `next` is the two in turn.
+    #[inline(always)]
+    pub fn next_read(&mut self) -> Result<Option<CollationElement>, LongPiece>
+        ensures next { IfOk result (λ next. cursor_gives T.text self.old
+            ≡ option_to_list next ++ cursor_gives T.text self.new) }
+        ensures end { IfOk result (λ next. next ≡ None → cursor_gives T.text self.old ≡ []) }
+        ensures stays { OnErr result (cursor_gives T.text self.new
+            ≡ cursor_gives T.text self.old) }
+    {
+        self.read_next()
+    }
+
+    /// The next element, or `None` after the last one, of a text whose next character isn't read at once.
     #[inline(never)]
-    pub fn read_next(&mut self) -> Result<Option<CollationElement>, LongPiece>
+    pub(crate) fn read_next(&mut self) -> Result<Option<CollationElement>, LongPiece>
         ensures next { IfOk result (λ next. cursor_gives T.text self.old
             ≡ option_to_list next ++ cursor_gives T.text self.new) }
         ensures end { IfOk result (λ next. next ≡ None → cursor_gives T.text self.old ≡ []) }

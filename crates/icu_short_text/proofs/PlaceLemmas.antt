@@ -1,9 +1,9 @@
 -- A character that comes last goes back to its place.
-use Rattle.std.proofs.Common.{◌≡◌, ℕ, zero, suc, ◌<◌, ◌≤◌, ◌+◌, ◌-◌, true, false, List, [], ◌∷◌, ◌++◌, length, take, drop, get_or, refl, sym, ap, subst, ◌∙◌, arith, inl, inr, append_assoc, append-nil}
+use Rattle.std.proofs.Common.{◌≡◌, ℕ, zero, suc, ◌<◌, ◌≤◌, ◌+◌, ◌-◌, true, false, List, [], ◌∷◌, ◌++◌, length, take, drop, get_or, refl, sym, ap, subst, ◌∙◌, arith, append_assoc}
 use Rattle.std.proofs.lemmas.List.{take-append-drop, take_more}
 use Rattle.std.specs.List.{insert}
 use Rattle.unicode_normalization.specs.Order.{is_reorderable, is_ordered, canonical_order}
-use Rattle.unicode_normalization.proofs.OrderLemmas.{is_reorderable-true, is_reorderable-false, not_reorderable_rising, canonical_order-exchange, is_ordered-parts, is_ordered-cons, is_ordered-one, canonical_order-ordered, canonical_order-front, is_ordered-canonical_order, length-canonical_order}
+use Rattle.unicode_normalization.proofs.OrderLemmas.{is_reorderable-true, not_reorderable_rising, canonical_order-exchange, is_ordered-parts, is_ordered-cons, is_ordered-one, canonical_order-ordered, canonical_order-front, is_ordered-canonical_order, length-canonical_order}
 use Rattle.std.specs.List.{flat_map}
 use Rattle.unicode_normalization.specs.Decompose.{decompose}
 use Rattle.unicode_normalization.specs.Forms.{Nfd, nfd, normalize, decomposed}
@@ -72,4 +72,3 @@ take_one_more init xs i d lt = append_assoc init (take i xs) (get_or xs i d ∷ 
 pub nfd_is : (cs : List ℕ) → canonical_order (flat_map (decompose Nfd) cs) ≡ nfd cs
 unfolding normalize decomposed
 nfd_is cs = refl
-

@@ -96,8 +96,13 @@ impl ShortText {
         if self.end >= ROOM {
             return false;
         }
-        let place = place(self.as_slice(), c);
+        let before = self.as_slice();
+        let place = place(before, c);
+        let comes_last = place >= before.len();
         self.append(c);
+        if comes_last {
+            return true;
+        }
         self.move_last(place);
         true
     }

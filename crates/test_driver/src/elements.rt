@@ -88,7 +88,7 @@ fn by_cursor<T: CountedText>(
     let mut cursor = ElementCursor::new(&tables, text);
     let mut read = Vec::new(alloc);
     read_cursor(&mut cursor, &mut read)?;
-    let mut rest = SteadyCursor::new(&cursor);
+    let mut rest = SteadyCursor::new(cursor);
     for _ in 0..u64::MAX {
         match rest.next() {
             Some(element) => read.push(element)?,

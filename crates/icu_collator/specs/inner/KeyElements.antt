@@ -1,5 +1,5 @@
 -- The elements of a text that are still to come for its key.
-use Rattle.std.specs.Prelude.{ℕ, List, [], Option, Some, None, map}
+use Rattle.std.specs.Prelude.{ℕ, List, [], Option, Box, Some, None, map}
 use Rattle.icu_encodings.specs.declared.encoded_text.EncodedText.{Ghosts}
 use Rattle.icu_entries.specs.Elements.{Element}
 use Rattle.icu_cursor.specs.declared.first_chars.FirstChars.{FirstChars}
@@ -13,7 +13,7 @@ use Rattle.icu_collator.specs.declared.key_text.HandledKeyText.{HandledKeyText}
 use Rattle.icu_collator.specs.declared.key_text.PlainKeyText.{PlainKeyText}
 
 -- the elements of the cursor that never stops, where there is one
-abbrev pub steady_elements_left : {T : Type 0} {encoded : Ghosts (FirstChars T)} → (T → List ℕ) → Option (Box (SteadyCursor T encoded)) → List Element
+abbrev pub steady_elements_left : {T Z : Type 0} {encoded : Ghosts (FirstChars T)} → (T → List ℕ) → Option (Box (SteadyCursor T encoded) Z) → List Element
 steady_elements_left text None = []
 steady_elements_left text (Some s) = steady_gives text s.value
 

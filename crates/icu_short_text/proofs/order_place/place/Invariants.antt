@@ -1,6 +1,4 @@
-use Rattle.std.specs.Prelude.{◌≡◌, ◌≤◌, ◌+◌, ◌++◌, ◌∷◌, [], true, length, drop, take}
-use Rattle.std.specs.List.{insert, list_all}
-use Rattle.unicode_normalization.specs.Order.{is_ordered, is_reorderable, canonical_order}
+use Rattle.std.specs.Prelude.{◌≤◌, length, drop}
 use Rattle.icu_short_text.specs.inner.Places.{IsPassed}
 use Rattle.icu_short_text.proofs.order_place.place.Given as goal
 

@@ -1,4 +1,4 @@
-use Rattle.std.proofs.Common.{◌≡◌, ◌++◌, ◌∷◌, [], take, ◌∙◌, sym, ap, append-nil, rules}
+use Rattle.std.proofs.Common.{◌++◌, ◌∷◌, [], take, ◌∙◌, sym, ap, append-nil, rules}
 use Rattle.unicode_normalization.specs.Order.{canonical_order}
 use Rattle.unicode_normalization.proofs.OrderLemmas.{canonical_order-ordered}
 use Rattle.icu_short_text.specs.ShortTexts.{short_unread}
