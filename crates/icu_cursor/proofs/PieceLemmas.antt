@@ -82,6 +82,6 @@ pub piece_elements : (reading : Reading) (before text done rest : List ℕ) (es 
     → IsPieceBegun reading before text es rest
 piece_elements reading before text done rest es h given = record { piece = h.piece; is = h.is; elements = given ∙ ap (elements_after reading before) h.value }
 
--- the same after elements of which none is left
+-- a piece is begun where no elements stand before it
 pub begun_alone : (reading : Reading) (before text rest : List ℕ) (few es : List Element) → few ≡ [] → IsPieceBegun reading before text es rest → IsPieceBegun reading before text (few ++ es) rest
 begun_alone reading before text rest few es none h = record { piece = h.piece; is = h.is; elements = ap (λ (fs : List Element). fs ++ es) none ∙ h.elements }

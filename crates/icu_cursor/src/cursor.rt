@@ -22,8 +22,8 @@ pub struct LongPiece;
 
 /// Reads an encoded text and gives its collation elements, one by one (UTS #10, "Produce Collation Element Arrays"). A
 /// character that gives the same elements wherever it stands is read from what is kept of it; any other with what
-/// follows it up to the next character before which the text may be cut. It never allocates: where such a piece has more
-/// than 64 characters once it is decomposed, it stops.
+/// follows it up to the next character before which the text may be cut. It never allocates: where such a piece has
+/// more than 64 characters once it is decomposed, it stops.
 #[derive(Debug, Clone, Copy)]
 pub struct ElementCursor<'c, 'd, T> {
     pub(crate) tables: &'c CursorTables<'d>,
@@ -416,8 +416,8 @@ impl<'c, 'd, T: EncodedText> ElementCursor<'c, 'd, T> {
         Ok(self.ready.begin_number(&read.0))
     }
 
-    /// Reads the piece that a character begins, where it is short, and gives its first element. Out of line: a function clears
-    /// its large locals each time that it is called, and a piece's reader is large.
+    /// Reads the piece that a character begins, where it is short, and gives its first element. Out of line: pieces are
+    /// rare.
     #[inline(never)]
     fn read_piece(&mut self, c: char, rest: T) -> Result<Option<CollationElement>, LongPiece>
         requires nothing { HasNothingReady self.old }

@@ -1,2 +1,2 @@
-pub mod PlaceLemmas
-pub mod RoomLemmas
+pub mod OrderPlaceLemmas
+pub mod CharRoomLemmas

@@ -1,7 +1,7 @@
 -- What is left of a short text.
 use Rattle.std.specs.Prelude.{ℕ, List}
 use Rattle.icu_short_text.specs.declared.short_text.ShortText.{ShortText}
-use Rattle.icu_short_text.specs.inner.Rooms.{chars_between}
+use Rattle.icu_short_text.specs.inner.CharRooms.{chars_between}
 
 -- the characters that are still to be read
 unfoldable pub short_unread : ShortText → List ℕ

@@ -1,3 +1,3 @@
 -- Words that only private contracts and proofs use.
-pub mod Places
-pub mod Rooms
+pub mod OrderPlaces
+pub mod CharRooms

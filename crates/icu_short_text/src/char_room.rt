@@ -2,7 +2,7 @@
 
 ghost use Rattle.std.specs.Prelude.{◌≡◌, ◌<◌, ◌≤◌, ◌+◌, ◌++◌, ◌∷◌, [], ℕ, List, length, take, drop};
 ghost use Rattle.std.specs.List.{insert};
-ghost use Rattle.icu_short_text.specs.inner.Rooms.{chars_between};
+ghost use Rattle.icu_short_text.specs.inner.CharRooms.{chars_between};
 
 /// Moves the last character to this place.
 fn move_last(chars: &mut [char], at: usize)

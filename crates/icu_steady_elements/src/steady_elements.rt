@@ -17,8 +17,8 @@ use icu_elements::{RecentChars, TextReading};
 use icu_entries::CollationElement;
 use icu_steady_numbers::SteadyNumber;
 
-/// Reads a decomposed text and gives its collation elements, one by one (UTS #10, "Produce Collation Element Arrays"). No
-/// call allocates or fails, and the state doesn't grow with the text.
+/// Reads a decomposed text and gives its collation elements, one by one (UTS #10, "Produce Collation Element Arrays").
+/// No call allocates or fails, and the state doesn't grow with the text.
 #[derive(Debug, Clone, Copy)]
 pub struct SteadyElements<'d, X> {
     pub(crate) reading: TextReading<'d>,

@@ -1,6 +1,6 @@
 use Rattle.std.proofs.Common.{◌∙◌, sym, ap}
 use Rattle.unicode_normalization.specs.Order.{is_reorderable}
-use Rattle.icu_short_text.proofs.PlaceLemmas.{placed_inside, placed_first}
+use Rattle.icu_short_text.proofs.OrderPlaceLemmas.{placed_inside, placed_first}
 use Rattle.icu_short_text.proofs.order_place.place.Goals as goal
 
 pub returns-then-not-is_reorderable-clause-place :

@@ -1,6 +1,6 @@
 use Rattle.std.proofs.Common.{◌∙◌, rules}
 use Rattle.std.proofs.lemmas.Slice.{between_is}
-use Rattle.icu_short_text.proofs.RoomLemmas.{all_written}
+use Rattle.icu_short_text.proofs.CharRoomLemmas.{all_written}
 use Rattle.icu_short_text.proofs.char_room.CharRoom.move_last.Goals as goal
 
 pub returns : goal.returns

@@ -1,6 +1,6 @@
 use Rattle.std.proofs.Common.{◌++◌, take, drop, ◌+◌, ◌∙◌, ap, rules}
 use Rattle.std.proofs.lemmas.Slice.{between_is}
-use Rattle.icu_short_text.proofs.RoomLemmas.{part_written}
+use Rattle.icu_short_text.proofs.CharRoomLemmas.{part_written}
 use Rattle.icu_short_text.proofs.char_room.CharRoom.move_to_front.Goals as goal
 
 pub returns : goal.returns

@@ -2,7 +2,7 @@ use Rattle.std.proofs.Common.{◌++◌, ◌∷◌, [], take, ◌∙◌, sym, ap,
 use Rattle.unicode_normalization.specs.Order.{canonical_order}
 use Rattle.unicode_normalization.proofs.OrderLemmas.{canonical_order-ordered}
 use Rattle.icu_short_text.specs.ShortTexts.{short_unread}
-use Rattle.icu_short_text.proofs.PlaceLemmas.{in_order, put_more, take_one_more}
+use Rattle.icu_short_text.proofs.OrderPlaceLemmas.{in_order, put_more, take_one_more}
 use Rattle.icu_short_text.proofs.short_text.ShortText.push.Goals as goal
 
 pub loop-part-init : goal.loop-part-init

@@ -9,6 +9,6 @@ StaysBehind (a ∷ []) c = is_reorderable a c ≡ false
 StaysBehind (a ∷ b ∷ xs) c = StaysBehind (b ∷ xs) c
 
 -- the character goes before each of these
-abbrev pub IsPassed : List ℕ → ℕ → Type 0
-IsPassed [] c = Unit {0}
-IsPassed (a ∷ xs) c = (is_reorderable a c ≡ true) × IsPassed xs c
+abbrev pub GoesBefore : List ℕ → ℕ → Type 0
+GoesBefore [] c = Unit {0}
+GoesBefore (a ∷ xs) c = (is_reorderable a c ≡ true) × GoesBefore xs c

@@ -7,10 +7,10 @@ use Rattle.unicode_normalization.proofs.OrderLemmas.{is_reorderable-true, not_re
 use Rattle.std.specs.List.{flat_map}
 use Rattle.unicode_normalization.specs.Decompose.{decompose}
 use Rattle.unicode_normalization.specs.Forms.{Nfd, nfd, normalize, decomposed}
-use Rattle.icu_short_text.specs.inner.Places.{StaysBehind, IsPassed}
+use Rattle.icu_short_text.specs.inner.OrderPlaces.{StaysBehind, GoesBefore}
 
 -- it passes those behind its place
-pub passes_back : (xs ys : List ℕ) (c : ℕ) → IsPassed ys c → canonical_order (xs ++ (ys ++ c ∷ [])) ≡ canonical_order (xs ++ c ∷ ys)
+pub passes_back : (xs ys : List ℕ) (c : ℕ) → GoesBefore ys c → canonical_order (xs ++ (ys ++ c ∷ [])) ≡ canonical_order (xs ++ c ∷ ys)
 passes_back xs [] c h = refl
 passes_back xs (y ∷ ys) c h =
     ap canonical_order (sym (append_assoc xs (y ∷ []) (ys ++ c ∷ [])))
@@ -18,11 +18,11 @@ passes_back xs (y ∷ ys) c h =
     ∙ ap canonical_order (append_assoc xs (y ∷ []) (c ∷ ys))
     ∙ canonical_order-exchange xs y c ys h.0
 
-behind : (ys : List ℕ) (c : ℕ) → IsPassed ys c → is_ordered ys ≡ true → is_ordered (c ∷ ys) ≡ true
+behind : (ys : List ℕ) (c : ℕ) → GoesBefore ys c → is_ordered ys ≡ true → is_ordered (c ∷ ys) ≡ true
 behind [] c h ordered = is_ordered-one c
 behind (y ∷ ys) c h ordered = is_ordered-cons c y ys (let classes = is_reorderable-true y c h.0 in not_reorderable_rising c y (omega arith)) ordered
 
-stays_ordered : (xs ys : List ℕ) (c : ℕ) → StaysBehind xs c → IsPassed ys c → is_ordered (xs ++ ys) ≡ true → is_ordered (xs ++ c ∷ ys) ≡ true
+stays_ordered : (xs ys : List ℕ) (c : ℕ) → StaysBehind xs c → GoesBefore ys c → is_ordered (xs ++ ys) ≡ true → is_ordered (xs ++ c ∷ ys) ≡ true
 stays_ordered [] ys c stays passed ordered = behind ys c passed ordered
 stays_ordered (a ∷ []) [] c stays passed ordered = is_ordered-cons a c [] stays (is_ordered-one c)
 stays_ordered (a ∷ []) (y ∷ ys) c stays passed ordered = is_ordered-cons a c (y ∷ ys) stays (behind (y ∷ ys) c passed (is_ordered-parts a y ys ordered).1)
@@ -30,7 +30,7 @@ stays_ordered (a ∷ b ∷ xs) ys c stays passed ordered =
     let parts = is_ordered-parts a b (xs ++ ys) ordered in
     is_ordered-cons a b (xs ++ c ∷ ys) parts.0 (stays_ordered (b ∷ xs) ys c stays passed parts.1)
 
-pub placed_parts : (xs ys : List ℕ) (c : ℕ) → StaysBehind xs c → IsPassed ys c → is_ordered (xs ++ ys) ≡ true → canonical_order (xs ++ (ys ++ c ∷ [])) ≡ xs ++ c ∷ ys
+pub placed_parts : (xs ys : List ℕ) (c : ℕ) → StaysBehind xs c → GoesBefore ys c → is_ordered (xs ++ ys) ≡ true → canonical_order (xs ++ (ys ++ c ∷ [])) ≡ xs ++ c ∷ ys
 placed_parts xs ys c stays passed ordered = passes_back xs ys c passed ∙ canonical_order-ordered (xs ++ c ∷ ys) (stays_ordered xs ys c stays passed ordered)
 
 stops_at : (xs : List ℕ) (j c d : ℕ) → j < length xs → is_reorderable (get_or xs j d) c ≡ false → StaysBehind (take (suc j) xs) c
@@ -39,19 +39,19 @@ stops_at (a ∷ xs) zero c d lt h = h
 stops_at (a ∷ []) (suc j) c d lt h = absurd (omega arith)
 stops_at (a ∷ b ∷ xs) (suc j) c d lt h = stops_at (b ∷ xs) j c d (omega arith) h
 
-placed : (xs : List ℕ) (at c : ℕ) → StaysBehind (take at xs) c → IsPassed (drop at xs) c → is_ordered xs ≡ true → canonical_order (xs ++ c ∷ []) ≡ insert xs at c
+placed : (xs : List ℕ) (at c : ℕ) → StaysBehind (take at xs) c → GoesBefore (drop at xs) c → is_ordered xs ≡ true → canonical_order (xs ++ c ∷ []) ≡ insert xs at c
 placed xs at c stays passed ordered =
     let parts = take-append-drop at xs in
     ap (λ l. canonical_order (l ++ c ∷ [])) (sym parts)
     ∙ ap canonical_order (append_assoc (take at xs) (drop at xs) (c ∷ []))
     ∙ placed_parts (take at xs) (drop at xs) c stays passed (ap is_ordered parts ∙ ordered)
 
-pub placed_inside : (xs : List ℕ) (at c d : ℕ) → 0 < at → at ≤ length xs → is_reorderable (get_or xs (at - 1) d) c ≡ false → IsPassed (drop at xs) c → is_ordered xs ≡ true → canonical_order (xs ++ c ∷ []) ≡ insert xs at c
+pub placed_inside : (xs : List ℕ) (at c d : ℕ) → 0 < at → at ≤ length xs → is_reorderable (get_or xs (at - 1) d) c ≡ false → GoesBefore (drop at xs) c → is_ordered xs ≡ true → canonical_order (xs ++ c ∷ []) ≡ insert xs at c
 placed_inside xs at c d some inside stops passed ordered =
     let e : suc (at - 1) ≡ at = omega arith in
     placed xs at c (subst (λ n. StaysBehind (take n xs) c) e (stops_at xs (at - 1) c d (omega arith) stops)) passed ordered
 
-pub placed_first : (xs : List ℕ) (at c : ℕ) → at ≤ 0 → IsPassed (drop at xs) c → is_ordered xs ≡ true → canonical_order (xs ++ c ∷ []) ≡ insert xs at c
+pub placed_first : (xs : List ℕ) (at c : ℕ) → at ≤ 0 → GoesBefore (drop at xs) c → is_ordered xs ≡ true → canonical_order (xs ++ c ∷ []) ≡ insert xs at c
 placed_first xs at c none passed ordered =
     let e : 0 ≡ at = omega arith in
     placed xs at c (subst (λ n. StaysBehind (take n xs) c) e tt) passed ordered
