@@ -1,0 +1,4 @@
+pub mod BeginningLemmas
+pub mod AboveLemmas
+pub mod PlaceLemmas
+pub mod StepwiseBeginnings
