@@ -23,6 +23,10 @@ prefix_of key = gathered 8 0 key
 abbrev pub AreBytes : List ℕ → Type 0
 AreBytes xs = AllByRecursion (λ b. b < 256) xs
 
+-- each key is bytes
+abbrev pub HaveByteKeys : List (List ℕ × List ℕ) → Type 0
+HaveByteKeys xs = AllByRecursion (λ x. AreBytes x.0) xs
+
 -- the key of an entry
 abbrev pub key_in : List ℕ → Entry → List ℕ
 key_in bytes e = buffer_part bytes e.start e.middle
