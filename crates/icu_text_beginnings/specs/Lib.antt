@@ -1,0 +1,3 @@
+pub use Rattle.icu_beginnings.specs.Beginnings
+pub mod TextBeginnings
+pub mod TextBeginningLaws
