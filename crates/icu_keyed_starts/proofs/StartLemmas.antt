@@ -1,9 +1,8 @@
 -- Starts whose keys ascend.
-use Rattle.std.proofs.Common.{◌≡◌, ℕ, zero, suc, ◌<◌, ◌≤◌, Bool, true, false, List, [], ◌∷◌, Option, Some, None, filter, if◌then◌else◌, length, map, take, refl, sym, ap, ◌∙◌, subst, arith}
+use Rattle.std.proofs.Common.{◌≡◌, ℕ, zero, suc, ◌<◌, ◌≤◌, Bool, true, false, List, [], ◌∷◌, filter, get_or, if◌then◌else◌, length, map, refl, sym, ap, ◌∙◌, subst, arith}
 use Rattle.std.proofs.lemmas.Cmp.{nat_list_cmp_total}
 use Rattle.std.proofs.lemmas.List.{length-map, length-take-le}
 use Rattle.std.specs.List.{AllByRecursion, insert}
-use Rattle.std.specs.Prelude.{slice_get}
 use Rattle.std.specs.List.Sorted.{IsPartitionPoint}
 use Rattle.std.specs.Ordering.{is_eq, is_le, is_lt, ordering_reverse}
 use Rattle.std.specs.declared.cmp.Ordering.{Ordering}
@@ -115,15 +114,15 @@ module _ (s : KeyedStart) where
       ∙ ap (λ xs. start_of x ∷ xs) (put_in new is ss i (one_later s.0 x ss i h) (omega arith) free)
 
 -- the start at an index ties, or there is none
-pub ties_got : (key : List ℕ) (ss : List Start) (i : ℕ) (t : Start) → slice_get ss i ≡ Some t → ties_at key ss i ≡ is_eq (key_order key t)
-ties_got key [] i t e = absurd (cc)
-ties_got key (s ∷ ss) zero t e = let same : s ≡ t = cc in ap (λ x. is_eq (key_order key x)) same
-ties_got key (s ∷ ss) (suc i) t e = ties_got key ss i t e
+pub ties_got : (key : List ℕ) (ss : List Start) (i : ℕ) (t : Start) → i < length ss → t ≡ get_or ss i t → ties_at key ss i ≡ is_eq (key_order key t)
+ties_got key [] i t low is = absurd (omega arith)
+ties_got key (s ∷ ss) zero t low is = ap (λ x. is_eq (key_order key x)) (sym is)
+ties_got key (s ∷ ss) (suc i) t low is = ties_got key ss i t (omega arith) is
 
-pub ties_none : (key : List ℕ) (ss : List Start) (i : ℕ) → slice_get ss i ≡ None → ties_at key ss i ≡ false
-ties_none key [] i e = refl
-ties_none key (s ∷ ss) zero e = absurd (cc)
-ties_none key (s ∷ ss) (suc i) e = ties_none key ss i e
+pub ties_none : (key : List ℕ) (ss : List Start) (i : ℕ) → length ss ≤ i → ties_at key ss i ≡ false
+ties_none key [] i past = refl
+ties_none key (s ∷ ss) zero past = absurd (omega arith)
+ties_none key (s ∷ ss) (suc i) past = ties_none key ss i (omega arith)
 
 -- ---- keys still ascend
 

@@ -1,5 +1,4 @@
 use Rattle.std.proofs.Common.{◌≡◌, ◌∙◌, false, true, ap, map, refl, subst, sym}
-use Rattle.std.specs.List.{insert}
 use Rattle.std.specs.Prelude.{is_ok}
 use Rattle.icu_keyed_starts.proofs.StartLemmas.{IsPlace, ascend_after, put_in, stays_out}
 use Rattle.icu_keyed_starts.specs.KeyOrders.{ties_at}

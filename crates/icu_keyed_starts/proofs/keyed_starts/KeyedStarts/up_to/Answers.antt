@@ -1,4 +1,4 @@
-use Rattle.std.proofs.Common.{◌≤◌, ◌∙◌, ap, length, map, rules, subst, sym}
+use Rattle.std.proofs.Common.{◌∙◌, ap, map, rules, subst, sym}
 use Rattle.std.proofs.lemmas.List.Sorted.{IsPartitionPoint-from_clause}
 use Rattle.std.specs.Ordering.{is_le}
 use Rattle.icu_keyed_names.proofs.LeafPlaceLemmas.{parted_by}
