@@ -1,5 +1,5 @@
 -- Starts whose keys ascend.
-use Rattle.std.proofs.Common.{◌≡◌, ℕ, zero, suc, ◌<◌, ◌≤◌, Bool, true, false, List, [], ◌∷◌, filter, get_or, if◌then◌else◌, length, map, refl, sym, ap, ◌∙◌, subst, arith}
+use Rattle.std.proofs.Common.{◌≡◌, ℕ, zero, suc, ◌+◌, ◌||◌, drop, ◌<◌, ◌≤◌, Bool, true, false, List, [], ◌∷◌, filter, get_or, if◌then◌else◌, length, map, refl, sym, ap, ◌∙◌, subst, arith}
 use Rattle.std.proofs.lemmas.Cmp.{nat_list_cmp_total}
 use Rattle.std.proofs.lemmas.List.{length-map, length-take-le}
 use Rattle.std.specs.List.{AllByRecursion, insert}
@@ -14,7 +14,7 @@ use Rattle.icu_keyed_names.specs.inner.Leaves.{IsParted}
 use Rattle.icu_levels.specs.ListOrder.{list_order}
 use Rattle.icu_levels.proofs.Order.{tied_lists}
 use Rattle.icu_keyed_starts.specs.KeyOrders.{Ascend, key_order, keys_of, ties_at}
-use Rattle.icu_keyed_starts.specs.Starts.{KeyedStart, placed_by, placed_start, start_of, starts_up_to}
+use Rattle.icu_keyed_starts.specs.Starts.{KeyedStart, has_label, placed_by, placed_start, start_of, starts_up_to}
 use Rattle.icu_keyed_starts.specs.declared.starts.Start.{Start}
 
 -- ---- of keys that ascend, those below another come first
@@ -156,3 +156,21 @@ pub ascend_after : (b : Bool) (new : Start) (ss after : List Start) (i : ℕ) �
     → ties_at new.key.items ss i ≡ false → Ascend (keys_of ss) → Ascend (keys_of after)
 ascend_after true new ss after i is h low free a = subst (λ xs. Ascend (keys_of xs)) (sym is) (ascend_put (start_of new) new refl ss i h low free a)
 ascend_after false new ss after i is h low free a = subst (λ xs. Ascend (keys_of xs)) (sym is) a
+
+-- ---- labels
+
+pub label_here : (ss : List Start) (i : ℕ) (t : Start) → i < length ss → t ≡ get_or ss i t
+    → has_label (drop i (map start_of ss)) ≡ (t.is_label || has_label (drop (i + 1) (map start_of ss)))
+label_here [] i t low is = absurd (omega arith)
+label_here (s ∷ ss) zero t low is = ap (λ (x : Start). x.is_label || has_label (map start_of ss)) (sym is)
+label_here (s ∷ ss) (suc i) t low is =
+    label_here ss i t (omega arith) is ∙ ap (λ n. t.is_label || has_label (drop n (start_of s ∷ map start_of ss))) (next i)
+  where
+    next : (n : ℕ) → suc (n + 1) ≡ suc n + 1
+    next n = omega arith
+
+pub no_label : (ss : List Start) (i : ℕ) → length ss ≤ i → has_label (drop i (map start_of ss)) ≡ false
+no_label [] zero past = refl
+no_label [] (suc i) past = refl
+no_label (s ∷ ss) zero past = absurd (omega arith)
+no_label (s ∷ ss) (suc i) past = no_label ss i (omega arith)

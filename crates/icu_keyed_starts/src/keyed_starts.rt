@@ -1,6 +1,6 @@
 //! Starts in the order of their keys.
 
-ghost use Rattle.std.specs.Prelude.{◌≡◌, ◌≤◌, [], true, false, length, OnErr, OnOk, option_map, slice_get};
+ghost use Rattle.std.specs.Prelude.{◌≡◌, ◌≤◌, [], true, false, drop, length, OnErr, OnOk, option_map, slice_get};
 ghost use Rattle.std.specs.List.Sorted.{IsPartitionPoint};
 ghost use Rattle.std.specs.Ordering.{is_le, is_lt};
 ghost use Rattle.icu_keyed_starts.specs.KeyOrders.{Ascend, Ascend-prop, key_order, keys_of, ties_at};
@@ -17,7 +17,7 @@ pub struct KeyedStarts {
 }
 
 impl KeyedStarts {
-    ghost use Rattle.icu_keyed_starts.specs.Starts.{placed_start, start_of, starts_in, starts_up_to};
+    ghost use Rattle.icu_keyed_starts.specs.Starts.{has_label, placed_start, start_of, starts_in, starts_up_to};
 
     /// No starts. Does not allocate.
     pub fn new(alloc: Global) -> KeyedStarts
@@ -93,5 +93,19 @@ impl KeyedStarts {
         ensures { option_map (λ s. start_of s.now) result ≡ slice_get (starts_in self.now) index }
     {
         self.starts.get(index)
+    }
+
+    /// Whether one of the starts from an index on is a label.
+    pub fn has_label_from(&self, index: usize) -> bool
+        ensures { result ≡ has_label (drop index (starts_in self.now)) }
+    {
+        let mut at = index;
+        'looking: while at < self.starts.len() {
+            if self.starts[at].is_label {
+                return true;
+            }
+            at += 1;
+        }
+        false
     }
 }

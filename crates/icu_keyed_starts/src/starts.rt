@@ -5,14 +5,16 @@ ghost use Rattle.icu_keyed_starts.specs.KeyOrders.{key_order};
 
 use std::cmp::Ordering;
 
-/// Where a heading starts among keys, and its label. Without a label it is a limit: what comes from there on up to the
-/// next start has none.
+/// Where a heading starts among keys. A start that is no label is a limit: what comes from there on up to the next start
+/// has no label.
 #[derive(Debug, Drop)]
 pub struct Start {
     /// The least key under the heading.
     pub key: Vec<u8>,
-    /// The label, if it has one.
-    pub label: Option<Vec<u8>>,
+    /// The text that has this key.
+    pub name: Vec<u8>,
+    /// Whether the text is the heading's label.
+    pub is_label: bool,
 }
 
 impl Start {
