@@ -1,14 +1,14 @@
 -- What stands above all that begins with bytes.
-use Rattle.std.proofs.Common.{◌≡◌, ℕ, zero, suc, ◌+◌, ◌<◌, ◌≤◌, get_or, length, take, ◌&&◌, not, nat_lt, Bool, true, false, if◌then◌else◌, List, [], ◌∷◌, ◌++◌, Option, Some, None, refl, sym, ap, ap₂, ◌∙◌, inl, inr, ◌⊎◌, arith, Less, Equal, Greater}
-use Rattle.std.proofs.lemmas.Bool.{cases_order, cases_lt}
+use Rattle.std.proofs.Common.{◌≡◌, ℕ, zero, suc, ◌+◌, ◌<◌, ◌≤◌, get_or, length, take, ◌&&◌, not, nat_lt, Bool, true, false, if◌then◌else◌, List, [], ◌∷◌, ◌++◌, Option, Some, None, refl, sym, ap, ap₂, ◌∙◌, inl, inr, ◌⊎◌, arith, Greater}
+use Rattle.std.proofs.lemmas.Bool.{cases_order}
 use Rattle.std.proofs.lemmas.Bool.Decides.{nat_tests}
 use Rattle.std.specs.Ordering.{is_lt}
 use Rattle.std.specs.Prelude.{slice_set}
 use Rattle.icu_levels.specs.ListOrder.{list_order}
 use Rattle.icu_levels.proofs.Order.{alike_head, less_head, more_number}
-use Rattle.icu_beginnings.specs.Beginnings.{above, begins, is_below, raised, stands_between}
-use Rattle.icu_beginnings.specs.BeginningLaws.{AreBytes}
-use Rattle.icu_beginnings.proofs.BeginningLemmas.{begins_alike, begins_unlike}
+use Rattle.icu_beginnings.specs.KeyBeginnings.{least_above, begins, is_below, raised, stands_between}
+use Rattle.icu_beginnings.specs.KeyBeginnings.{AreBytes}
+use Rattle.icu_beginnings.proofs.ListBeginningLemmas.{begins_alike, begins_unlike}
 
 -- ---- the last byte
 
@@ -17,9 +17,9 @@ raised_last : (t : Bool) (x : ℕ) (one : List ℕ) (two : Option (List ℕ))
 raised_last true x one two = refl
 raised_last false x one two = refl
 
-pub above_last : (xs : List ℕ) (b : ℕ) → above (xs ++ b ∷ []) ≡ (if nat_lt b 255 then Some (xs ++ (b + 1) ∷ []) else above xs)
+pub above_last : (xs : List ℕ) (b : ℕ) → least_above (xs ++ b ∷ []) ≡ (if nat_lt b 255 then Some (xs ++ (b + 1) ∷ []) else least_above xs)
 above_last [] b = refl
-above_last (x ∷ xs) b = ap (raised x) (above_last xs b) ∙ raised_last (nat_lt b 255) x (xs ++ (b + 1) ∷ []) (above xs)
+above_last (x ∷ xs) b = ap (raised x) (above_last xs b) ∙ raised_last (nat_lt b 255) x (xs ++ (b + 1) ∷ []) (least_above xs)
 
 -- ---- where bytes stand
 
@@ -68,23 +68,23 @@ last_false : (s t : Bool) → t ≡ false → false ≡ (not s && t)
 last_false true t e = refl
 last_false false t e = sym e
 
-pub beginnings_between : (ps bs : List ℕ) → AreBytes ps → AreBytes bs → begins ps bs ≡ stands_between ps (above ps) bs
+pub beginnings_between : (ps bs : List ℕ) → AreBytes ps → AreBytes bs → begins ps bs ≡ stands_between ps (least_above ps) bs
 beginnings_between [] bs f g = from_none bs
 beginnings_between (p ∷ ps) [] f g = refl
 beginnings_between (p ∷ ps) (b ∷ bs) f g = by (cases_order p b) (beginnings_between ps bs f.1 g.1)
   where
-    by : (p ≡ b) ⊎ ((p < b) ⊎ (b < p)) → begins ps bs ≡ stands_between ps (above ps) bs
-        → begins (p ∷ ps) (b ∷ bs) ≡ stands_between (p ∷ ps) (above (p ∷ ps)) (b ∷ bs)
+    by : (p ≡ b) ⊎ ((p < b) ⊎ (b < p)) → begins ps bs ≡ stands_between ps (least_above ps) bs
+        → begins (p ∷ ps) (b ∷ bs) ≡ stands_between (p ∷ ps) (least_above (p ∷ ps)) (b ∷ bs)
     by (inl e) ih =
         begins_alike p b ps bs e
         ∙ (ih
-        ∙ ap₂ (λ (s t : Bool). not s && t) (ap is_lt (sym (alike_head b p bs ps (sym e)))) (sym (raised_alike p b bs (above ps) (sym e))))
+        ∙ ap₂ (λ (s t : Bool). not s && t) (ap is_lt (sym (alike_head b p bs ps (sym e)))) (sym (raised_alike p b bs (least_above ps) (sym e))))
     by (inr (inl l)) ih =
         begins_unlike p b ps bs (omega arith)
-        ∙ last_false (is_lt (list_order (b ∷ bs) (p ∷ ps))) (is_below (raised p (above ps)) (b ∷ bs)) (raised_greater p b bs (above ps) l g.0)
+        ∙ last_false (is_lt (list_order (b ∷ bs) (p ∷ ps))) (is_below (raised p (least_above ps)) (b ∷ bs)) (raised_greater p b bs (least_above ps) l g.0)
     by (inr (inr l)) ih =
         begins_unlike p b ps bs (omega arith)
-        ∙ ap (λ s. not s && is_below (raised p (above ps)) (b ∷ bs)) (sym (ap is_lt (less_head b p bs ps l)))
+        ∙ ap (λ s. not s && is_below (raised p (least_above ps)) (b ∷ bs)) (sym (ap is_lt (less_head b p bs ps l)))
 
 -- ---- the last of bytes, which is raised or goes
 
@@ -103,22 +103,22 @@ set_last (x ∷ y ∷ ys) zero v e = absurd (cc)
 set_last (x ∷ y ∷ ys) (suc n) v e = ap (λ zs. x ∷ zs) (set_last (y ∷ ys) n v (cc))
 
 at_last : (xs : List ℕ) (n b : ℕ) → length xs ≡ suc n → b ≡ get_or xs n b
-    → above xs ≡ (if nat_lt b 255 then Some (take n xs ++ (b + 1) ∷ []) else above (take n xs))
-at_last xs n b e is = ap above (split_last xs n b e ∙ ap (λ x. take n xs ++ x ∷ []) (sym is)) ∙ above_last (take n xs) b
+    → least_above xs ≡ (if nat_lt b 255 then Some (take n xs ++ (b + 1) ∷ []) else least_above (take n xs))
+at_last xs n b e is = ap least_above (split_last xs n b e ∙ ap (λ x. take n xs ++ x ∷ []) (sym is)) ∙ above_last (take n xs) b
 
-pub raises_last : (xs : List ℕ) (n b v : ℕ) → length xs ≡ suc n → b ≡ get_or xs n b → b < 255 → v ≡ b + 1 → above xs ≡ Some (slice_set xs n v)
+pub raises_last : (xs : List ℕ) (n b v : ℕ) → length xs ≡ suc n → b ≡ get_or xs n b → b < 255 → v ≡ b + 1 → least_above xs ≡ Some (slice_set xs n v)
 raises_last xs n b v e is l f =
     at_last xs n b e is
     ∙ (at (nat_lt b 255) (grind (arith, nat_tests)) ∙ ap (λ zs. Some zs) (sym (set_last xs n v e ∙ ap (λ x. take n xs ++ x ∷ []) f)))
   where
-    at : (t : Bool) → t ≡ true → (if t then Some (take n xs ++ (b + 1) ∷ []) else above (take n xs)) ≡ Some (take n xs ++ (b + 1) ∷ [])
+    at : (t : Bool) → t ≡ true → (if t then Some (take n xs ++ (b + 1) ∷ []) else least_above (take n xs)) ≡ Some (take n xs ++ (b + 1) ∷ [])
     at true f = refl
     at false f = absurd (cc)
 
-pub drops_last : (xs : List ℕ) (n b : ℕ) → length xs ≡ suc n → b ≡ get_or xs n b → 255 ≤ b → above xs ≡ above (take n xs)
+pub drops_last : (xs : List ℕ) (n b : ℕ) → length xs ≡ suc n → b ≡ get_or xs n b → 255 ≤ b → least_above xs ≡ least_above (take n xs)
 drops_last xs n b e is l = at_last xs n b e is ∙ at (nat_lt b 255) (grind (arith, nat_tests))
   where
-    at : (t : Bool) → t ≡ false → (if t then Some (take n xs ++ (b + 1) ∷ []) else above (take n xs)) ≡ above (take n xs)
+    at : (t : Bool) → t ≡ false → (if t then Some (take n xs ++ (b + 1) ∷ []) else least_above (take n xs)) ≡ least_above (take n xs)
     at true f = absurd (cc)
     at false f = refl
 

@@ -1,4 +1,4 @@
-pub mod BeginningLemmas
+pub mod ListBeginningLemmas
 pub mod AboveLemmas
-pub mod PlaceLemmas
+pub mod PrimaryPlaces
 pub mod StepwiseBeginnings

@@ -1,10 +1,10 @@
 -- Bytes that are written member by member begin with others exactly if their members do.
-use Rattle.std.proofs.Common.{◌≡◌, ◌≢◌, ℕ, ◌<◌, Bool, false, List, [], ◌∷◌, ◌++◌, map, refl, sym, ap, ap₂, ◌∙◌, subst, inl, inr, ◌⊎◌, append_assoc, arith}
+use Rattle.std.proofs.Common.{◌≡◌, ℕ, ◌<◌, List, [], ◌∷◌, ◌++◌, map, refl, sym, ap, ap₂, ◌∙◌, subst, inl, inr, ◌⊎◌, append_assoc, arith}
 use Rattle.std.proofs.lemmas.Bool.{cases_order}
 use Rattle.icu_levels.specs.ListOrder.{IsUnder}
 use Rattle.icu_levels.proofs.StepwiseOrder.{stepwise_bytes, StandAlong, IsRising}
-use Rattle.icu_beginnings.specs.Beginnings.{begins}
-use Rattle.icu_beginnings.proofs.BeginningLemmas.{begins_alike, begins_unlike, begins_front, begins_lesser, begins_greater, begins_over}
+use Rattle.icu_beginnings.specs.KeyBeginnings.{begins}
+use Rattle.icu_beginnings.proofs.ListBeginningLemmas.{begins_alike, begins_unlike, begins_front, begins_lesser, begins_greater, begins_over}
 
 module _ {S : Type 0} (rank : ℕ → ℕ) (step : S → ℕ → List ℕ) (next : S → ℕ → S) (Stands : S → ℕ → Type 0)
     (well_formed : IsRising rank step next Stands) where

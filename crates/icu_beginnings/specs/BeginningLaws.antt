@@ -1,19 +1,14 @@
 -- The laws of bytes that begin with others, as contracts name them.
-use Rattle.std.specs.Prelude.{◌≡◌, false, ℕ, ◌<◌, List, ◌++◌, map}
-use Rattle.std.specs.List.{AllByRecursion}
+use Rattle.std.specs.Prelude.{◌≡◌, false, ℕ, List, ◌++◌, map}
 use Rattle.std.specs.Ordering.{is_lt}
 use Rattle.icu_levels.specs.ListOrder.{list_order, IsUnder}
 use Rattle.icu_levels.specs.Primaries.{Compression, primary_level}
 use Rattle.icu_levels.specs.Premises.{ArePrimaries, IsPrimaryList}
-use Rattle.icu_beginnings.specs.Beginnings.{above, begins, stands_between}
-
--- bytes
-abbrev pub AreBytes : List ℕ → Type 0
-AreBytes bs = AllByRecursion (λ b. b < 256) bs
+use Rattle.icu_beginnings.specs.KeyBeginnings.{AreBytes, least_above, begins, stands_between}
 
 -- bytes begin with others exactly if they stand between these and what is above all that begin with these
 abbrev pub BeginningsStandTogether : Type 0
-BeginningsStandTogether = (ps bs : List ℕ) → AreBytes ps → AreBytes bs → begins ps bs ≡ stands_between ps (above ps) bs
+BeginningsStandTogether = (ps bs : List ℕ) → AreBytes ps → AreBytes bs → begins ps bs ≡ stands_between ps (least_above ps) bs
 
 -- the weights that are written, and those that begin them; `more` is what follows them in a key: nothing, or bytes that
 -- begin below 02

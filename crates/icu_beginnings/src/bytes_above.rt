@@ -1,13 +1,13 @@
 //! The least bytes above all that begin with others.
 
 ghost use Rattle.std.specs.Prelude.{◌≡◌, Some, None, if◌then◌else◌};
-ghost use Rattle.icu_beginnings.specs.Beginnings.{above};
+ghost use Rattle.icu_beginnings.specs.KeyBeginnings.{least_above};
 
 /// Makes of bytes the least ones above all that begin with them, by dictionary order: those at the end that are FF go,
 /// and the last of the others is raised by one. False where there are none above: then no byte is left. Does not
 /// allocate.
 pub fn raise(bytes: &mut Vec<u8>) -> bool
-    ensures { above bytes.old.items ≡ (if result then Some bytes.new.items else None) }
+    ensures { least_above bytes.old.items ≡ (if result then Some bytes.new.items else None) }
 {
     'raising: while !bytes.is_empty() {
         let last = bytes.len() - 1;

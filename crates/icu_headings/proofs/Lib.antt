@@ -1,2 +1,2 @@
 pub mod StartKeyLemmas
-pub mod RunLemmas
+pub mod HeadingRuns

@@ -1,7 +1,7 @@
 -- What headings have.
 use Rattle.std.specs.Prelude.{List, map}
 use Rattle.icu_collator.specs.Collators.{collation_borrowed}
-use Rattle.icu_headings.specs.HeadingLists.{Start}
+use Rattle.icu_headings.specs.HeadingLists.{NamedStart}
 use Rattle.icu_headings.specs.declared.headings.Headings.{Headings}
 use Rattle.icu_keyed_starts.specs.Starts.{starts_in}
 use Rattle.icu_text_order.specs.Collations.{Collation}
@@ -11,5 +11,5 @@ abbrev pub headings_collation : Headings → Collation
 headings_collation h = collation_borrowed h.collator
 
 -- the starts, in order
-abbrev pub heading_starts : Headings → List Start
+abbrev pub heading_starts : Headings → List NamedStart
 heading_starts h = map (λ x. (x.1, x.2)) (starts_in h.starts)

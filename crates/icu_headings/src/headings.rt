@@ -3,7 +3,7 @@
 ghost use Rattle.std.specs.Prelude.{◌≡◌, ◌+◌, [], fold, length, map, IfOk, OnErr, OnOk};
 ghost use Rattle.std.proofs.Props.{props};
 ghost use Rattle.icu_collator.specs.Collators.{collation_borrowed, collation_kept};
-ghost use Rattle.icu_headings.specs.HeadingLists.{heading_at, heading_is, heading_number, heading_of, placed, start_given, starts_kept};
+ghost use Rattle.icu_headings.specs.HeadingLists.{heading_at, heading_is, heading_number, heading_of, start_placed, start_given, starts_kept};
 ghost use Rattle.icu_headings.specs.inner.StartKeys.{AreStartKeys, bound_of};
 ghost use Rattle.icu_keyed_starts.specs.Starts.{starts_in};
 
@@ -46,7 +46,7 @@ fn kept_start(
 }
 
 /// Headings of names in the order of a collator: each starts at the primary level with a label, or with a limit behind
-/// which a script ends, and goes on up to the next start (UTS #35 part 2, "Index Characters").
+/// which a script ends, and goes on up to the next start, as those of ICU's AlphabeticIndex.
 #[derive(Drop)]
 pub struct Headings<'c> {
     alloc: Global,
@@ -83,8 +83,8 @@ impl<'c> Headings<'c> {
 
     /// Puts a start in its place.
     fn put(&mut self, start: &HeadingStart<'_>) -> Result<(), AllocError>
-        ensures ok { OnOk result (heading_starts self.new
-            ≡ placed (headings_collation self.old) (start_given start.now) (heading_starts self.old)) }
+        ensures ok { OnOk result (heading_starts self.new ≡ start_placed
+            (headings_collation self.old) (start_given start.now) (heading_starts self.old)) }
         ensures collation { headings_collation self.new ≡ headings_collation self.old }
     {
         self.collator.has_well_formed_tables();
@@ -100,9 +100,9 @@ impl<'c> Headings<'c> {
         self.starts.len() + 1
     }
 
-    /// The number of the heading that a name stands under, from 0, which stands before all starts: how many starts aren't
-    /// Greater than the name at the primary level. A name is bytes in UTF-8 that may be damaged. Fails only where an
-    /// allocation does.
+    /// The number of the heading that a name stands under, from 0, which stands before all starts: how many starts
+    /// aren't Greater than the name at the primary level. A name is bytes in UTF-8 that may be damaged. Fails only
+    /// where an allocation does.
     pub fn number_of(&self, name: &[u8]) -> Result<usize, AllocError>
         ensures { IfOk result (λ n. n
             ≡ heading_number (headings_collation self.now) (heading_starts self.now) name.now) }

@@ -1,5 +1,5 @@
-//! Headings of an alphabetic index, as of a contact list: A, B, C, .., and what stands before, between and behind them
-//! (UTS #35 part 2, "Index Characters").
+//! Headings of an alphabetic index, as of a contact list: A, B, C, .., and what stands before, between and behind them,
+//! as ICU's AlphabeticIndex has them.
 #![tactic(auto)]
 
 pub mod heading;

@@ -12,7 +12,7 @@ use Rattle.icu_encodings.specs.DecodedTexts.{utf8_text}
 use Rattle.icu_levels.specs.ListOrder.{list_order}
 use Rattle.icu_text_order.proofs.TextOrders.{keys_keep}
 use Rattle.icu_keyed_names.specs.Borders.{lies_before}
-use Rattle.icu_beginnings.specs.Beginnings.{begins}
+use Rattle.icu_beginnings.specs.KeyBeginnings.{begins}
 use Rattle.icu_keyed_names.specs.KeyedLists.{Keyed, beginning_with, between, names_in, placed}
 use Rattle.icu_keyed_names.specs.declared.borders.Border.{Border}
 use Rattle.icu_keyed_names.specs.declared.borders.Border.TheVariants.{Before, Behind}

@@ -146,9 +146,9 @@ impl<'a> NameIndex<'a> {
         Ok(NameIter { names })
     }
 
-    /// The names that begin with a name at the primary level, in order: those whose primary weights begin with all of the
-    /// name's. So "mu" begins "Müller", and a digit that is read as a number begins no longer number. The name need not be
-    /// one of the index. Fails only where an allocation does.
+    /// The names that begin with a name at the primary level, in order: those whose primary weights begin with all of
+    /// the name's. So "mu" begins "Müller", and a digit that is read as a number begins no longer number. The name
+    /// need not be one of the index. Fails only where an allocation does.
     pub fn beginning_with(&self, beginning: &[u8]) -> Result<NameIter<'_>, AllocError>
         ensures { IfOk result (λ names. names_left names
             ≡ names_beginning (index_collation self.now) beginning.now (listing self.now)) }

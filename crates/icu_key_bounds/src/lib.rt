@@ -1,5 +1,5 @@
-//! Bounds of sort keys, for those who keep keys: between the two bounds of a text stand exactly the keys of the texts that
-//! begin with it at the primary level (ICU's `ucol_getBound`; UTS #10, "Compare Sort Keys").
+//! Bounds of sort keys, for those who keep keys: between the two bounds of a text stand exactly the keys of the texts
+//! that begin with it at the primary level (ICU's `ucol_getBound`; UTS #10, "Compare Sort Keys").
 #![tactic(auto)]
 
 pub mod key_bounds;

@@ -1,11 +1,11 @@
 -- The names behind a border, and those whose keys begin with bytes.
-use Rattle.std.proofs.Common.{◌≡◌, ℕ, ◌≤◌, arith, Bool, true, false, not, ◌&&◌, List, [], ◌∷◌, ◌++◌, Option, Some, None, drop, filter, length, map, suc, zero, take, if◌then◌else◌, refl, sym, ap, ◌∙◌}
+use Rattle.std.proofs.Common.{◌≡◌, ℕ, ◌≤◌, arith, Bool, true, false, not, ◌&&◌, List, [], ◌∷◌, ◌++◌, Some, None, drop, filter, length, map, suc, if◌then◌else◌, refl, sym, ap, ◌∙◌}
 use Rattle.std.proofs.lemmas.List.{append-nil, drop_all, take_all}
 use Rattle.std.specs.Borrow.{Bor}
 use Rattle.std.specs.Global.{Vec}
 use Rattle.std.specs.List.{AllByRecursion}
 use Rattle.icu_beginnings.proofs.AboveLemmas.{beginnings_between}
-use Rattle.icu_beginnings.specs.Beginnings.{above, begins, stands_between}
+use Rattle.icu_beginnings.specs.KeyBeginnings.{least_above, begins, stands_between}
 use Rattle.icu_keyed_names.proofs.BorderRangeLemmas.{between_is}
 use Rattle.icu_keyed_names.proofs.KeyedLemmas.{filter_along, names_are}
 use Rattle.icu_keyed_names.proofs.LeafPlaceLemmas.{all_pass, leaf_none}
@@ -15,8 +15,9 @@ use Rattle.icu_keyed_names.specs.KeyedLists.{Keyed, beginning_with, behind_borde
 use Rattle.icu_keyed_names.specs.declared.borders.Border.{Border}
 use Rattle.icu_keyed_names.specs.declared.borders.Border.TheVariants.{Before}
 use Rattle.icu_keyed_names.specs.declared.name_entries.Entry.{Entry}
-use Rattle.icu_keyed_names.specs.inner.NameEntries.{AreBytes, AreEntriesIn, HaveByteKeys, entry_before, key_in, keyed_in, name_in}
-use Rattle.icu_keyed_names.specs.inner.Leaves.{Parts, entries_between, entries_of, leaf_at}
+use Rattle.icu_keyed_names.specs.inner.NameEntries.{AreEntriesIn, HaveByteKeys, entry_before, key_in, keyed_in, name_in}
+use Rattle.icu_beginnings.specs.KeyBeginnings.{AreBytes}
+use Rattle.icu_keyed_names.specs.inner.Leaves.{Parts, entries_between, entries_of}
 
 -- ---- the place behind all entries
 
@@ -71,7 +72,7 @@ filter_same s t [] h = refl
 filter_same s t (x ∷ xs) h = ap (λ b. if b then x ∷ filter s xs else filter s xs) h.0 ∙ ap (λ ys. if t x then x ∷ ys else ys) (filter_same s t xs h.1)
 
 module _ (from : Bor (List ℕ)) (are : AreBytes from.now) where
-  below_bound : (to : Bor (List ℕ)) → above from.now ≡ Some to.now → (xs : List Keyed) → HaveByteKeys xs
+  below_bound : (to : Bor (List ℕ)) → least_above from.now ≡ Some to.now → (xs : List Keyed) → HaveByteKeys xs
       → AllByRecursion (λ x. (not (lies_before (Before from) x.0) && lies_before (Before to) x.0) ≡ begins from.now x.0) xs
   below_bound to is [] h = tt
   below_bound to is (x ∷ xs) h = (
@@ -79,12 +80,12 @@ module _ (from : Bor (List ℕ)) (are : AreBytes from.now) where
     below_bound to is xs h.1,
   )
 
-  pub between_begins : (to : Bor (List ℕ)) → above from.now ≡ Some to.now → (xs : List Keyed) → HaveByteKeys xs
+  pub between_begins : (to : Bor (List ℕ)) → least_above from.now ≡ Some to.now → (xs : List Keyed) → HaveByteKeys xs
       → names_in (between (Before from) (Before to) xs) ≡ names_in (beginning_with from.now xs)
   between_begins to is xs h =
       ap names_in (filter_same (λ x. not (lies_before (Before from) x.0) && lies_before (Before to) x.0) (λ x. begins from.now x.0) xs (below_bound to is xs h))
 
-  no_bound : above from.now ≡ None → (xs : List Keyed) → HaveByteKeys xs
+  no_bound : least_above from.now ≡ None → (xs : List Keyed) → HaveByteKeys xs
       → AllByRecursion (λ x. not (lies_before (Before from) x.0) ≡ begins from.now x.0) xs
   no_bound is [] h = tt
   no_bound is (x ∷ xs) h = (
@@ -93,6 +94,6 @@ module _ (from : Bor (List ℕ)) (are : AreBytes from.now) where
     no_bound is xs h.1,
   )
 
-  pub behind_begins : above from.now ≡ None → (xs : List Keyed) → HaveByteKeys xs
+  pub behind_begins : least_above from.now ≡ None → (xs : List Keyed) → HaveByteKeys xs
       → names_in (behind_border (Before from) xs) ≡ names_in (beginning_with from.now xs)
   behind_begins is xs h = ap names_in (filter_same (λ x. not (lies_before (Before from) x.0)) (λ x. begins from.now x.0) xs (no_bound is xs h))

@@ -2,7 +2,7 @@
 use Rattle.std.specs.Prelude.{ℕ, not, ◌&&◌, List, [], ◌∷◌, ◌++◌, filter, map, if◌then◌else◌}
 use Rattle.std.specs.Ordering.{is_gt}
 use Rattle.icu_levels.specs.ListOrder.{list_order}
-use Rattle.icu_beginnings.specs.Beginnings.{begins}
+use Rattle.icu_beginnings.specs.KeyBeginnings.{begins}
 use Rattle.icu_keyed_names.specs.Borders.{lies_before}
 use Rattle.icu_keyed_names.specs.declared.borders.Border.{Border}
 use Rattle.icu_keyed_names.specs.declared.keyed_names.KeyedNames.{KeyedNames}

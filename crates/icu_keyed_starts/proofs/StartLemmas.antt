@@ -142,14 +142,20 @@ ascend_put s new is [] (suc i) h low free a = absurd (omega arith)
 ascend_put s new is (x ∷ ss) zero h low free a =
     let key = ap (λ (y : KeyedStart). y.0) is in
     let less = less_turned new.key.items x.key.items
-    (ap (list_order x.key.items) key ∙ is_greater (key_order s.0 x) (h.1 0 x (omega arith) (omega arith)) free) in
-    ((less, weaker (λ l. list_order x.key.items l ≡ Less) (λ l. list_order new.key.items l ≡ Less)
-    (λ l e. nat_list_cmp_total.trans new.key.items x.key.items l less e) (keys_of ss) a.0), a)
+    (ap (list_order x.key.items) key ∙ is_greater (key_order s.0 x) (h.1 0 x (omega arith) (omega arith)) free) in (
+      (
+        less,
+        weaker (λ l. list_order x.key.items l ≡ Less) (λ l. list_order new.key.items l ≡ Less)
+            (λ l e. nat_list_cmp_total.trans new.key.items x.key.items l less e) (keys_of ss) a.0,
+      ),
+      a,
+    )
 ascend_put s new is (x ∷ ss) (suc i) h low free a =
     let key = ap (λ (y : KeyedStart). y.0) is in
-    let less = ap (list_order x.key.items) key ∙ is_less (key_order s.0 x) (h.0 0 x (omega arith) (omega arith)) in
-    (above_all new (λ l. list_order x.key.items l ≡ Less) less ss i a.0,
-    ascend_put s new is ss i (one_later s.0 x ss i h) (omega arith) free a.1)
+    let less = ap (list_order x.key.items) key ∙ is_less (key_order s.0 x) (h.0 0 x (omega arith) (omega arith)) in (
+      above_all new (λ l. list_order x.key.items l ≡ Less) less ss i a.0,
+      ascend_put s new is ss i (one_later s.0 x ss i h) (omega arith) free a.1,
+    )
 
 -- whether or not the start was put in
 pub ascend_after : (b : Bool) (new : Start) (ss after : List Start) (i : ℕ) → after ≡ (if b then insert ss i new else ss) → IsPlace new.key.items ss i → i ≤ length ss

@@ -16,7 +16,7 @@ abbrev pub start_of : Start → KeyedStart
 start_of s = (s.key.items, s.name.items, s.is_label)
 
 -- a start before or among others, by how the first of those compares with it
-abbrev pub placed_by : Ordering → KeyedStart → KeyedStart → List KeyedStart → List KeyedStart → List KeyedStart
+abbrev pub placed_by : {X : Type 0} → Ordering → X → X → List X → List X → List X
 placed_by Less s x xs more = x ∷ more
 placed_by Equal s x xs more = x ∷ xs
 placed_by Greater s x xs more = s ∷ x ∷ xs

@@ -51,8 +51,8 @@ impl KeyedStarts {
         }
     }
 
-    /// Puts a start in its place: before the first one whose key is greater, or last. Where there is one of an equal key,
-    /// that one stays, and nothing is put.
+    /// Puts a start in its place: before the first one whose key is greater, or last. Where there is one of an equal
+    /// key, that one stays, and nothing is put.
     ///
     /// # Errors
     ///

@@ -5,8 +5,8 @@ ghost use Rattle.icu_keyed_starts.specs.KeyOrders.{key_order};
 
 use std::cmp::Ordering;
 
-/// Where a heading starts among keys. A start that is no label is a limit: what comes from there on up to the next start
-/// has no label.
+/// Where a heading starts among keys. A start that is no label is a limit: what comes from there on up to the next
+/// start has no label.
 #[derive(Debug, Drop)]
 pub struct Start {
     /// The least key under the heading.

@@ -5,11 +5,12 @@ use Rattle.std.specs.Ordering.{is_gt, is_lt, ordering_then}
 use Rattle.std.specs.declared.cmp.Ordering.{Ordering}
 use Rattle.std.specs.declared.cmp.Ordering.TheVariants.{Less, Equal, Greater}
 use Rattle.unicode_normalization.specs.Forms.{nfd}
-use Rattle.icu_beginnings.specs.Beginnings.{above, begins, stands_between}
-use Rattle.icu_beginnings.specs.BeginningLaws.{AreBytes, PrimariesAreKept}
+use Rattle.icu_beginnings.specs.KeyBeginnings.{least_above, begins, stands_between}
+use Rattle.icu_beginnings.specs.BeginningLaws.{PrimariesAreKept}
+use Rattle.icu_beginnings.specs.KeyBeginnings.{AreBytes}
 use Rattle.icu_beginnings.proofs.AboveLemmas.{beginnings_between}
-use Rattle.icu_beginnings.proofs.BeginningLemmas.{begins_front}
-use Rattle.icu_beginnings.proofs.PlaceLemmas.{primaries_kept}
+use Rattle.icu_beginnings.proofs.ListBeginningLemmas.{begins_front}
+use Rattle.icu_beginnings.proofs.PrimaryPlaces.{primaries_kept}
 use Rattle.icu_boundaries.proofs.CutLemmas.{boundary_cut}
 use Rattle.icu_checks.specs.WellFormedTables.{IsWellFormedTables}
 use Rattle.icu_elements.specs.TextElementLaws.{IsText}
@@ -118,8 +119,7 @@ module _ (collation : Collation) where
       let xs = elements_of reading (nfd front) in
       let ys = elements_of reading (nfd (c ∷ cs)) in
       let hs = handled_elements collation false xs in
-      let ks = handled_elements collation false ys in
-      (
+      let ks = handled_elements collation false ys in (
         weights primary_of primary_of (stayed_elements ks),
         ap (λ es. weights primary_of primary_of (stayed_elements (handled_elements collation false es)))
             (boundary_cut reading c h.first h.more cs h.decomposes h.boundary [] front)

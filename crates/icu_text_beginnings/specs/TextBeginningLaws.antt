@@ -2,8 +2,8 @@
 use Rattle.std.specs.Prelude.{◌≡◌, true, false, ℕ, List, ◌++◌}
 use Rattle.std.specs.Ordering.{is_gt, is_lt}
 use Rattle.std.specs.declared.cmp.Ordering.TheVariants.{Equal}
-use Rattle.icu_beginnings.specs.Beginnings.{begins, stands_between}
-use Rattle.icu_beginnings.specs.BeginningLaws.{AreBytes}
+use Rattle.icu_beginnings.specs.KeyBeginnings.{begins, stands_between}
+use Rattle.icu_beginnings.specs.KeyBeginnings.{AreBytes}
 use Rattle.icu_elements.specs.TextElementLaws.{IsText}
 use Rattle.icu_levels.specs.ListOrder.{list_order}
 use Rattle.icu_text_order.specs.Collations.{Collation}

@@ -5,7 +5,7 @@ use Rattle.std.specs.declared.cmp.Ordering.{Ordering}
 use Rattle.icu_options.specs.declared.settings.Strength.TheVariants.{Primary}
 use Rattle.unicode_normalization.specs.Forms.{nfd}
 use Rattle.icu_provider.specs.CollatorTables.{reorder}
-use Rattle.icu_beginnings.specs.Beginnings.{above, begins}
+use Rattle.icu_beginnings.specs.KeyBeginnings.{least_above, begins}
 use Rattle.icu_text_order.specs.Collations.{Collation}
 use Rattle.icu_text_order.specs.TextOrder.{lists_by, text_key, text_order}
 
@@ -31,4 +31,4 @@ lower_bound c beginning = text_key (primary_collation c) beginning
 
 -- the least bytes above all keys of texts that begin with a text, if there are such
 abbrev pub upper_bound : Collation → List ℕ → Option (List ℕ)
-upper_bound c beginning = above (lower_bound c beginning)
+upper_bound c beginning = least_above (lower_bound c beginning)

@@ -1,6 +1,6 @@
-use Rattle.std.proofs.Common.{◌≡◌, ◌+◌, ◌-◌, ◌<◌, ◌∙◌, ap, length, suc, sym, arith}
+use Rattle.std.proofs.Common.{◌≡◌, ◌+◌, ◌-◌, ◌∙◌, ap, length, suc, sym, arith}
 use Rattle.std.proofs.lemmas.Bool.Decides.{nat_tests}
-use Rattle.icu_beginnings.specs.Beginnings.{above}
+use Rattle.icu_beginnings.specs.KeyBeginnings.{least_above}
 use Rattle.icu_beginnings.proofs.AboveLemmas.{drops_last, one_value, raises_last}
 use Rattle.icu_beginnings.proofs.bytes_above.raise.Goals as goal
 
@@ -23,4 +23,4 @@ raising-preserved c =
     let long : length c.raising.bytes.items ≡ suc (c.len-last.result - 1) = grind (arith, nat_tests) in
     c.raising.invariant
     ∙ (drops_last c.raising.bytes.items (c.len-last.result - 1) c.index.result.now long c.index.ensures c.if-index-lt255.false
-    ∙ ap above (sym c.truncate.ensures.items))
+    ∙ ap least_above (sym c.truncate.ensures.items))

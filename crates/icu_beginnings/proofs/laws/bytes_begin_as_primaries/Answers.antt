@@ -1,4 +1,4 @@
-use Rattle.icu_beginnings.proofs.PlaceLemmas.{primaries_kept}
+use Rattle.icu_beginnings.proofs.PrimaryPlaces.{primaries_kept}
 use Rattle.icu_beginnings.proofs.laws.bytes_begin_as_primaries.Goals as goal
 
 pub returns : goal.returns

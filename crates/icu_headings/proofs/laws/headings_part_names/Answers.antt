@@ -1,4 +1,4 @@
-use Rattle.icu_headings.proofs.RunLemmas.{headings_part}
+use Rattle.icu_headings.proofs.HeadingRuns.{headings_part}
 use Rattle.icu_headings.proofs.laws.headings_part_names.Goals as goal
 
 pub returns : goal.returns

@@ -3,7 +3,8 @@ use Rattle.icu_keyed_names.proofs.BeginningRangeLemmas.{names_behind}
 use Rattle.icu_keyed_names.proofs.PlacedLemmas.{entries_parted}
 use Rattle.icu_keyed_names.specs.Borders.{border_key}
 use Rattle.icu_keyed_names.specs.KeyedLists.{Keyed, behind_border, names_in}
-use Rattle.icu_keyed_names.specs.inner.NameEntries.{AreBytes, AreEntriesIn, entry_before, keyed_in}
+use Rattle.icu_keyed_names.specs.inner.NameEntries.{AreEntriesIn, entry_before, keyed_in}
+use Rattle.icu_beginnings.specs.KeyBeginnings.{AreBytes}
 use Rattle.icu_keyed_names.specs.inner.Leaves.{AreFilled, Parts, Rise, entries_of}
 use Rattle.icu_keyed_names.proofs.keyed_names.KeyedNames.behind.Goals as goal
 

@@ -1,9 +1,9 @@
 -- Lists that begin with others.
-use Rattle.std.proofs.Common.{◌≡◌, ◌≢◌, ◌==◌, ◌&&◌, ℕ, ◌<◌, Bool, true, false, List, [], ◌∷◌, ◌++◌, refl, sym, ap, ap₂, ◌∙◌, inl, inr, ◌⊎◌, append_assoc, arith, eqb-true, eq-eqb, ne_eqb, Less, Equal}
+use Rattle.std.proofs.Common.{◌≡◌, ◌≢◌, ◌==◌, ◌&&◌, ℕ, Bool, true, false, List, [], ◌∷◌, ◌++◌, refl, sym, ap, ap₂, ◌∙◌, inl, inr, ◌⊎◌, append_assoc, arith, eqb-true, eq-eqb, ne_eqb}
 use Rattle.std.proofs.lemmas.Bool.{cases_Bool}
-use Rattle.icu_levels.specs.ListOrder.{list_order, IsUnder, IsOver, Precedes}
+use Rattle.icu_levels.specs.ListOrder.{IsUnder, IsOver, Precedes}
 use Rattle.icu_levels.proofs.Order.{same_lists_order}
-use Rattle.icu_beginnings.specs.Beginnings.{begins}
+use Rattle.icu_beginnings.specs.KeyBeginnings.{begins}
 
 -- one number more on either side
 pub begins_alike : (x y : ℕ) (xs ys : List ℕ) → x ≡ y → begins (x ∷ xs) (y ∷ ys) ≡ begins xs ys

@@ -1,5 +1,5 @@
--- Where the primary level stands, weight by weight: what may stand there begins above 01, the lesser of two precedes, and
--- those that are one after reordering are written alike and leave the level in one place.
+-- Where the primary level stands, weight by weight: what may stand there begins above 01, the lesser of two precedes,
+-- and those that are one after reordering are written alike and leave the level in one place.
 use Rattle.std.proofs.Common.{◌≡◌, ◌≢◌, ℕ, ◌^◌, ◌<◌, ◌≤◌, Bool, true, false, if◌then◌else◌, List, [], ◌∷◌, ◌++◌, map, refl, sym, ap, ap₂, ◌∙◌, subst, inl, inr, ◌⊎◌, append-nil, arith, ne_eqb}
 use Rattle.std.proofs.lemmas.Bool.{cases_eq, cases_Bool, cond-true, cond-false}
 use Rattle.std.specs.Ordering.{is_lt, ordering_then}
@@ -14,7 +14,7 @@ use Rattle.icu_levels.proofs.StepwiseOrder.{stepwise_bytes, StandAlong, IsRising
 use Rattle.icu_levels.proofs.CompressionOrder.{FitsAfter, next_leads, next_rises}
 use Rattle.icu_levels.proofs.NumberPieceLemmas.{first_pieces_apart, further_pieces_apart}
 use Rattle.icu_levels.proofs.PrimaryOrder.{Place, same_weights, primary_order}
-use Rattle.icu_beginnings.specs.Beginnings.{begins}
+use Rattle.icu_beginnings.specs.KeyBeginnings.{begins}
 use Rattle.icu_beginnings.specs.BeginningLaws.{PrimariesAreKept}
 use Rattle.icu_beginnings.proofs.StepwiseBeginnings.{stepwise_begins}
 
@@ -182,6 +182,7 @@ module _ (c : Compression) (numeric : ℕ) (IsReachable : ℕ → Type 0) (well_
       → StandAlong place_after Stands p ws
   all_stand [] p d a = tt
   all_stand (w ∷ ws) p d a = ((d, a.0), all_stand ws (place_after p w) (dropped_next p.inside w (member p.inside w a.0)) a.1)
+
   abbrev start : Place
   start = record { dropped = 0; inside = false }
 

@@ -1,6 +1,6 @@
 -- Headings part names into runs.
-use Rattle.std.proofs.Common.{◌≡◌, ℕ, zero, suc, ◌+◌, ◌<◌, ◌≤◌, nat_eq, nat_le, Bool, true, false, List, [], ◌∷◌, ◌++◌, filter, get_or, if◌then◌else◌, length, refl, sym, ap, ap₂, ◌∙◌, inl, inr, ◌⊎◌, subst, arith, add-one}
-use Rattle.std.proofs.lemmas.Bool.{cases_order, cases_lt}
+use Rattle.std.proofs.Common.{◌≡◌, ℕ, zero, suc, ◌<◌, ◌≤◌, nat_eq, nat_le, Bool, true, false, List, [], ◌∷◌, ◌++◌, filter, get_or, if◌then◌else◌, length, refl, sym, ap, ◌∙◌, inl, inr, ◌⊎◌, subst, arith, add-one}
+use Rattle.std.proofs.lemmas.Bool.{cases_order}
 use Rattle.std.proofs.lemmas.Bool.Decides.{nat_tests}
 use Rattle.std.proofs.lemmas.Cmp.{nat_list_cmp_total}
 use Rattle.std.specs.List.{AllByRecursion}
@@ -18,7 +18,7 @@ use Rattle.icu_text_beginnings.specs.TextBeginnings.{primary_weights}
 use Rattle.icu_text_order.specs.Collations.{Collation}
 use Rattle.icu_text_order.specs.TextOrder.{text_key, text_order}
 use Rattle.icu_text_order.proofs.TextOrders.{keys_keep}
-use Rattle.icu_headings.specs.HeadingLists.{Start, heading_number, name_primary_order}
+use Rattle.icu_headings.specs.HeadingLists.{NamedStart, heading_number, name_primary_order}
 use Rattle.icu_headings.specs.HeadingLaws.{names_under, names_up_to}
 use Rattle.icu_levels.proofs.Order.{tied_lists}
 
@@ -38,19 +38,11 @@ module _ {X : Type 0} (number : X → ℕ) where
 
   none_under : (n : ℕ) (xs : List X) → AllByRecursion (λ x. suc n ≤ number x) xs → up_to n xs ≡ []
   none_under n [] h = refl
-  none_under n (x ∷ xs) h = at (nat_le (number x) n) (let e = h.0 in grind (arith, nat_tests))
+  none_under n (x ∷ xs) h = at (nat_le (number x) n) (let e = h.0 in grind (arith, nat_tests)) (none_under n xs h.1)
     where
-      at : (t : Bool) → t ≡ false → (if t then x ∷ up_to n xs else up_to n xs) ≡ []
-      at true e = absurd (cc)
-      at false e = none_under n xs h.1
-
-  none_at : (n : ℕ) (xs : List X) → AllByRecursion (λ x. suc n ≤ number x) xs → under n xs ≡ []
-  none_at n [] h = refl
-  none_at n (x ∷ xs) h = at (nat_eq (number x) n) (let e = h.0 in grind (arith, nat_tests))
-    where
-      at : (t : Bool) → t ≡ false → (if t then x ∷ under n xs else under n xs) ≡ []
-      at true e = absurd (cc)
-      at false e = none_at n xs h.1
+      at : (t : Bool) → t ≡ false → up_to n xs ≡ [] → (if t then x ∷ up_to n xs else up_to n xs) ≡ []
+      at true e none = absurd (cc)
+      at false e none = none
 
   -- those up to a number, and those under the next
   one_more : (n : ℕ) (xs : List X) → Ascends xs → up_to (suc n) xs ≡ up_to n xs ++ under (suc n) xs
@@ -87,11 +79,11 @@ module _ {X : Type 0} (number : X → ℕ) where
 
   each_up_to : (n : ℕ) (xs : List X) → AllByRecursion (λ x. number x ≤ n) xs → up_to n xs ≡ xs
   each_up_to n [] h = refl
-  each_up_to n (x ∷ xs) h = at (nat_le (number x) n) (let e = h.0 in grind (arith, nat_tests))
+  each_up_to n (x ∷ xs) h = at (nat_le (number x) n) (let e = h.0 in grind (arith, nat_tests)) (each_up_to n xs h.1)
     where
-      at : (t : Bool) → t ≡ true → (if t then x ∷ up_to n xs else up_to n xs) ≡ x ∷ xs
-      at true e = ap (λ ys. x ∷ ys) (each_up_to n xs h.1)
-      at false e = absurd (cc)
+      at : (t : Bool) → t ≡ true → up_to n xs ≡ xs → (if t then x ∷ up_to n xs else up_to n xs) ≡ x ∷ xs
+      at true e all = ap (λ ys. x ∷ ys) all
+      at false e all = absurd (cc)
 
 -- ---- numbers of headings
 
@@ -132,13 +124,13 @@ le_chain k l m Equal p e f h i = ap is_le (nat_list_cmp_total.congr k l m e ∙ 
     turned Greater i = absurd (cc)
 le_chain k l m Greater p e f h i = absurd (cc)
 
-module _ (c : Collation) (starts : List Start) where
+module _ (c : Collation) (starts : List NamedStart) where
   abbrev number : List ℕ → ℕ
   number name = heading_number c starts name
 
   -- what isn't Greater has no greater number
   kept_up : (x y : List ℕ) → is_gt (list_order (primary_weights c (utf8_text x)) (primary_weights c (utf8_text y))) ≡ false
-      → (s : Start) → is_le (name_primary_order c s.0 x) ≡ true → is_le (name_primary_order c s.0 y) ≡ true
+      → (s : NamedStart) → is_le (name_primary_order c s.0 x) ≡ true → is_le (name_primary_order c s.0 y) ≡ true
   kept_up x y low s h =
       ap is_le (order_is c (utf8_text s.0) (utf8_text y))
       ∙ le_chain (primary_weights c (utf8_text s.0)) (primary_weights c (utf8_text x)) (primary_weights c (utf8_text y)) _ _ refl refl
@@ -146,7 +138,7 @@ module _ (c : Collation) (starts : List Start) where
 
   pub number_kept : (x y : List ℕ) → is_gt (text_order c (utf8_text x) (utf8_text y)) ≡ false → number x ≤ number y
   number_kept x y h =
-      more_kept (λ (s : Start). is_le (name_primary_order c s.0 x)) (λ (s : Start). is_le (name_primary_order c s.0 y))
+      more_kept (λ (s : NamedStart). is_le (name_primary_order c s.0 x)) (λ (s : NamedStart). is_le (name_primary_order c s.0 y))
       (kept_up x y (order_kept c (utf8_text x) (utf8_text y) h)) starts
 
   module _ (well_formed : IsWellFormedTables c.tables) where
@@ -162,7 +154,10 @@ module _ (c : Collation) (starts : List Start) where
     Neighbours names = IsSorted (λ x y. text_order c (utf8_text x) (utf8_text y)) names
 
     one_on : (x : List ℕ) (xs : List (List ℕ)) → Neighbours (x ∷ xs) → Neighbours xs
-    one_on x xs h k d low high = rw (add-one k) (h (suc k) d (omega arith) (omega (arith, high, add-one k)))
+    one_on x xs h k d low high =
+        let two = subst (λ n. is_lt (text_order c (utf8_text (get_or (x ∷ xs) n d)) (utf8_text (get_or xs k d))) ≡ false) (add-one (suc k))
+        (h (suc k) d (omega arith) (omega (arith, high, add-one k))) in
+        rw (add-one k) two
 
     all_behind : (x : List ℕ) (xs : List (List ℕ)) → Neighbours (x ∷ xs) → AllByRecursion (λ y. number x ≤ number y) xs
     all_behind x [] h = tt
@@ -180,7 +175,7 @@ module _ (c : Collation) (starts : List Start) where
 
     each_within : (names : List (List ℕ)) → AllByRecursion (λ x. number x ≤ length starts) names
     each_within [] = tt
-    each_within (x ∷ xs) = (most_kept (λ (s : Start). is_le (name_primary_order c s.0 x)) starts, each_within xs)
+    each_within (x ∷ xs) = (most_kept (λ (s : NamedStart). is_le (name_primary_order c s.0 x)) starts, each_within xs)
 
     pub headings_part : (names : List (List ℕ)) → Neighbours names → names_up_to c starts (length starts) names ≡ names
     headings_part names h = parted (length starts) names (numbers_ascend names h) ∙ each_up_to number (length starts) names (each_within names)
