@@ -1,6 +1,5 @@
 -- The order of names is that of their keys.
-use Rattle.std.proofs.Common.{◌≡◌, ℕ, ◌&&◌, Bool, true, false, not, List, [], ◌∷◌, filter, Result, Ok, Err, OnOk, OnErr, if◌then◌else◌, refl, sym, ap, ◌∙◌, subst}
-use Rattle.std.specs.List.{AllByRecursion}
+use Rattle.std.proofs.Common.{◌≡◌, ℕ, ◌&&◌, Bool, true, false, not, List, [], ◌∷◌, Result, Ok, Err, OnOk, OnErr, if◌then◌else◌, refl, sym, ap, ◌∙◌, subst}
 use Rattle.std.specs.Ordering.{is_eq, is_gt, is_le, is_lt}
 use Rattle.std.specs.declared.cmp.Ordering.{Ordering}
 use Rattle.std.specs.declared.cmp.Ordering.TheVariants.{Less, Equal, Greater}
@@ -11,10 +10,8 @@ use Rattle.icu_encodings.proofs.Utf8Lemmas.{utf8_scalars}
 use Rattle.icu_encodings.specs.DecodedTexts.{utf8_text}
 use Rattle.icu_levels.specs.ListOrder.{list_order}
 use Rattle.icu_text_order.proofs.TextOrders.{keys_keep}
-use Rattle.icu_keyed_names.specs.Borders.{lies_before}
 use Rattle.icu_beginnings.specs.KeyBeginnings.{begins}
 use Rattle.icu_keyed_names.specs.KeyedLists.{Keyed, beginning_with, between, names_in, placed}
-use Rattle.icu_keyed_names.specs.declared.borders.Border.{Border}
 use Rattle.icu_keyed_names.specs.declared.borders.Border.TheVariants.{Before, Behind}
 use Rattle.icu_index.specs.Listings.{name_begins, name_order, inserted, equal_names, names_beginning, names_between}
 use Rattle.icu_text_beginnings.specs.TextBeginnings.{lower_bound}
