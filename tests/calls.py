@@ -25,7 +25,7 @@ METHOD = re.compile(r"(?:<[^(]*>)?\(\s*(?:&(?:'\w+ )?)?(?:mut )?self\b")
 # How the driver comes to a value of a type that it doesn't name.
 VALUES = {"CollatorBorrowed": "as_borrowed"}
 # Programs, and crates of tests: what the driver asks about are libraries.
-OTHERS = {"collate", "collate_cldr", "collate_commands", "sort_names", "test_checked_root", "test_contracts", "test_readers",
+OTHERS = {"collate", "collate_cldr", "collate_commands", "sort_names", "test_checked_root", "test_contracts", "test_lists", "test_readers",
           "test_rule_steps", "test_tailorings", "test_types", DRIVER}
 KEY, CHECK, FILE, READ, LINE, INDEX = "`key`", "`check`", "`root`", "`next` and `whole`", "`line`", "`names`"
 # Calls to which no question comes: each request of this program, or of this crate, is refused or tested by itself; some are run by
@@ -34,6 +34,7 @@ PROGRAM, TYPES, TESTS = "the program `collate-cldr`", "`test_types`", "the crate
 READERS, RULES = "`test_readers`, where no allocation is refused", "`test_rule_steps`, where no allocation is refused"
 ROOTS = "`test_checked_root`, where no allocation is refused"
 TAILORINGS = "`test_tailorings`, where no allocation is refused"
+LISTS = "`test_lists`, where no allocation is refused"
 NAMES = "the program `sort_names`, each of whose requests is refused"
 SEARCHES = "the tests of `icu_text_search`, where no allocation is refused"
 # Calls that nothing makes: those on which no program stands yet (searching, the reader of steps), and one that hands tables
@@ -52,6 +53,14 @@ LEFT_OUT = {
     ("icu_collator", "Collator::from_checked_tables"): TYPES,
     ("icu_collator", "Collator::try_from_tables"): PROGRAM,
     ("icu_collator", "Collator::with_options"): TYPES,
+    ("icu_headings", "Headings::new"): LISTS,
+    ("icu_headings", "Headings::number_of"): LISTS,
+    ("icu_headings", "Headings::of"): LISTS,
+    ("icu_index", "NameIndex::beginning_with"): LISTS,
+    ("icu_key_bounds", "lower_bound_key"): LISTS,
+    ("icu_key_bounds", "upper_bound_key"): LISTS,
+    ("icu_keyed_names", "KeyedNames::beginning_with"): LISTS,
+    ("icu_keyed_starts", "KeyedStarts::insert"): LISTS,
     ("icu_ldml", "CollationFile::parse"): READERS,
     ("icu_locale", "LanguageTag::collation_type"): READERS,
     ("icu_locale", "LanguageTag::locale"): READERS,

@@ -1,6 +1,5 @@
 -- The order of names is that of their keys.
-use Rattle.std.proofs.Common.{◌≡◌, ℕ, ◌&&◌, Bool, true, false, not, List, [], ◌∷◌, filter, Result, Ok, Err, OnOk, OnErr, if◌then◌else◌, refl, sym, ap, ◌∙◌, subst}
-use Rattle.std.specs.List.{AllByRecursion}
+use Rattle.std.proofs.Common.{◌≡◌, ℕ, ◌&&◌, Bool, true, false, not, List, [], ◌∷◌, Result, Ok, Err, OnOk, OnErr, if◌then◌else◌, refl, sym, ap, ◌∙◌, subst}
 use Rattle.std.specs.Ordering.{is_eq, is_gt, is_le, is_lt}
 use Rattle.std.specs.declared.cmp.Ordering.{Ordering}
 use Rattle.std.specs.declared.cmp.Ordering.TheVariants.{Less, Equal, Greater}
@@ -11,11 +10,13 @@ use Rattle.icu_encodings.proofs.Utf8Lemmas.{utf8_scalars}
 use Rattle.icu_encodings.specs.DecodedTexts.{utf8_text}
 use Rattle.icu_levels.specs.ListOrder.{list_order}
 use Rattle.icu_text_order.proofs.TextOrders.{keys_keep}
-use Rattle.icu_keyed_names.specs.Borders.{lies_before}
-use Rattle.icu_keyed_names.specs.KeyedLists.{Keyed, between, names_in, placed}
-use Rattle.icu_keyed_names.specs.declared.borders.Border.{Border}
+use Rattle.icu_beginnings.specs.KeyBeginnings.{begins}
+use Rattle.icu_keyed_names.specs.KeyedLists.{Keyed, beginning_with, between, names_in, placed}
 use Rattle.icu_keyed_names.specs.declared.borders.Border.TheVariants.{Before, Behind}
-use Rattle.icu_index.specs.Listings.{name_order, inserted, equal_names, names_between}
+use Rattle.icu_index.specs.Listings.{name_begins, name_order, inserted, equal_names, names_beginning, names_between}
+use Rattle.icu_text_beginnings.specs.TextBeginnings.{lower_bound}
+use Rattle.icu_text_beginnings.proofs.TextBeginningLemmas.{key_begins}
+use Rattle.icu_text_order.specs.Collations.{Collation}
 use Rattle.icu_index.specs.inner.NameKeys.{AreKeyed, key_of}
 use Rattle.std.specs.Borrow.{Bor}
 
@@ -85,3 +86,20 @@ module _ (order : List ℕ → List ℕ → Ordering) (key : List ℕ → List �
       → OnOk r (new ≡ placed (k, name) old) → OnErr r (new ≡ old) → AreKeyed key new
   keyed_after (Ok x) name k is old new keyed ok err = subst (AreKeyed key) (sym ok) (still_keyed name k is old keyed)
   keyed_after (Err e) name k is old new keyed ok err = subst (AreKeyed key) (sym err) keyed
+
+-- ---- at the primary level
+
+kept_alike : (a b : Bool) (x : Keyed) (xs : List Keyed) (ys : List (List ℕ)) → a ≡ b → names_in xs ≡ ys
+    → names_in (if a then x ∷ xs else xs) ≡ (if b then x.1 ∷ ys else ys)
+kept_alike true b x xs ys e h = subst (λ c. x.1 ∷ names_in xs ≡ (if c then x.1 ∷ ys else ys)) e (ap (λ zs. x.1 ∷ zs) h)
+kept_alike false b x xs ys e h = subst (λ c. names_in xs ≡ (if c then x.1 ∷ ys else ys)) e h
+
+pub names_begun : (c : Collation) → IsWellFormedTables c.tables → (beginning k : List ℕ) → k ≡ lower_bound c (utf8_text beginning) → (xs : List Keyed) → AreKeyed (key_of c) xs
+    → names_in (beginning_with k xs) ≡ names_beginning c beginning (names_in xs)
+names_begun c well_formed beginning k is [] keyed = refl
+names_begun c well_formed beginning k is (x ∷ xs) keyed =
+    kept_alike (begins k x.0) (name_begins c beginning x.1) x (beginning_with k xs) (names_beginning c beginning (names_in xs))
+    (ap (λ bs. begins bs x.0) is
+    ∙ (ap (begins (lower_bound c (utf8_text beginning))) keyed.0
+    ∙ key_begins c well_formed (utf8_text beginning) (utf8_text x.1) (utf8_scalars beginning) (utf8_scalars x.1)))
+    (names_begun c well_formed beginning k is xs keyed.1)

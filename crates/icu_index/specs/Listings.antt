@@ -1,11 +1,12 @@
 -- The listing of names, by the order of texts and the order of insertion (UTS #10, "Multi-Level Comparison" and
 -- "Compare Sort Keys").
-use Rattle.std.specs.Prelude.{ℕ, ◌&&◌, not, List, [], ◌∷◌, filter, fold, if◌then◌else◌}
+use Rattle.std.specs.Prelude.{ℕ, Bool, ◌&&◌, not, List, [], ◌∷◌, filter, fold, if◌then◌else◌}
 use Rattle.std.specs.List.Sorted.{IsPermutation, IsSorted, IsStable}
 use Rattle.std.specs.Ordering.{is_eq, is_gt, is_lt}
 use Rattle.std.specs.declared.cmp.Ordering.{Ordering}
 use Rattle.icu_checks.specs.WellFormedTables.{IsWellFormedTables}
 use Rattle.icu_encodings.specs.DecodedTexts.{utf8_text}
+use Rattle.icu_text_beginnings.specs.TextBeginnings.{text_begins}
 use Rattle.icu_text_order.specs.Collations.{Collation}
 use Rattle.icu_text_order.specs.TextOrder.{text_order}
 
@@ -25,6 +26,14 @@ equal_names order name names = filter (λ x. is_eq (order x name)) names
 -- the names of a listing that don't compare Less to one name, and compare Less to another
 abbrev pub names_between : (List ℕ → List ℕ → Ordering) → List ℕ → List ℕ → List (List ℕ) → List (List ℕ)
 names_between order from to names = filter (λ x. not (is_lt (order x from)) && is_lt (order x to)) names
+
+-- whether a name begins with another at the primary level
+abbrev pub name_begins : Collation → List ℕ → List ℕ → Bool
+name_begins c beginning name = text_begins c (utf8_text beginning) (utf8_text name)
+
+-- the names of a listing that begin with a name at the primary level
+abbrev pub names_beginning : Collation → List ℕ → List (List ℕ) → List (List ℕ)
+names_beginning c beginning names = filter (λ x. name_begins c beginning x) names
 
 -- the listing of names that were inserted one after another, the first into a listing of none
 abbrev pub listing_of : (List ℕ → List ℕ → Ordering) → List (List ℕ) → List (List ℕ)

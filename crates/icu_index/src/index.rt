@@ -4,11 +4,12 @@ ghost use Rattle.std.specs.Prelude.{◌≡◌, [], ◌++◌, length, IfOk, IsErr
 ghost use Rattle.std.proofs.Props.{props};
 ghost use Rattle.icu_collator.specs.Collators.{collation_borrowed, collation_kept};
 ghost use Rattle.icu_keyed_names.specs.KeyedLists.{keyed_names};
-ghost use Rattle.icu_index.specs.Listings.{equal_names, inserted, names_between};
+ghost use Rattle.icu_index.specs.Listings.{equal_names, inserted, names_beginning, names_between};
 ghost use Rattle.icu_index.specs.inner.NameKeys.{key_of, AreKeyed};
 
 use crate::names::NameIter;
 use icu_collator::{Collator, CollatorBorrowed};
+use icu_key_bounds::lower_bound_key;
 use icu_keyed_names::{Border, KeyedNames};
 use std::alloc::{AllocError, Global};
 
@@ -142,6 +143,19 @@ impl<'a> NameIndex<'a> {
             Border::Before(from.as_slice()),
             Border::Before(to.as_slice()),
         );
+        Ok(NameIter { names })
+    }
+
+    /// The names that begin with a name at the primary level, in order: those whose primary weights begin with all of
+    /// the name's. So "mu" begins "Müller", and a digit that is read as a number begins no longer number. The name
+    /// need not be one of the index. Fails only where an allocation does.
+    pub fn beginning_with(&self, beginning: &[u8]) -> Result<NameIter<'_>, AllocError>
+        ensures { IfOk result (λ names. names_left names
+            ≡ names_beginning (index_collation self.now) beginning.now (listing self.now)) }
+    {
+        self.collator.has_well_formed_tables();
+        let key = lower_bound_key(self.alloc, &self.collator, beginning)?;
+        let names = self.names.beginning_with(key.as_slice())?;
         Ok(NameIter { names })
     }
 }

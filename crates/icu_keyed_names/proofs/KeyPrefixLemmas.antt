@@ -12,7 +12,8 @@ use Rattle.icu_keyed_names.specs.Borders.{border_key, lies_before, stands_before
 use Rattle.icu_keyed_names.specs.declared.borders.Border.{Border}
 use Rattle.icu_keyed_names.specs.declared.borders.Border.TheVariants.{Before, Behind}
 use Rattle.icu_keyed_names.specs.declared.name_entries.Entry.{Entry}
-use Rattle.icu_keyed_names.specs.inner.NameEntries.{AreBytes, entry_before, gathered, key_in, prefix_of}
+use Rattle.icu_keyed_names.specs.inner.NameEntries.{entry_before, gathered, key_in, prefix_of}
+use Rattle.icu_beginnings.specs.KeyBeginnings.{AreBytes}
 
 -- ---- what is worked out
 

@@ -6,3 +6,4 @@ pub mod BufferLemmas
 pub mod KeyedLemmas
 pub mod PlacedLemmas
 pub mod BorderRangeLemmas
+pub mod BeginningRangeLemmas

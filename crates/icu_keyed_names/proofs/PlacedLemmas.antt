@@ -15,7 +15,8 @@ use Rattle.icu_keyed_names.specs.KeyedLists.{Keyed, between, names_in, placed}
 use Rattle.icu_keyed_names.specs.declared.borders.Border.{Border}
 use Rattle.icu_keyed_names.specs.declared.borders.Border.TheVariants.{Behind}
 use Rattle.icu_keyed_names.specs.declared.name_entries.Entry.{Entry}
-use Rattle.icu_keyed_names.specs.inner.NameEntries.{AreBytes, AreEntriesIn, IsEntryIn, IsEntryOf, entry_before, key_in, keyed_in, name_in, buffer_part}
+use Rattle.icu_keyed_names.specs.inner.NameEntries.{AreEntriesIn, IsEntryIn, IsEntryOf, entry_before, key_in, keyed_in, name_in, buffer_part}
+use Rattle.icu_beginnings.specs.KeyBeginnings.{AreBytes}
 use Rattle.icu_keyed_names.specs.inner.Leaves.{IsParted, Parts, Rise, entries_between, entries_of}
 use Rattle.icu_levels.specs.ListOrder.{list_order}
 

@@ -2,6 +2,7 @@
 use Rattle.std.specs.Prelude.{ℕ, not, ◌&&◌, List, [], ◌∷◌, ◌++◌, filter, map, if◌then◌else◌}
 use Rattle.std.specs.Ordering.{is_gt}
 use Rattle.icu_levels.specs.ListOrder.{list_order}
+use Rattle.icu_beginnings.specs.KeyBeginnings.{begins}
 use Rattle.icu_keyed_names.specs.Borders.{lies_before}
 use Rattle.icu_keyed_names.specs.declared.borders.Border.{Border}
 use Rattle.icu_keyed_names.specs.declared.keyed_names.KeyedNames.{KeyedNames}
@@ -25,6 +26,14 @@ placed x (y ∷ ys) = if is_gt (list_order y.0 x.0) then x ∷ y ∷ ys else y �
 -- those whose keys stand behind one border and before another
 abbrev pub between : Border → Border → List Keyed → List Keyed
 between from to xs = filter (λ x. not (lies_before from x.0) && lies_before to x.0) xs
+
+-- those whose keys stand behind a border
+abbrev pub behind_border : Border → List Keyed → List Keyed
+behind_border from xs = filter (λ x. not (lies_before from x.0)) xs
+
+-- those whose keys begin with some bytes
+abbrev pub beginning_with : List ℕ → List Keyed → List Keyed
+beginning_with beginning xs = filter (λ x. begins beginning x.0) xs
 
 -- the names with their keys, in order
 abbrev pub keyed_names : KeyedNames → List Keyed

@@ -1,4 +1,5 @@
 pub use Rattle.icu_levels.specs.ListOrder
+pub use Rattle.icu_beginnings.specs.KeyBeginnings
 pub mod Borders
 pub mod KeyedLists
 pub mod inner

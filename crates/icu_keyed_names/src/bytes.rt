@@ -1,7 +1,8 @@
 //! Parts of a buffer, and the numbers that keys begin with.
 
 ghost use Rattle.std.specs.Prelude.{◌≡◌, slice_index};
-ghost use Rattle.icu_keyed_names.specs.inner.NameEntries.{AreBytes, buffer_part, prefix_of};
+ghost use Rattle.icu_keyed_names.specs.inner.NameEntries.{buffer_part, prefix_of};
+ghost use Rattle.icu_beginnings.specs.KeyBeginnings.{AreBytes};
 
 /// The bytes of a buffer from a start up to an end, none where there are no such bytes.
 pub(crate) fn part(bytes: &[u8], start: usize, end: usize) -> &[u8]

@@ -6,11 +6,12 @@ ghost use Rattle.icu_keyed_names.specs.inner.NameEntries.{keyed_in, AreEntriesIn
 ghost use Rattle.icu_keyed_names.specs.inner.Leaves.{entries_of, AreFilled, Rise, Rise-prop};
 
 use crate::borders::Border;
-use crate::bytes::{all, prefix};
-use crate::leaf_places::find_place;
+use crate::bytes::{all, are_bytes, prefix};
+use crate::leaf_places::{Place, find_place};
 use crate::leaves::add;
 use crate::name_entries::{Entry, Sought};
 use crate::names::{Names, names_between};
+use icu_beginnings::raise;
 use std::alloc::{AllocError, Global};
 
 /// Makes room for more bytes, an eighth of those that there are or more.
@@ -64,7 +65,8 @@ pub struct KeyedNames {
 }
 
 impl KeyedNames {
-    ghost use Rattle.icu_keyed_names.specs.KeyedLists.{between, keyed_names, names_in, names_to_come, placed};
+    ghost use Rattle.icu_keyed_names.specs.KeyedLists.{beginning_with, behind_border, between, keyed_names, names_in, names_to_come, placed};
+    ghost use Rattle.icu_keyed_names.specs.inner.NameEntries.{HaveByteKeys};
 
     /// No names. Does not allocate.
     pub fn new(alloc: Global) -> KeyedNames
@@ -139,5 +141,41 @@ impl KeyedNames {
         let first = find_place(bytes, leaves, &Sought::new(from));
         let end = find_place(bytes, leaves, &Sought::new(to));
         names_between(bytes, leaves, first, end)
+    }
+
+    /// The names whose keys stand behind a border, in order. Does not allocate.
+    pub fn behind(&self, from: Border<'_>) -> Names<'_>
+        ensures { names_to_come result
+            ≡ names_in (behind_border from.entry (keyed_names self.now)) }
+    {
+        let bytes = all(&self.bytes);
+        let leaves = self.leaves.as_slice();
+        let first = find_place(bytes, leaves, &Sought::new(from));
+        let end = Place {
+            leaf: leaves.len(),
+            index: 0,
+        };
+        names_between(bytes, leaves, first, end)
+    }
+
+    /// Says of the keys that they are bytes. Does nothing.
+    fn has_byte_keys(&self)
+        ensures { HaveByteKeys (keyed_names self.now) }
+    {
+        let _bytes = all(&self.bytes);
+    }
+
+    /// The names whose keys begin with some bytes, in order. Fails only where an allocation does.
+    pub fn beginning_with(&self, beginning: &[u8]) -> Result<Names<'_>, AllocError>
+        ensures { IfOk result (λ names. names_to_come names
+            ≡ names_in (beginning_with beginning.now (keyed_names self.now))) }
+    {
+        are_bytes(beginning);
+        self.has_byte_keys();
+        let mut end = Vec::from_slice(self.alloc, beginning)?;
+        if raise(&mut end) {
+            return Ok(self.between(Border::Before(beginning), Border::Before(end.as_slice())));
+        }
+        Ok(self.behind(Border::Before(beginning)))
     }
 }

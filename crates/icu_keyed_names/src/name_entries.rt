@@ -1,7 +1,8 @@
 //! Entries of names: where they stand in the buffer.
 
 ghost use Rattle.std.specs.Prelude.{◌≡◌};
-ghost use Rattle.icu_keyed_names.specs.inner.NameEntries.{AreBytes, entry_before, key_in, name_in, prefix_of};
+ghost use Rattle.icu_keyed_names.specs.inner.NameEntries.{entry_before, key_in, name_in, prefix_of};
+ghost use Rattle.icu_beginnings.specs.KeyBeginnings.{AreBytes};
 ghost use Rattle.icu_keyed_names.specs.Borders.{border_key};
 
 use crate::borders::Border;

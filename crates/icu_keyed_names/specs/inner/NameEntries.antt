@@ -1,6 +1,7 @@
 -- Entries of names, and what stands at them in a buffer.
-use Rattle.std.specs.Prelude.{◌≡◌, ℕ, zero, suc, ◌+◌, ◌*◌, ◌<◌, ◌≤◌, Bool, ◌&&◌, List, [], ◌∷◌, length, nat_eq, nat_le, nat_lt, slice_range, if◌then◌else◌}
+use Rattle.std.specs.Prelude.{◌≡◌, ℕ, zero, suc, ◌+◌, ◌*◌, ◌≤◌, Bool, ◌&&◌, List, [], ◌∷◌, length, nat_eq, nat_le, nat_lt, slice_range, if◌then◌else◌}
 use Rattle.std.specs.List.{AllByRecursion}
+use Rattle.icu_beginnings.specs.KeyBeginnings.{AreBytes}
 use Rattle.icu_keyed_names.specs.Borders.{border_key, lies_before}
 use Rattle.icu_keyed_names.specs.declared.borders.Border.{Border}
 use Rattle.icu_keyed_names.specs.declared.name_entries.Entry.{Entry}
@@ -19,9 +20,9 @@ gathered (suc n) value (d ∷ ds) = gathered n (value * 256 + d) ds
 unfoldable pub prefix_of : List ℕ → ℕ
 prefix_of key = gathered 8 0 key
 
--- each number is a byte
-abbrev pub AreBytes : List ℕ → Type 0
-AreBytes xs = AllByRecursion (λ b. b < 256) xs
+-- each key is bytes
+abbrev pub HaveByteKeys : List (List ℕ × List ℕ) → Type 0
+HaveByteKeys xs = AllByRecursion (λ x. AreBytes x.0) xs
 
 -- the key of an entry
 abbrev pub key_in : List ℕ → Entry → List ℕ

@@ -1,6 +1,6 @@
 use Rattle.std.proofs.Common.{subst, sym}
 use Rattle.icu_keyed_names.proofs.PlacedLemmas.{bytes_in}
-use Rattle.icu_keyed_names.specs.inner.NameEntries.{AreBytes}
+use Rattle.icu_beginnings.specs.KeyBeginnings.{AreBytes}
 use Rattle.icu_keyed_names.proofs.bytes.all.Goals as goal
 
 pub returns-clause-bytes : goal.returns-clause-bytes

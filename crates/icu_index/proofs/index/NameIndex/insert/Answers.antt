@@ -1,4 +1,4 @@
-use Rattle.std.proofs.Common.{◌≡◌, ◌∙◌, ◌++◌, ap, sym}
+use Rattle.std.proofs.Common.{◌≡◌, ◌∙◌, ◌++◌, ap}
 use Rattle.std.proofs.lemmas.Result.{on_ok_weaker}
 use Rattle.icu_collator.specs.Collators.{collation_borrowed}
 use Rattle.icu_keyed_names.specs.KeyedLists.{keyed_names, names_in, placed}

@@ -2,7 +2,8 @@ use Rattle.std.proofs.Common.{◌∙◌, ap, map, subst, sym}
 use Rattle.icu_keyed_names.proofs.PlacedLemmas.{entries_parted, names_between}
 use Rattle.icu_keyed_names.specs.Borders.{border_key}
 use Rattle.icu_keyed_names.specs.KeyedLists.{Keyed, between, names_in}
-use Rattle.icu_keyed_names.specs.inner.NameEntries.{AreBytes, AreEntriesIn, entry_before, keyed_in}
+use Rattle.icu_keyed_names.specs.inner.NameEntries.{AreEntriesIn, entry_before, keyed_in}
+use Rattle.icu_beginnings.specs.KeyBeginnings.{AreBytes}
 use Rattle.icu_keyed_names.specs.inner.Leaves.{AreFilled, Parts, Rise, entries_of}
 use Rattle.icu_keyed_names.proofs.keyed_names.KeyedNames.between.Goals as goal
 

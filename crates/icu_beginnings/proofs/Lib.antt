@@ -1,0 +1,4 @@
+pub mod ListBeginningLemmas
+pub mod AboveLemmas
+pub mod PrimaryPlaces
+pub mod StepwiseBeginnings

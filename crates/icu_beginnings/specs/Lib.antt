@@ -1,0 +1,2 @@
+pub mod KeyBeginnings
+pub mod BeginningLaws

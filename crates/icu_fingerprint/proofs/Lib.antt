@@ -1,0 +1,3 @@
+pub mod WordHandings
+pub mod WordForms
+pub mod OneForm

@@ -1,0 +1,3 @@
+pub mod FingerprintForms
+pub mod FormLaws
+pub mod inner

@@ -1,0 +1,2 @@
+pub mod StartKeyLemmas
+pub mod HeadingRuns

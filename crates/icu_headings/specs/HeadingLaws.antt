@@ -1,0 +1,24 @@
+-- The law of headings, as a contract names it.
+use Rattle.std.specs.Prelude.{◌≡◌, ℕ, zero, suc, nat_eq, List, ◌++◌, filter, length}
+use Rattle.std.specs.List.Sorted.{IsSorted}
+use Rattle.icu_checks.specs.WellFormedTables.{IsWellFormedTables}
+use Rattle.icu_encodings.specs.DecodedTexts.{utf8_text}
+use Rattle.icu_text_order.specs.Collations.{Collation}
+use Rattle.icu_text_order.specs.TextOrder.{text_order}
+use Rattle.icu_headings.specs.HeadingLists.{NamedStart, heading_number}
+
+-- the names under the heading of a number
+abbrev pub names_under : Collation → List NamedStart → ℕ → List (List ℕ) → List (List ℕ)
+names_under c starts n names = filter (λ x. nat_eq (heading_number c starts x) n) names
+
+-- the names under each heading up to a number, one heading after another
+abbrev pub names_up_to : Collation → List NamedStart → ℕ → List (List ℕ) → List (List ℕ)
+names_up_to c starts zero names = names_under c starts zero names
+names_up_to c starts (suc n) names = names_up_to c starts n names ++ names_under c starts (suc n) names
+
+-- names that are in order, at any strength, are those under the first heading, then those under the next, and so on
+abbrev pub HeadingsPartNames : Type 0
+HeadingsPartNames =
+    (c : Collation) → IsWellFormedTables c.tables → (starts : List NamedStart) (names : List (List ℕ))
+    → IsSorted (λ x y. text_order c (utf8_text x) (utf8_text y)) names
+    → names_up_to c starts (length starts) names ≡ names

@@ -1,0 +1,3 @@
+pub use Rattle.icu_levels.specs.ListOrder
+pub mod KeyOrders
+pub mod Starts

@@ -1,0 +1,27 @@
+//! One start of a heading.
+
+ghost use Rattle.std.specs.Prelude.{◌≡◌};
+ghost use Rattle.icu_keyed_starts.specs.KeyOrders.{key_order};
+
+use std::cmp::Ordering;
+
+/// Where a heading starts among keys. A start that is no label is a limit: what comes from there on up to the next
+/// start has no label.
+#[derive(Debug, Drop)]
+pub struct Start {
+    /// The least key under the heading.
+    pub key: Vec<u8>,
+    /// The text that has this key.
+    pub name: Vec<u8>,
+    /// Whether the text is the heading's label.
+    pub is_label: bool,
+}
+
+impl Start {
+    /// How the start's key compares with another.
+    pub(crate) fn order(&self, key: &[u8]) -> Ordering
+        ensures { result ≡ key_order key.now self.now }
+    {
+        self.key.as_slice().cmp(key)
+    }
+}

@@ -1,0 +1,3 @@
+pub use Rattle.icu_beginnings.specs.KeyBeginnings
+pub mod TextBeginnings
+pub mod TextBeginningLaws
