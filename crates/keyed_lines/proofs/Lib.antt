@@ -1,0 +1,2 @@
+pub mod KeyBufferLemmas
+pub mod LineOrderLemmas
