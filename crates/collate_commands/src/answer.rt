@@ -14,7 +14,7 @@ ghost use Rattle.collate_commands.specs.inner.Shown.{shown};
 
 use crate::command::Command;
 use crate::key_line::key_line;
-use crate::lines::{lines, read_whole};
+use crate::lines::{lines_by, read_whole};
 use crate::program_error::ProgramError;
 use icu_collator::Collator;
 use icu_index::NameIndex;
@@ -24,7 +24,7 @@ use std::cmp::Ordering;
 use std::io::Read;
 
 /// The sign of an order, and a line feed.
-fn sign_line(order: Ordering) -> &'static [u8]
+pub fn sign_line(order: Ordering) -> &'static [u8]
     ensures { result.now ≡ sign_of order ++ 10 ∷ [] }
 {
     match order {
@@ -35,7 +35,7 @@ fn sign_line(order: Ordering) -> &'static [u8]
 }
 
 /// The bytes of the sort key of a text.
-fn sort_key(alloc: Global, collator: &Collator, text: &str) -> Result<Vec<u8>, AllocError>
+pub fn sort_key(alloc: Global, collator: &Collator, text: &str) -> Result<Vec<u8>, AllocError>
     ensures { IfOk result (λ key.
         key.items ≡ text_key (collation_kept collator.now) (chars text.now)) }
 {
@@ -81,7 +81,7 @@ fn sorted_text(alloc: Global, collator: &Collator, bytes: &[u8]) -> Result<Vec<u
         bytes.now output.items) }
 {
     inserts_sort();
-    let lines = lines(alloc, bytes)?;
+    let lines = lines_by(alloc, bytes, b'\n')?;
     let index = index_of(alloc, collator, lines.as_slice())?;
     let text = listing_text(alloc, &index)?;
     Ok(text)

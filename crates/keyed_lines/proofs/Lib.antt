@@ -1,2 +1,3 @@
 pub mod KeyBufferLemmas
 pub mod LineOrderLemmas
+pub mod SortedLineLemmas

@@ -1,0 +1,9 @@
+pub use Rattle.collate_commands.specs.InputLines
+pub use Rattle.icu_index.specs.Listings
+pub use Rattle.keyed_lines.specs.KeyedOrders
+pub mod Disorders
+pub mod Inputs
+pub mod KeyedTexts
+pub mod LineOrders
+pub mod Printed
+pub mod SortedInputs

@@ -1,0 +1,21 @@
+//! How lines are sorted.
+
+use keyed_lines::LineOrder;
+
+/// Which lines are printed of those that compare equal.
+#[derive(Debug, Clone, Copy, PartialEq, Eq)]
+pub enum Repeats {
+    /// Each.
+    All,
+    /// The first of them.
+    FirstOnly,
+}
+
+/// How lines are sorted.
+#[derive(Debug, Clone, Copy, PartialEq, Eq)]
+pub struct SortRequest {
+    pub order: LineOrder,
+    pub repeats: Repeats,
+    /// The byte behind each line.
+    pub separator: u8,
+}
