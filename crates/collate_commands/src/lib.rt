@@ -5,8 +5,8 @@
 pub mod answer;
 pub mod arguments;
 mod command;
+pub mod input_read;
 pub mod key_line;
-pub mod lines;
 pub mod program;
 pub mod program_error;
 pub mod source;
@@ -16,7 +16,7 @@ pub use answer::{sign_line, sort_key};
 pub use arguments::{Input, words};
 pub use command::strength_named;
 pub use key_line::push_hex;
-pub use lines::{lines_by, read_whole};
+pub use input_read::read_whole;
 pub use program::{report, run};
 pub use program_error::{ProgramError, Wording};
 pub use source::CollatorSource;

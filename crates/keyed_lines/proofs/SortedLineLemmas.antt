@@ -1,12 +1,12 @@
 -- Lines that are sorted by their keys are sorted by an order that the keys keep.
-use Rattle.std.proofs.Common.{◌≡◌, ℕ, zero, suc, ◌+◌, ◌<◌, Bool, true, false, not, ◌&&◌, cond, Bor, List, [], ◌∷◌, filter, get_or, length, map, refl, sym, ap, ◌∙◌, subst, arith, add-one}
+use Rattle.std.proofs.Common.{◌≡◌, ℕ, zero, suc, ◌+◌, ◌<◌, Bool, true, false, not, ◌&&◌, cond, List, [], ◌∷◌, filter, get_or, length, map, refl, sym, ap, ◌∙◌, arith}
 use Rattle.std.proofs.lemmas.List.{get_or-map, length-map}
 use Rattle.std.proofs.lemmas.List.Sorted.{All-permutation, IsPermutation-map}
 use Rattle.std.specs.List.{All, AllByRecursion, zip}
 use Rattle.std.specs.List.Sorted.{IsPermutation, IsSorted, IsStable, ties}
 use Rattle.std.specs.Ordering.{is_lt, ordering_then}
 use Rattle.std.specs.declared.cmp.Ordering.{Ordering}
-use Rattle.keyed_lines.specs.KeyBuffers.{pair_of}
+use Rattle.keyed_lines.specs.KeyBuffers.{line_of, pair_of}
 use Rattle.keyed_lines.specs.KeyedOrders.{bytes_of_lines_order, directed, keyed_order, keys_of_lines_order, ordered_as, with_ties}
 use Rattle.keyed_lines.specs.declared.line_order.Direction.{Direction}
 use Rattle.keyed_lines.specs.declared.line_order.Direction.TheVariants.{Ascending, Descending}
@@ -48,11 +48,8 @@ filter_mapped f p (x ∷ xs) = mapped_at f (p (f x)) x (filter (λ y. p (f y)) x
 
 -- ---- lines
 
-abbrev line_of : KeyedLine → List ℕ
-line_of l = l.line.now
-
 module _ (key : List ℕ → List ℕ) where
-  abbrev IsKeyed : KeyedLine → Type 0
+  abbrev pub IsKeyed : KeyedLine → Type 0
   IsKeyed l = l.key.now ≡ key l.line.now
 
   abbrev by_key : List ℕ → List ℕ → Ordering

@@ -8,6 +8,10 @@ use Rattle.keyed_lines.specs.declared.line_order.KeyedLine.{KeyedLine}
 abbrev pub pair_of : KeyedLine → List ℕ × List ℕ
 pair_of l = (l.key.now, l.line.now)
 
+-- its bytes
+abbrev pub line_of : KeyedLine → List ℕ
+line_of l = l.line.now
+
 -- the parts of a buffer from a start on, by where they end
 abbrev pub keys_cut : ℕ → List ℕ → List ℕ → List (List ℕ)
 keys_cut start [] bytes = []

@@ -1,7 +1,7 @@
 -- What is printed of lines that are sorted.
 use Rattle.std.specs.Prelude.{◌≡◌, ℕ, Bool, List, [], ◌∷◌, map, if◌then◌else◌, bytes_eq}
 use Rattle.std.specs.Ordering.{is_eq}
-use Rattle.collate_commands.specs.InputLines.{ended_lines, lines_by}
+use Rattle.keyed_lines.specs.InputLines.{ended_lines, lines_by}
 use Rattle.icu_index.specs.Listings.{name_order, IsStablySorted}
 use Rattle.icu_text_order.specs.Collations.{Collation}
 use Rattle.line_commands.specs.LineOrders.{line_order}

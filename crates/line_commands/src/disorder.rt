@@ -1,7 +1,7 @@
 //! Whether lines are in order.
 
 ghost use Rattle.std.specs.Prelude.{◌≡◌, IfOk};
-ghost use Rattle.collate_commands.specs.InputLines.{lines_by};
+ghost use Rattle.keyed_lines.specs.InputLines.{lines_by};
 ghost use Rattle.icu_collator.specs.Collators.{collation_borrowed, collation_kept};
 ghost use Rattle.icu_index.specs.Listings.{name_order};
 ghost use Rattle.icu_levels.specs.ListOrder.{list_order};

@@ -2,7 +2,7 @@
 
 ghost use Rattle.std.specs.Prelude.{◌≡◌, ◌++◌, ◌∷◌, [], IfOk, OnOk};
 ghost use Rattle.std.specs.List.{flat_map};
-ghost use Rattle.collate_commands.specs.InputLines.{lines_by};
+ghost use Rattle.keyed_lines.specs.InputLines.{lines_by};
 ghost use Rattle.collate_commands.specs.KeyText.{hex};
 ghost use Rattle.icu_collator.specs.Collators.{collation_borrowed, collation_kept};
 ghost use Rattle.line_commands.specs.KeyedTexts.{keyed_line, keyed_text};

@@ -4,7 +4,7 @@ ghost use Rattle.std.specs.Prelude.{◌≡◌, ◌++◌, ◌∷◌, [], IfErr, I
 ghost use Rattle.std.specs.Io.KnownBytes.{Appends};
 ghost use Rattle.std.specs.Ordering.{is_eq};
 ghost use Rattle.collate_commands.specs.Answers.{sign_of};
-ghost use Rattle.collate_commands.specs.InputLines.{lines_by};
+ghost use Rattle.keyed_lines.specs.InputLines.{lines_by};
 ghost use Rattle.collate_commands.specs.KeyText.{key_text};
 ghost use Rattle.icu_collator.specs.Collators.{collation_kept};
 ghost use Rattle.icu_text_order.specs.TextOrder.{text_key, text_order};

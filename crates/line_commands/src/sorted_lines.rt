@@ -1,7 +1,7 @@
 //! Lines, sorted by a collator.
 
 ghost use Rattle.std.specs.Prelude.{◌≡◌, ◌++◌, IfOk, OnOk, map};
-ghost use Rattle.collate_commands.specs.InputLines.{lines_by};
+ghost use Rattle.keyed_lines.specs.InputLines.{lines_by};
 ghost use Rattle.icu_checks.specs.WellFormedTables.{IsWellFormedTables};
 ghost use Rattle.icu_collator.specs.Collators.{collation_borrowed, collation_kept, tables_borrowed};
 ghost use Rattle.keyed_lines.specs.KeyBuffers.{keys_in};

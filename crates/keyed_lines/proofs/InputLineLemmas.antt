@@ -2,7 +2,7 @@
 use Rattle.std.proofs.Common.{◌≡◌, ℕ, ◌<◌, ◌==◌, List, [], ◌∷◌, length, refl, arith}
 use Rattle.std.specs.Io.BufRead.{strip_last}
 use Rattle.std.specs.List.{slice_split}
-use Rattle.collate_commands.specs.InputLines.{lines_by}
+use Rattle.keyed_lines.specs.InputLines.{lines_by}
 
 pub no_lines : (separator : ℕ) (bytes : List ℕ) → length bytes ≡ 0 → lines_by separator bytes ≡ []
 no_lines separator [] h = refl

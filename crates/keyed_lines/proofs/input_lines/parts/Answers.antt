@@ -2,7 +2,7 @@
 use Rattle.std.proofs.Common.{rules, tests}
 use Rattle.std.proofs.lemmas.Iterator.Consumers.{map_from_collect}
 use Rattle.std.proofs.lemmas.Iterator.Splits.{YieldsList-from_slice_split}
-use Rattle.collate_commands.proofs.lines.parts.Goals as goal
+use Rattle.keyed_lines.proofs.input_lines.parts.Goals as goal
 
 pub returns : goal.returns
 returns c =

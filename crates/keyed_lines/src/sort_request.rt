@@ -1,6 +1,6 @@
 //! How lines are sorted.
 
-use keyed_lines::LineOrder;
+use crate::line_order::LineOrder;
 
 /// Which lines are printed of those that compare equal.
 #[derive(Debug, Clone, Copy, PartialEq, Eq)]
