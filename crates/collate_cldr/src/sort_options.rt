@@ -1,8 +1,7 @@
 //! How lines are to be sorted, by options.
 
 use clap::ArgMatches;
-use keyed_lines::{Direction, LineOrder, Ties};
-use line_commands::{Repeats, SortRequest};
+use keyed_lines::{Direction, LineOrder, Repeats, SortRequest, Ties};
 
 /// The byte behind each line.
 pub(crate) fn separator_of(matches: &ArgMatches<'_>) -> u8 {

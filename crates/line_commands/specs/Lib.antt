@@ -1,5 +1,6 @@
-pub use Rattle.collate_commands.specs.InputLines
 pub use Rattle.icu_index.specs.Listings
+pub use Rattle.keyed_lines.specs.FirstLines
+pub use Rattle.keyed_lines.specs.InputLines
 pub use Rattle.keyed_lines.specs.KeyedOrders
 pub mod Disorders
 pub mod Inputs

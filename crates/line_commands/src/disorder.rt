@@ -6,13 +6,12 @@ ghost use Rattle.icu_collator.specs.Collators.{collation_borrowed, collation_kep
 ghost use Rattle.icu_index.specs.Listings.{name_order};
 ghost use Rattle.icu_levels.specs.ListOrder.{list_order};
 ghost use Rattle.keyed_lines.specs.KeyedOrders.{with_ties};
+ghost use Rattle.keyed_lines.specs.ShownLines.{shown_lines};
 ghost use Rattle.line_commands.specs.Disorders.{first_disorder, stands_wrong};
 ghost use Rattle.line_commands.specs.LineOrders.{line_order};
 
-use crate::sort_request::{Repeats, SortRequest};
-use collate_commands::lines_by;
 use icu_collator::{Collator, CollatorBorrowed};
-use keyed_lines::{Direction, LineOrder, Ties};
+use keyed_lines::{Direction, LineOrder, Repeats, SortRequest, Ties, lines_by};
 use std::alloc::{AllocError, Global};
 use std::cmp::Ordering;
 
@@ -69,11 +68,21 @@ fn first_wrong(
     collator: &CollatorBorrowed<'_>,
     request: SortRequest,
     lines: &[&[u8]],
-) -> Option<usize> {
-    for index in 1..lines.len() {
-        if stands_wrong(collator, request, lines[index - 1], lines[index]) {
+) -> Option<usize>
+    ensures { result ≡ first_disorder (collation_borrowed collator.now) request
+        (shown_lines lines.now) }
+{
+    let [first, rest @ ..] = lines else {
+        return None;
+    };
+    let mut before = *first;
+    let mut index = 1;
+    for line in rest {
+        if stands_wrong(collator, request, before, line) {
             return Some(index);
         }
+        before = *line;
+        index += 1;
     }
     None
 }

@@ -6,12 +6,9 @@ pub mod input;
 pub mod line_keys_text;
 pub mod printing;
 pub mod sorted_lines;
-pub mod sort_request;
-mod written_lines;
 
 pub use disorder::{disorder_text, first_disorder};
 pub use input::append_input;
 pub use line_keys_text::keys_text;
 pub use printing::{print_comparison, print_key, print_keys, print_sorted};
-pub use sort_request::{Repeats, SortRequest};
 pub use sorted_lines::sorted_text;

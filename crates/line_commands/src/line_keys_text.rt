@@ -8,9 +8,9 @@ ghost use Rattle.icu_collator.specs.Collators.{collation_borrowed, collation_kep
 ghost use Rattle.line_commands.specs.KeyedTexts.{keyed_line, keyed_text};
 
 use crate::sorted_lines::write_line_key;
-use crate::written_lines::push_line;
-use collate_commands::{lines_by, push_hex};
+use collate_commands::push_hex;
 use icu_collator::{Collator, CollatorBorrowed};
+use keyed_lines::{lines_by, push_line};
 use std::alloc::{AllocError, Global};
 
 /// Appends the digits of bytes, two for each.

@@ -13,11 +13,11 @@ ghost use Rattle.line_commands.specs.Printed.{Prints, StopsPrinting};
 ghost use Rattle.line_commands.specs.SortedInputs.{SortsInput};
 
 use crate::line_keys_text::keys_text;
-use crate::sort_request::SortRequest;
 use crate::sorted_lines::sorted_text;
 use collate_commands::key_line::key_line;
 use collate_commands::{ProgramError, sign_line, sort_key, write_text};
 use icu_collator::Collator;
+use keyed_lines::SortRequest;
 use std::alloc::Global;
 use std::io::Write;
 

@@ -1,7 +1,6 @@
 //! Lines, sorted by a collator.
 
 ghost use Rattle.std.specs.Prelude.{◌≡◌, ◌++◌, IfOk, OnOk, map};
-ghost use Rattle.keyed_lines.specs.InputLines.{lines_by};
 ghost use Rattle.icu_checks.specs.WellFormedTables.{IsWellFormedTables};
 ghost use Rattle.icu_collator.specs.Collators.{collation_borrowed, collation_kept, tables_borrowed};
 ghost use Rattle.keyed_lines.specs.KeyBuffers.{keys_in};
@@ -9,11 +8,9 @@ ghost use Rattle.keyed_lines.specs.ShownLines.{shown_lines};
 ghost use Rattle.line_commands.specs.LineOrders.{AreSorted, key_of_line};
 ghost use Rattle.line_commands.specs.SortedInputs.{SortsInput};
 
-use crate::sort_request::SortRequest;
-use crate::written_lines::written_lines;
-use collate_commands::lines_by;
 use icu_collator::{Collator, CollatorBorrowed};
-use keyed_lines::{KeyedLine, LineKeys, LineOrder, sort_keyed_lines};
+use keyed_lines::written_lines::written_lines;
+use keyed_lines::{KeyedLine, LineKeys, LineOrder, SortRequest, lines_by, sort_keyed_lines};
 use std::alloc::{AllocError, Global};
 
 /// Writes the sort key of a line, in UTF-8 that may be damaged, behind other bytes.
