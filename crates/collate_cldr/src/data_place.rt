@@ -1,9 +1,10 @@
 //! Where the data are.
 
+use crate::file_source::refused;
 use clap::ArgMatches;
 use collate_commands::ProgramError;
 use std::alloc::{AllocError, Global};
-use std::env;
+use std::env::{self, VarError};
 use std::rt::Env;
 
 /// Where Debian's package unicode-cldr-core installs CLDR's data.
@@ -30,7 +31,9 @@ pub(crate) fn cldr_folder<R: Env + AllocGlobal>(
     }
     match env::var(rt, "CLDR_DIR") {
         Ok(folder) if !folder.is_empty() => Ok(folder),
-        _ => Ok(USUAL_FOLDER.to_string(rt.alloc())?),
+        Ok(_) | Err(VarError::NotPresent) => Ok(USUAL_FOLDER.to_string(rt.alloc())?),
+        Err(VarError::NotUnicode) => Err(refused(rt.alloc(), "CLDR_DIR", "not in UTF-8")),
+        Err(VarError::OutOfMemory) => Err(ProgramError::NoMemory),
     }
 }
 

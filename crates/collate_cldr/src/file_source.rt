@@ -51,12 +51,19 @@ pub(crate) fn refused_by<E: Display>(alloc: Global, file: &str, error: &E) -> Pr
 }
 
 /// Reads the tables of a file.
-pub(crate) fn read_file<R: Files + AllocGlobal>(rt: &R, file: &str) -> Result<CldrRoot, ProgramError>
+pub(crate) fn read_file<R: Files + AllocGlobal>(
+    rt: &R,
+    file: &str,
+) -> Result<CldrRoot, ProgramError>
     ensures root { IfOk result (λ root. IsRoot (root_tables root)) }
     ensures refused { IfErr result (IsCollatorError (IsLineOf file.now)) }
 {
     let Ok(opened) = fs::open(rt, file) else {
-        return Err(refused(rt.alloc(), file, "not opened; Debian's package unicode-cldr-core has it, and --root or --cldr say where it is"));
+        return Err(refused(
+            rt.alloc(),
+            file,
+            "not opened; Debian's package unicode-cldr-core has it, and --root or --cldr say where it is",
+        ));
     };
     let Ok(reader) = BufReader::new(rt.alloc(), opened) else {
         return Err(ProgramError::NoMemory);

@@ -1,6 +1,7 @@
 //! What lines are read from.
 
 use crate::file_source::refused;
+use clap::ArgMatches;
 use collate_commands::ProgramError;
 use line_commands::append_input;
 use std::fs;
@@ -23,17 +24,14 @@ fn append_file<R: Files + AllocGlobal>(
     }
 }
 
-/// Reads files one behind another, and standard input for the name `-` or where there is no name.
-pub(crate) fn read_inputs<R: Files + AllocGlobal, I: Read>(
+/// Reads files one behind another, and standard input for the name `-`.
+fn read_files<R: Files + AllocGlobal, I: Read>(
     rt: &R,
     files: &[&str],
     separator: u8,
     standard: &mut I,
 ) -> Result<Vec<u8>, ProgramError> {
     let mut input = Vec::new(rt.alloc());
-    if files.is_empty() {
-        append_input(rt.alloc(), &mut input, standard, separator)?;
-    }
     for file in files {
         if *file == "-" {
             append_input(rt.alloc(), &mut input, standard, separator)?;
@@ -42,4 +40,28 @@ pub(crate) fn read_inputs<R: Files + AllocGlobal, I: Read>(
         }
     }
     Ok(input)
+}
+
+/// Reads standard input.
+fn read_standard<R: AllocGlobal, I: Read>(
+    rt: &R,
+    separator: u8,
+    standard: &mut I,
+) -> Result<Vec<u8>, ProgramError> {
+    let mut input = Vec::new(rt.alloc());
+    append_input(rt.alloc(), &mut input, standard, separator)?;
+    Ok(input)
+}
+
+/// Reads the files that are named one behind another, or standard input where none is.
+pub(crate) fn read_inputs<R: Files + AllocGlobal, I: Read>(
+    rt: &R,
+    matches: &ArgMatches<'_>,
+    separator: u8,
+    standard: &mut I,
+) -> Result<Vec<u8>, ProgramError> {
+    match matches.get_strs("FILE") {
+        Some(files) if !files.is_empty() => read_files(rt, files, separator, standard),
+        _ => read_standard(rt, separator, standard),
+    }
 }

@@ -1,6 +1,6 @@
 //! The collator that options ask for.
 
-ghost use Rattle.std.specs.Prelude.{◌×◌, IfOk};
+ghost use Rattle.std.specs.Prelude.{IfOk};
 ghost use Rattle.icu_checks.specs.WellFormedTables.{IsWellFormedTables};
 ghost use Rattle.icu_collator.specs.Collators.{collation_kept, tables_kept};
 

@@ -1,5 +1,7 @@
 //! One run of the program.
 
+ghost use Rattle.std.specs.Prelude.{◌≤◌, IfOk};
+
 use crate::data_place::root_file;
 use crate::file_source::read_file;
 use crate::inputs::read_inputs;
@@ -8,8 +10,8 @@ use crate::neighbours_counts::print_neighbours;
 use crate::output_file::replace_file;
 use crate::sort_options::{separator_of, sort_request_of};
 use crate::words;
-use clap::error::Error;
 use clap::ArgMatches;
+use clap::error::{Error, ErrorKind};
 use collate_commands::{ProgramError, write_text};
 use line_commands::{
     disorder_text, first_disorder, print_comparison, print_key, print_keys, print_sorted,
@@ -23,7 +25,7 @@ const VERSION: &str = "0.1";
 
 /// The status of a run: nothing is wrong.
 const DONE: u8 = 0;
-/// Lines aren't in order, texts differ, or no line is found.
+/// Lines aren't in order, or texts differ.
 const DIFFERS: u8 = 1;
 /// The words are wrong.
 const WRONG_WORDS: u8 = 2;
@@ -54,14 +56,6 @@ pub(crate) fn report<E: Write>(error: ProgramError, errors: &mut E) -> u8
         }
     }
     FAILED
-}
-
-/// The files that lines are read from.
-fn files_of<'m, 'a>(matches: &'m ArgMatches<'a>) -> &'m [&'a str] {
-    match matches.get_strs("FILE") {
-        Some(files) => files,
-        None => &[],
-    }
 }
 
 /// A text that is required.
@@ -112,8 +106,9 @@ fn print_versions<R: Files + Env + AllocGlobal, W: Write>(
         Some(version) => version,
         None => "of an unknown version",
     };
-    let text =
-        format!(in rt.alloc(); "collate-cldr {VERSION}\nroot collation: Unicode {unicode}, {file}\n")?;
+    let text = format!(in rt.alloc();
+        "collate-cldr {VERSION}\nroot collation: Unicode {unicode}, {file}\n"
+    )?;
     print(text.as_str(), output)
 }
 
@@ -130,7 +125,7 @@ fn check<R: Files + Env + AllocGlobal, I: Read, E: Write>(
 {
     let request = sort_request_of(matches);
     let collator = made_collator(rt, matches)?;
-    let bytes = read_inputs(rt, files_of(matches), request.separator, input)?;
+    let bytes = read_inputs(rt, matches, request.separator, input)?;
     let Some(index) = first_disorder(rt.alloc(), &collator, bytes.as_slice(), request)? else {
         return Ok(DONE);
     };
@@ -152,7 +147,7 @@ fn sort<R: Files + Env + AllocGlobal, I: Read, W: Write>(
 {
     let request = sort_request_of(matches);
     let collator = made_collator(rt, matches)?;
-    let bytes = read_inputs(rt, files_of(matches), request.separator, input)?;
+    let bytes = read_inputs(rt, matches, request.separator, input)?;
     match matches.get_str("output") {
         Some(file) => {
             let text = sorted_text(rt.alloc(), &collator, bytes.as_slice(), request)?;
@@ -172,7 +167,12 @@ fn compare<R: Files + Env + AllocGlobal, W: Write>(
     ensures { IfOk result (λ status. status ≤ 3) }
 {
     let collator = made_collator(rt, matches)?;
-    let is_equal = print_comparison(&collator, text_of(matches, "A"), text_of(matches, "B"), output)?;
+    let is_equal = print_comparison(
+        &collator,
+        text_of(matches, "A"),
+        text_of(matches, "B"),
+        output,
+    )?;
     Ok(if is_equal { DONE } else { DIFFERS })
 }
 
@@ -200,7 +200,7 @@ fn keys<R: Files + Env + AllocGlobal, I: Read, W: Write>(
 {
     let separator = separator_of(matches);
     let collator = made_collator(rt, matches)?;
-    let bytes = read_inputs(rt, files_of(matches), separator, input)?;
+    let bytes = read_inputs(rt, matches, separator, input)?;
     print_keys(rt.alloc(), &collator, bytes.as_slice(), separator, output)?;
     Ok(DONE)
 }
@@ -234,7 +234,7 @@ const NO_COMMAND: &str = "collate-cldr: no command; --help says which there are\
 /// Makes one run of the program over the words behind its name, and returns the status that it ends with.
 ///
 /// - 0: nothing is wrong.
-/// - 1: lines aren't in order, texts differ, or no line is found.
+/// - 1: lines aren't in order, or texts differ.
 /// - 2: the words are wrong; `errors` says which.
 /// - 3: data, memory, input or output are missing or fail; `errors` says which.
 ///
@@ -278,6 +278,9 @@ fn run_wrong_words<R: AllocGlobal, W: Write, E: Write>(
 ) -> u8
     ensures { result ≤ 3 }
 {
+    if error.kind() == ErrorKind::OutOfMemory {
+        return report(ProgramError::NoMemory, errors);
+    }
     let Ok(text) = error.to_string(rt.alloc()) else {
         return report(ProgramError::NoMemory, errors);
     };

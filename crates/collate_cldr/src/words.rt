@@ -15,12 +15,15 @@ static STRENGTHS: [&str; 10] = [
     "quaternary",
     "identical",
 ];
+
 static HANDLINGS: [&str; 3] = ["non-ignorable", "shifted", "blanked"];
+
 static CASES: [&str; 3] = ["off", "lower", "upper"];
+
 static GROUPS: [&str; 4] = ["space", "punctuation", "symbol", "currency"];
 
 const ABOUT: &str =
-    "Compares texts, and sorts, checks and searches lines, by the Unicode Collation Algorithm with CLDR's root collation: \
+    "Compares texts, and sorts, checks and shows lines, by the Unicode Collation Algorithm with CLDR's root collation: \
 the same order on every machine.";
 
 const AFTER: &str = "\
@@ -30,13 +33,12 @@ Examples:
   collate-cldr sort --numeric -o files files     numbers by their value; the file is replaced
   collate-cldr compare ångström zebra            prints <
   collate-cldr check list.txt                    status 1 and the first line out of order
-  collate-cldr search --strength 1 -n resume *   lines with resume, Résumé, ..
 
 Data: FractionalUCA.txt of CLDR, which the option --root names, or else stands in common/uca of the folder that the \
 option --cldr or the environment's CLDR_DIR names, or else in /usr/share/unicode/cldr, where Debian's package \
 unicode-cldr-core installs it.
 
-Status: 0, 1 (not in order, texts differ, no line found), 2 (wrong words), 3 (data, memory, input or output).";
+Status: 0, 1 (not in order, texts differ), 2 (wrong words), 3 (data, memory, input or output).";
 
 /// An option without a value.
 fn flag<'a>(alloc: Global, id: &'a str, help: &'a str) -> Arg<'a> {
@@ -71,61 +73,57 @@ fn with_data<'a>(alloc: Global, command: Command<'a>) -> Result<Command<'a>, All
 /// A command with the options for settings of the order.
 fn with_settings<'a>(alloc: Global, command: Command<'a>) -> Result<Command<'a>, AllocError> {
     command
-        .arg(
-            valued(
-                alloc,
-                "locale",
-                "TAG",
-                "The language, with settings as in en-u-kn-ks-level1",
-            )
-            .short('l'),
-        )?
-        .arg(
-            valued(alloc, "strength", "LEVEL", "How many levels count; tertiary if none is said")
-                .value_parser(STRENGTHS.as_slice()),
-        )?
-        .arg(
-            valued(
-                alloc,
-                "alternate",
-                "HOW",
-                "How spaces and punctuation count",
-            )
-            .value_parser(HANDLINGS.as_slice()),
-        )?
-        .arg(
-            valued(
-                alloc,
-                "max-variable",
-                "GROUP",
-                "The last group that the option --alternate is for",
-            )
-            .value_parser(GROUPS.as_slice()),
-        )?
-        .arg(
-            valued(alloc, "case-first", "CASE", "Which case comes first")
-                .value_parser(CASES.as_slice()),
-        )?
+        .arg(valued(
+            alloc,
+            "locale",
+            "TAG",
+            "The language, with settings as in en-u-kn-ks-level1",
+        )
+        .short('l'))?
+        .arg(valued(
+            alloc,
+            "strength",
+            "LEVEL",
+            "How many levels count; tertiary if none is said",
+        )
+        .value_parser(STRENGTHS.as_slice()))?
+        .arg(valued(
+            alloc,
+            "alternate",
+            "HOW",
+            "How spaces and punctuation count",
+        )
+        .value_parser(HANDLINGS.as_slice()))?
+        .arg(valued(
+            alloc,
+            "max-variable",
+            "GROUP",
+            "The last group that the option --alternate is for",
+        )
+        .value_parser(GROUPS.as_slice()))?
+        .arg(valued(alloc, "case-first", "CASE", "Which case comes first").value_parser(
+            CASES.as_slice(),
+        ))?
         .arg(flag(alloc, "case-level", "Case counts on a level of its own"))?
-        .arg(flag(alloc, "numeric", "Digits count by the value of their number"))
+        .arg(flag(
+            alloc,
+            "numeric",
+            "Digits count by the value of their number",
+        ))
 }
 
 /// A command over texts, by its name.
-fn command<'a>(
-    alloc: Global,
-    name: &'a str,
-    about: &'a str,
-) -> Result<Command<'a>, AllocError> {
-    let command = Command::new(alloc, name).about(about);
+fn command<'a>(alloc: Global, name: &'a str, about: &'a str) -> Result<Command<'a>, AllocError> {
+    let command = Command::new(alloc, name)
+        .about(about)
+        .args_override_self(true);
     let command = with_data(alloc, command)?;
     with_settings(alloc, command)
 }
 
 /// A text that is asked for.
 fn text<'a>(alloc: Global, id: &'a str) -> Arg<'a> {
-    Arg::new(alloc, id)
-        .required(true)
-        .allow_hyphen_values(true)
+    Arg::new(alloc, id).required(true).allow_hyphen_values(true)
 }
 
 /// The files that lines are read from.
@@ -160,7 +158,12 @@ fn ordering_command<'a>(
 ) -> Result<Command<'a>, AllocError> {
     line_command(alloc, name, about)?
         .arg(letter(alloc, "reverse", 'r', "The greatest line first"))?
-        .arg(letter(alloc, "unique", 'u', "Of lines that are equal the first alone"))?
+        .arg(letter(
+            alloc,
+            "unique",
+            'u',
+            "Of lines that are equal the first alone",
+        ))?
         .arg(letter(
             alloc,
             "stable",
@@ -172,15 +175,13 @@ fn ordering_command<'a>(
 /// The command `sort`.
 fn sort_command<'a>(alloc: Global) -> Result<Command<'a>, AllocError> {
     ordering_command(alloc, "sort", "Prints the lines of files in order")?
-        .arg(
-            valued(
-                alloc,
-                "output",
-                "OUT",
-                "Writes to this file, which may be one that is read",
-            )
-            .short('o'),
-        )?
+        .arg(valued(
+            alloc,
+            "output",
+            "OUT",
+            "Writes to this file, which may be one that is read",
+        )
+        .short('o'))?
         .arg(letter(
             alloc,
             "merge",
@@ -214,8 +215,12 @@ fn compare_command<'a>(alloc: Global) -> Result<Command<'a>, AllocError> {
 
 /// The command `key`.
 fn key_command<'a>(alloc: Global) -> Result<Command<'a>, AllocError> {
-    command(alloc, "key", "Prints the sort key of a text, byte by byte in hexadecimal digits")?
-        .arg(text(alloc, "TEXT"))
+    command(
+        alloc,
+        "key",
+        "Prints the sort key of a text, byte by byte in hexadecimal digits",
+    )?
+    .arg(text(alloc, "TEXT"))
 }
 
 /// The command `neighbours`, for CLDR's test files.
@@ -231,6 +236,7 @@ fn neighbours_command<'a>(alloc: Global) -> Result<Command<'a>, AllocError> {
 pub(crate) fn program<'a>(alloc: Global) -> Result<Command<'a>, AllocError> {
     let command = Command::new(alloc, "collate-cldr")
         .no_binary_name(true)
+        .bin_name("collate-cldr")?
         .about(ABOUT)
         .after_help(AFTER);
     with_data(alloc, command)?

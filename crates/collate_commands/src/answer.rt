@@ -13,8 +13,8 @@ ghost use Rattle.collate_commands.specs.CollatorErrors.{IsUnanswered, IsUnread};
 ghost use Rattle.collate_commands.specs.inner.Shown.{shown};
 
 use crate::command::Command;
-use crate::key_line::key_line;
 use crate::input_read::read_whole;
+use crate::key_line::key_line;
 use crate::program_error::ProgramError;
 use icu_collator::Collator;
 use icu_index::NameIndex;

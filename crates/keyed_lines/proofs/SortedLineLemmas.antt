@@ -6,7 +6,7 @@ use Rattle.std.specs.List.{All, AllByRecursion, zip}
 use Rattle.std.specs.List.Sorted.{IsPermutation, IsSorted, IsStable, ties}
 use Rattle.std.specs.Ordering.{is_lt, ordering_then}
 use Rattle.std.specs.declared.cmp.Ordering.{Ordering}
-use Rattle.keyed_lines.specs.KeyBuffers.{line_of, pair_of}
+use Rattle.keyed_lines.specs.KeyBuffers.{line_bytes, pair_of}
 use Rattle.keyed_lines.specs.KeyedOrders.{bytes_of_lines_order, directed, keyed_order, keys_of_lines_order, ordered_as, with_ties}
 use Rattle.keyed_lines.specs.declared.line_order.Direction.{Direction}
 use Rattle.keyed_lines.specs.declared.line_order.Direction.TheVariants.{Ascending, Descending}
@@ -57,7 +57,7 @@ module _ (key : List ℕ → List ℕ) where
 
   -- lines with the keys of lines are these lines, with their keys
   pub keyed_as : (keyed : List KeyedLine) (lines : List (List ℕ)) → map pair_of keyed ≡ zip (map key lines) lines
-      → AllByRecursion IsKeyed keyed × (map line_of keyed ≡ lines)
+      → AllByRecursion IsKeyed keyed × (map line_bytes keyed ≡ lines)
   keyed_as [] [] h = (tt, refl)
   keyed_as [] (l ∷ ls) h = absurd (cc)
   keyed_as (k ∷ ks) [] h = absurd (cc)
@@ -65,40 +65,40 @@ module _ (key : List ℕ → List ℕ) where
       let first : pair_of k ≡ (key l, l) = cc in
       let more : map pair_of ks ≡ zip (map key ls) ls = cc in
       let rest = keyed_as ks ls more in
-      let is_line : line_of k ≡ l = ap (λ p. p.1) first in
-      ((ap (λ p. p.0) first ∙ ap key (sym is_line), rest.0), ap (λ m. m ∷ map line_of ks) is_line ∙ ap (λ ms. l ∷ ms) rest.1)
+      let is_line : line_bytes k ≡ l = ap (λ p. p.1) first in
+      ((ap (λ p. p.0) first ∙ ap key (sym is_line), rest.0), ap (λ m. m ∷ map line_bytes ks) is_line ∙ ap (λ ms. l ∷ ms) rest.1)
 
   module _ (o : LineOrder) where
     abbrev order : List ℕ → List ℕ → Ordering
     order = ordered_as o by_key list_order
 
-    by_keys : (x y : KeyedLine) → IsKeyed x → IsKeyed y → keys_of_lines_order x y ≡ by_key (line_of x) (line_of y)
+    by_keys : (x y : KeyedLine) → IsKeyed x → IsKeyed y → keys_of_lines_order x y ≡ by_key (line_bytes x) (line_bytes y)
     by_keys x y h k = ap (λ i. list_order i y.key.now) h ∙ ap (λ i. list_order (key x.line.now) i) k
 
     with_same_ties : (ties : Ties) (x y : KeyedLine) → IsKeyed x → IsKeyed y
-        → with_ties ties keys_of_lines_order bytes_of_lines_order x y ≡ with_ties ties by_key list_order (line_of x) (line_of y)
+        → with_ties ties keys_of_lines_order bytes_of_lines_order x y ≡ with_ties ties by_key list_order (line_bytes x) (line_bytes y)
     with_same_ties AsTheyCame x y h k = by_keys x y h k
-    with_same_ties ByBytes x y h k = ap (λ r. ordering_then r (list_order (line_of x) (line_of y))) (by_keys x y h k)
+    with_same_ties ByBytes x y h k = ap (λ r. ordering_then r (list_order (line_bytes x) (line_bytes y))) (by_keys x y h k)
 
     in_direction : (d : Direction) (ties : Ties) (x y : KeyedLine) → IsKeyed x → IsKeyed y
         → directed d (with_ties ties keys_of_lines_order bytes_of_lines_order) x y
-        ≡ directed d (with_ties ties by_key list_order) (line_of x) (line_of y)
+        ≡ directed d (with_ties ties by_key list_order) (line_bytes x) (line_bytes y)
     in_direction Ascending ties x y h k = with_same_ties ties x y h k
     in_direction Descending ties x y h k = with_same_ties ties y x k h
 
-    same_order : (x y : KeyedLine) → IsKeyed x → IsKeyed y → keyed_order o x y ≡ order (line_of x) (line_of y)
+    same_order : (x y : KeyedLine) → IsKeyed x → IsKeyed y → keyed_order o x y ≡ order (line_bytes x) (line_bytes y)
     same_order x y h k = in_direction o.direction o.ties x y h k
 
-    pub ascends_as : (keyed : List KeyedLine) → AllByRecursion IsKeyed keyed → IsSorted (keyed_order o) keyed → IsSorted order (map line_of keyed)
+    pub ascends_as : (keyed : List KeyedLine) → AllByRecursion IsKeyed keyed → IsSorted (keyed_order o) keyed → IsSorted order (map line_bytes keyed)
     ascends_as keyed are sorted k d low high =
         let none : KeyedLine = record { key = record { ref_ptr = (0, 0); now = [] }; line = record { ref_ptr = (0, 0); now = [] } } in
-        let next : k + 1 < length keyed = omega (arith, high, length-map keyed line_of) in
+        let next : k + 1 < length keyed = omega (arith, high, length-map keyed line_bytes) in
         let here : k < length keyed = omega arith in
         let later = get_or keyed (k + 1) none in
         let first = get_or keyed k none in
         let same = same_order later first (all_at IsKeyed keyed are (k + 1) none next) (all_at IsKeyed keyed are k none here) in
-        ap (λ l. is_lt (order l (get_or (map line_of keyed) k d))) (get_or-map line_of keyed (k + 1) none d next)
-        ∙ (ap (λ l. is_lt (order (line_of later) l)) (get_or-map line_of keyed k none d here)
+        ap (λ l. is_lt (order l (get_or (map line_bytes keyed) k d))) (get_or-map line_bytes keyed (k + 1) none d next)
+        ∙ (ap (λ l. is_lt (order (line_bytes later) l)) (get_or-map line_bytes keyed k none d here)
         ∙ (ap is_lt (sym same) ∙ sorted k none low next))
 
     module _ (z : List ℕ) where
@@ -111,29 +111,29 @@ module _ (key : List ℕ → List ℕ) where
       abbrev tied_lines : List ℕ → Bool
       tied_lines = ties (λ x y. is_lt (order x y)) z
 
-      tied_alike : (l : KeyedLine) → IsKeyed l → tied l ≡ tied_lines (line_of l)
+      tied_alike : (l : KeyedLine) → IsKeyed l → tied l ≡ tied_lines (line_bytes l)
       tied_alike l h =
           ap (λ r. not (is_lt r) && not (is_lt (keyed_order o l keyed_z))) (same_order keyed_z l refl h)
-          ∙ ap (λ r. not (is_lt (order z (line_of l))) && not (is_lt r)) (same_order l keyed_z h refl)
+          ∙ ap (λ r. not (is_lt (order z (line_bytes l))) && not (is_lt r)) (same_order l keyed_z h refl)
 
-      all_tied_alike : (keyed : List KeyedLine) → AllByRecursion IsKeyed keyed → AllByRecursion (λ l. tied l ≡ tied_lines (line_of l)) keyed
+      all_tied_alike : (keyed : List KeyedLine) → AllByRecursion IsKeyed keyed → AllByRecursion (λ l. tied l ≡ tied_lines (line_bytes l)) keyed
       all_tied_alike [] h = tt
       all_tied_alike (k ∷ ks) h = (tied_alike k h.0, all_tied_alike ks h.1)
 
-      kept : (keyed : List KeyedLine) → AllByRecursion IsKeyed keyed → filter tied_lines (map line_of keyed) ≡ map line_of (filter tied keyed)
+      kept : (keyed : List KeyedLine) → AllByRecursion IsKeyed keyed → filter tied_lines (map line_bytes keyed) ≡ map line_bytes (filter tied keyed)
       kept keyed are =
-          filter_mapped line_of tied_lines keyed
-          ∙ ap (map line_of) (sym (filter_alike tied (λ l. tied_lines (line_of l)) keyed (all_tied_alike keyed are)))
+          filter_mapped line_bytes tied_lines keyed
+          ∙ ap (map line_bytes) (sym (filter_alike tied (λ l. tied_lines (line_bytes l)) keyed (all_tied_alike keyed are)))
 
     pub stable_as : (keyed sorted : List KeyedLine) → AllByRecursion IsKeyed keyed → AllByRecursion IsKeyed sorted
-        → IsStable (keyed_order o) keyed sorted → IsStable order (map line_of keyed) (map line_of sorted)
+        → IsStable (keyed_order o) keyed sorted → IsStable order (map line_bytes keyed) (map line_bytes sorted)
     stable_as keyed sorted are still stable z =
-        kept z sorted still ∙ (ap (map line_of) (stable (keyed_z z)) ∙ sym (kept z keyed are))
+        kept z sorted still ∙ (ap (map line_bytes) (stable (keyed_z z)) ∙ sym (kept z keyed are))
 
   -- they have their keys in any order
   pub keyed_still : (keyed sorted : List KeyedLine) → IsPermutation keyed sorted → AllByRecursion IsKeyed keyed → AllByRecursion IsKeyed sorted
   keyed_still keyed sorted moved are =
       all_in IsKeyed sorted (All-permutation IsKeyed keyed sorted moved (all_at IsKeyed keyed are))
 
-  pub lines_moved : (keyed sorted : List KeyedLine) → IsPermutation keyed sorted → IsPermutation (map line_of keyed) (map line_of sorted)
-  lines_moved keyed sorted moved = IsPermutation-map line_of keyed sorted moved
+  pub lines_moved : (keyed sorted : List KeyedLine) → IsPermutation keyed sorted → IsPermutation (map line_bytes keyed) (map line_bytes sorted)
+  lines_moved keyed sorted moved = IsPermutation-map line_bytes keyed sorted moved

@@ -9,8 +9,8 @@ abbrev pub pair_of : KeyedLine → List ℕ × List ℕ
 pair_of l = (l.key.now, l.line.now)
 
 -- its bytes
-abbrev pub line_of : KeyedLine → List ℕ
-line_of l = l.line.now
+abbrev pub line_bytes : KeyedLine → List ℕ
+line_bytes l = l.line.now
 
 -- the parts of a buffer from a start on, by where they end
 abbrev pub keys_cut : ℕ → List ℕ → List ℕ → List (List ℕ)

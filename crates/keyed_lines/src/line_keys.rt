@@ -64,10 +64,7 @@ impl LineKeys {
     /// # Errors
     ///
     /// Fails only where an allocation does.
-    pub fn with_lines<'a>(
-        &'a self,
-        lines: &[&'a [u8]],
-    ) -> Result<Vec<KeyedLine<'a>>, AllocError>
+    pub fn with_lines<'a>(&'a self, lines: &[&'a [u8]]) -> Result<Vec<KeyedLine<'a>>, AllocError>
         ensures { IfOk result (λ keyed.
             map pair_of keyed.items ≡ zip (keys_in self.now) (shown_lines lines.now)) }
     {

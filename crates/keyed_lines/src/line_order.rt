@@ -26,14 +26,18 @@ pub enum Ties {
 /// An order of lines.
 #[derive(Debug, Clone, Copy, PartialEq, Eq)]
 pub struct LineOrder {
+    /// Which of two lines comes first.
     pub direction: Direction,
+    /// How lines with one key stand.
     pub ties: Ties,
 }
 
 /// A line and its sort key. Keys are bytes, compared byte by byte (UTS #10, "Compare Sort Keys").
 #[derive(Debug, Clone, Copy)]
 pub struct KeyedLine<'a> {
+    /// Its sort key.
     pub key: &'a [u8],
+    /// Its bytes, without what ends it.
     pub line: &'a [u8],
 }
 

@@ -14,10 +14,7 @@ use std::cmp::Ordering;
 /// # Errors
 ///
 /// Fails only where an allocation does, and leaves the lines as they were.
-pub fn sort_keyed_lines(
-    lines: &mut Vec<KeyedLine<'_>>,
-    order: LineOrder,
-) -> Result<(), AllocError>
+pub fn sort_keyed_lines(lines: &mut Vec<KeyedLine<'_>>, order: LineOrder) -> Result<(), AllocError>
     ensures permutation { IsPermutation lines.old.items lines.new.items }
     ensures sorted { OnOk result (IsSorted (keyed_order order) lines.new.items) }
     ensures stable { IsStable (keyed_order order) lines.old.items lines.new.items }

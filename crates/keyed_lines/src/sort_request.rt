@@ -14,7 +14,9 @@ pub enum Repeats {
 /// How lines are sorted.
 #[derive(Debug, Clone, Copy, PartialEq, Eq)]
 pub struct SortRequest {
+    /// Their order.
     pub order: LineOrder,
+    /// Which of those that compare equal are printed.
     pub repeats: Repeats,
     /// The byte behind each line.
     pub separator: u8,

@@ -1,9 +1,9 @@
 //! Lines as they are printed.
 
-ghost use Rattle.std.specs.Prelude.{◌≡◌, ◌++◌, ◌∷◌, [], IfOk, OnOk, if◌then◌else◌, map};
-ghost use Rattle.keyed_lines.specs.FirstLines.{firsts, have_one_key, printed};
+ghost use Rattle.std.specs.Prelude.{◌≡◌, ◌++◌, ◌∷◌, [], IfOk, OnOk, map};
+ghost use Rattle.keyed_lines.specs.FirstLines.{firsts, have_one_key, printed, unrepeated};
 ghost use Rattle.keyed_lines.specs.InputLines.{ended_lines};
-ghost use Rattle.keyed_lines.specs.KeyBuffers.{line_of};
+ghost use Rattle.keyed_lines.specs.KeyBuffers.{line_bytes};
 
 use crate::line_order::KeyedLine;
 use crate::sort_request::{Repeats, SortRequest};
@@ -19,12 +19,8 @@ pub fn push_line(text: &mut Vec<u8>, line: &[u8], separator: u8) -> Result<(), A
 }
 
 /// Each line.
-fn each_line(
-    alloc: Global,
-    lines: &[KeyedLine<'_>],
-    separator: u8,
-) -> Result<Vec<u8>, AllocError>
-    ensures { IfOk result (λ text. text.items ≡ ended_lines separator (map line_of lines.now)) }
+fn each_line(alloc: Global, lines: &[KeyedLine<'_>], separator: u8) -> Result<Vec<u8>, AllocError>
+    ensures { IfOk result (λ text. text.items ≡ ended_lines separator (map line_bytes lines.now)) }
 {
     let mut text = Vec::new(alloc);
     for line in lines {
@@ -41,7 +37,7 @@ fn push_other(
     separator: u8,
 ) -> Result<(), AllocError>
     ensures { OnOk result (text.new.items ≡ text.old.items
-        ++ (if have_one_key before.entry line.entry then [] else line.entry.line.now ++ separator ∷ [])) }
+        ++ unrepeated separator before.entry line.entry) }
 {
     if before.key == line.key {
         return Ok(());
@@ -50,13 +46,9 @@ fn push_other(
 }
 
 /// The first line of those that stand together and have one key.
-fn first_lines(
-    alloc: Global,
-    lines: &[KeyedLine<'_>],
-    separator: u8,
-) -> Result<Vec<u8>, AllocError>
+fn first_lines(alloc: Global, lines: &[KeyedLine<'_>], separator: u8) -> Result<Vec<u8>, AllocError>
     ensures { IfOk result (λ text. text.items
-        ≡ ended_lines separator (map line_of (firsts have_one_key lines.now))) }
+        ≡ ended_lines separator (map line_bytes (firsts have_one_key lines.now))) }
 {
     let mut text = Vec::new(alloc);
     let [first, rest @ ..] = lines else {
@@ -82,7 +74,7 @@ pub fn written_lines(
     request: SortRequest,
 ) -> Result<Vec<u8>, AllocError>
     ensures { IfOk result (λ text. text.items ≡ ended_lines request.separator
-        (map line_of (printed request.repeats have_one_key lines.now))) }
+        (map line_bytes (printed request.repeats have_one_key lines.now))) }
 {
     match request.repeats {
         Repeats::All => each_line(alloc, lines, request.separator),

@@ -1,6 +1,5 @@
 -- The order of lines is that of their keys.
 use Rattle.std.proofs.Common.{◌≡◌, sym}
-use Rattle.std.specs.declared.cmp.Ordering.{Ordering}
 use Rattle.icu_checks.specs.WellFormedTables.{IsWellFormedTables}
 use Rattle.icu_collator.specs.Collators.{collation_borrowed, tables_borrowed}
 use Rattle.icu_collator.specs.declared.collator.CollatorBorrowed.{CollatorBorrowed}

@@ -9,9 +9,9 @@ use Rattle.keyed_lines.specs.declared.sort_request.SortRequest.{SortRequest}
 -- a line may not stand behind another: it is less, or where none may be repeated not greater
 abbrev pub stands_wrong : Collation → SortRequest → List ℕ → List ℕ → Bool
 stands_wrong c r before line = elim r.repeats [
-    | repeats.All ↦ is_gt (line_order c r.order before line)
-    | repeats.FirstOnly ↦ is_ge (line_order c r.order before line)
-  ]
+  | repeats.All ↦ is_gt (line_order c r.order before line)
+  | repeats.FirstOnly ↦ is_ge (line_order c r.order before line)
+]
 
 -- of lines behind another, which is the one before this index, the index of the first that may not stand where it does
 abbrev pub disorder_behind : (List ℕ → List ℕ → Bool) → ℕ → List ℕ → List (List ℕ) → Option ℕ

@@ -4,7 +4,7 @@ pub use Rattle.keyed_lines.specs.InputLines
 pub use Rattle.keyed_lines.specs.KeyedOrders
 pub mod Disorders
 pub mod Inputs
-pub mod KeyedTexts
+pub mod LineKeyTexts
 pub mod LineOrders
 pub mod Printed
 pub mod SortedInputs

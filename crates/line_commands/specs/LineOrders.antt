@@ -7,7 +7,7 @@ use Rattle.icu_index.specs.Listings.{name_order, IsStablySorted}
 use Rattle.icu_levels.specs.ListOrder.{list_order}
 use Rattle.icu_text_order.specs.Collations.{Collation}
 use Rattle.icu_text_order.specs.TextOrder.{text_key}
-use Rattle.keyed_lines.specs.KeyBuffers.{line_of}
+use Rattle.keyed_lines.specs.KeyBuffers.{line_bytes}
 use Rattle.keyed_lines.specs.KeyedOrders.{ordered_as}
 use Rattle.keyed_lines.specs.declared.line_order.KeyedLine.{KeyedLine}
 use Rattle.keyed_lines.specs.declared.line_order.LineOrder.{LineOrder}
@@ -23,4 +23,4 @@ line_order c o = ordered_as o (name_order c) list_order
 -- lines with their keys are these lines in order, those of which neither comes first as they stood
 pub record AreSorted (c : Collation) (o : LineOrder) (lines : List (List ℕ)) (list : List KeyedLine) : Type 0 where
   pub keyed : AllByRecursion (λ l. l.key.now ≡ key_of_line c l.line.now) list
-  pub sorted : IsStablySorted (line_order c o) lines (map line_of list)
+  pub sorted : IsStablySorted (line_order c o) lines (map line_bytes list)

@@ -103,11 +103,7 @@ pub fn first_disorder(
         (lines_by request.separator bytes.now)) }
 {
     let lines = lines_by(alloc, bytes, request.separator)?;
-    Ok(first_wrong(
-        &collator.as_borrowed(),
-        request,
-        lines.as_slice(),
-    ))
+    Ok(first_wrong(&collator.as_borrowed(), request, lines.as_slice()))
 }
 
 /// What is said of the line at an index that may not stand where it does: its number, from 1 on, and the line.

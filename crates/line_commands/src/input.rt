@@ -3,7 +3,7 @@
 ghost use Rattle.std.specs.Prelude.{◌≡◌, ◌++◌, List, ℕ, IfErr, OnOk};
 ghost use Rattle.collate_commands.specs.CollatorErrors.{IsUnread};
 ghost use Rattle.collate_commands.specs.InputRead.{TakesWhole};
-ghost use Rattle.line_commands.specs.Inputs.{ended, ends_with};
+ghost use Rattle.line_commands.specs.Inputs.{ended, ends_in};
 
 use collate_commands::{ProgramError, read_whole};
 use keyed_lines::push_line;
@@ -13,7 +13,7 @@ use std::io::Read;
 /// Whether bytes end with a separator; no bytes count as ended.
 #[tactic(auto, using(crate::proofs::EndLemmas::last_end, crate::proofs::EndLemmas::no_end))]
 fn is_ended(bytes: &[u8], separator: u8) -> bool
-    ensures { result ≡ ends_with separator bytes.now }
+    ensures { result ≡ ends_in separator bytes.now }
 {
     if bytes.is_empty() {
         return true;

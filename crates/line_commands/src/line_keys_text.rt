@@ -5,7 +5,7 @@ ghost use Rattle.std.specs.List.{flat_map};
 ghost use Rattle.keyed_lines.specs.InputLines.{lines_by};
 ghost use Rattle.collate_commands.specs.KeyText.{hex};
 ghost use Rattle.icu_collator.specs.Collators.{collation_borrowed, collation_kept};
-ghost use Rattle.line_commands.specs.KeyedTexts.{keyed_line, keyed_text};
+ghost use Rattle.line_commands.specs.LineKeyTexts.{keyed_line, keyed_lines_text};
 
 use crate::sorted_lines::write_line_key;
 use collate_commands::push_hex;
@@ -53,7 +53,7 @@ pub fn keys_text(
     bytes: &[u8],
     separator: u8,
 ) -> Result<Vec<u8>, AllocError>
-    ensures { IfOk result (λ output. output.items ≡ keyed_text (collation_kept collator.now)
+    ensures { IfOk result (λ output. output.items ≡ keyed_lines_text (collation_kept collator.now)
         separator (lines_by separator bytes.now)) }
 {
     let collator = collator.as_borrowed();

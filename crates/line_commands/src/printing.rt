@@ -8,7 +8,7 @@ ghost use Rattle.keyed_lines.specs.InputLines.{lines_by};
 ghost use Rattle.collate_commands.specs.KeyText.{key_text};
 ghost use Rattle.icu_collator.specs.Collators.{collation_kept};
 ghost use Rattle.icu_text_order.specs.TextOrder.{text_key, text_order};
-ghost use Rattle.line_commands.specs.KeyedTexts.{keyed_text};
+ghost use Rattle.line_commands.specs.LineKeyTexts.{keyed_lines_text};
 ghost use Rattle.line_commands.specs.Printed.{Prints, StopsPrinting};
 ghost use Rattle.line_commands.specs.SortedInputs.{SortsInput};
 
@@ -92,12 +92,13 @@ pub fn print_keys<W: Write>(
     separator: u8,
     output: &mut W,
 ) -> Result<(), ProgramError>
-    ensures ok { let text = keyed_text (collation_kept collator.now) separator
+    ensures ok { let text = keyed_lines_text (collation_kept collator.now) separator
         (lines_by separator input.now) in
         OnOk result (Appends (W.contents output.old) (W.contents output.new) text) }
-    ensures stops { let text = keyed_text (collation_kept collator.now) separator
+    ensures stops { let text = keyed_lines_text (collation_kept collator.now) separator
         (lines_by separator input.now) in
-        IfErr result (StopsPrinting (λ t. t ≡ text) (W.contents output.old) (W.contents output.new)) }
+        IfErr result (StopsPrinting (λ t. t ≡ text)
+        (W.contents output.old) (W.contents output.new)) }
 {
     let text = keys_text(alloc, collator, input, separator)?;
     print_text(text.as_slice(), output)

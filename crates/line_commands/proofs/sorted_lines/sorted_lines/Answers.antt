@@ -5,7 +5,7 @@ use Rattle.icu_collator.specs.Collators.{collation_borrowed}
 use Rattle.icu_index.specs.Listings.{IsStablySorted}
 use Rattle.icu_levels.specs.ListOrder.{list_order}
 use Rattle.keyed_lines.proofs.SortedLineLemmas.{ascends_as, keyed_as, keyed_still, lines_moved, stable_as}
-use Rattle.keyed_lines.specs.KeyBuffers.{line_of, pair_of}
+use Rattle.keyed_lines.specs.KeyBuffers.{line_bytes, pair_of}
 use Rattle.keyed_lines.specs.KeyedOrders.{ordered_as}
 use Rattle.keyed_lines.specs.ShownLines.{shown_lines}
 use Rattle.line_commands.proofs.LineNameLemmas.{orders_by_keys}
@@ -26,8 +26,8 @@ returns c =
     record {
       keyed = still;
       sorted =
-          subst (λ r. IsStablySorted (ordered_as o r list_order) lines (map line_of sorted)) (orders_by_keys c.args.collator.now c.requires.well_formed)
-          (subst (λ ls. IsStablySorted (ordered_as o (λ x y. list_order (key x) (key y)) list_order) ls (map line_of sorted)) are.1
+          subst (λ r. IsStablySorted (ordered_as o r list_order) lines (map line_bytes sorted)) (orders_by_keys c.args.collator.now c.requires.well_formed)
+          (subst (λ ls. IsStablySorted (ordered_as o (λ x y. list_order (key x) (key y)) list_order) ls (map line_bytes sorted)) are.1
           (record {
             permutation = lines_moved key keyed sorted moved;
             ascends = ascends_as key o sorted still c.in_ok-sort_keyed_lines.ensures.sorted;

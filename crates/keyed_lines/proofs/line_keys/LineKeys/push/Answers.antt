@@ -11,7 +11,7 @@ invariant_of-self-2 c =
     let end : c.len-end.result ≡ length (old.bytes.items ++ key) = c.len-end.ensures ∙ c.extend_from_slice.new.self.ok.0 ∙ ap length bytes in
     let ok = succeeds c.push.result _ _ c.push.ensures.full c.in_ok-reserve.ensures.ok in
     let ends = pushed c.push.result c.reserve.new.self.items c.push.new.self.items c.len-end.result _ ok end c.push.ensures.items
-        ∙ ap (λ es. es ++ length (old.bytes.items ++ key) ∷ []) c.reserve.ensures.items in
+    ∙ ap (λ es. es ++ length (old.bytes.items ++ key) ∷ []) c.reserve.ensures.items in
     record {
       sound = rw (ends, bytes) (ascends_more 0 old.ends.items (length old.bytes.items) (length (old.bytes.items ++ key)) old.sound (omega (arith, length-append old.bytes.items key)));
     }
@@ -23,5 +23,5 @@ returns-clause-ok c =
     let bytes : c.extend_from_slice.new.self.items ≡ old.bytes.items ++ key = c.in_ok-extend_from_slice.ensures.items in
     let end : c.len-end.result ≡ length (old.bytes.items ++ key) = c.len-end.ensures ∙ c.extend_from_slice.new.self.ok.0 ∙ ap length bytes in
     let ends = c.in_ok-push.ensures.items ∙ ap (λ n. c.reserve.new.self.items ++ n ∷ []) end
-        ∙ ap (λ es. es ++ length (old.bytes.items ++ key) ∷ []) c.reserve.ensures.items in
+    ∙ ap (λ es. es ++ length (old.bytes.items ++ key) ∷ []) c.reserve.ensures.items in
     rw (ends, bytes) (keys_more 0 old.ends.items old.bytes.items key old.sound)

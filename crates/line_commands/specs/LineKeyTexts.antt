@@ -10,5 +10,5 @@ abbrev pub keyed_line : Collation → List ℕ → List ℕ
 keyed_line c line = flat_map hex (key_of_line c line) ++ 9 ∷ line
 
 -- lines so, with a separator after each
-abbrev pub keyed_text : Collation → ℕ → List (List ℕ) → List ℕ
-keyed_text c separator lines = flat_map (λ line. keyed_line c line ++ separator ∷ []) lines
+abbrev pub keyed_lines_text : Collation → ℕ → List (List ℕ) → List ℕ
+keyed_lines_text c separator lines = flat_map (λ line. keyed_line c line ++ separator ∷ []) lines
