@@ -69,7 +69,7 @@ def row(name, count, words, programs, folder):
     writer.start()
     writer.join()
     ours, peers, plain = (f"{lines}.{it}" for it in ("ours", "peers", "plain"))
-    library = least(words.rounds, [programs[0], words.root, "sort", "3"], lines, ours)
+    library = least(words.rounds, [programs[0], "sort", "--root", words.root], lines, ours)
     peer = least(words.rounds, [programs[1]], lines, peers)
     sort = least(words.rounds, ["sort", "--parallel=1"], lines, plain, LC_ALL=LOCALE) if has_locale() else None
     ratios = [mine / theirs for mine, theirs in zip(library, peer)]

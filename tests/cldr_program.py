@@ -5,60 +5,108 @@ import os
 
 from sweeps import REQUESTS, TOP, Run, built, faults_of, losses_missed, run, run_on_streams, says_refusals, sweep, wrapped
 
-USAGE = b"""\
-usage: collate-cldr [OPTION ..] FILE compare STRENGTH A B | key STRENGTH TEXT | sort STRENGTH | neighbours STRENGTH
-FILE is FractionalUCA.txt of CLDR; STRENGTH is 1, 2, 3, 4 or i.
-sort prints the lines of standard input in order.
-neighbours reads lines of characters' numbers, and counts those out of order.
-options: --numeric --shifted --blanked --case-level --case-first=off|lower|upper
-         --max-variable=space|punctuation|symbol|currency | --help
-"""
 LETTERS = os.path.join(TOP, "crates", "collate_cldr", "data", "letters.txt")
 NAMES = "b\ná\nA\na\nb\n10\n9\n".encode()
+NO_DATA = b": not opened; Debian's package unicode-cldr-core has it, and --root or --cldr say where it is\n"
+
+
+def over(command, strength, *words):
+    """A command over the small file, at a strength."""
+    return [command, "--root", LETTERS, "--strength", strength, *words]
+
+
+SORT, KEYS, CHECK = over("sort", "3"), over("keys", "3"), over("check", "3")
 # The words of a run, its input, and the status, output and faults that are wanted.
 RUNS = [
-    ([LETTERS, "compare", "3", "ab", "aB"], b"", 0, b"<\n", b""),
-    ([LETTERS, "compare", "1", "as", "às"], b"", 0, b"=\n", b""),
-    ([LETTERS, "key", "3", "ab"], b"", 0, b"61 10 14 01 06 01 01 06 01\n", b""),
-    ([LETTERS, "key", "i", "a"], b"", 0, b"61 10 01 05 01 01 05 01 01 01 01 92\n", b""),
-    ([LETTERS, "sort", "3"], NAMES, 0, "10\n9\na\nA\ná\nb\nb\n".encode(), b""),
-    (["--numeric", LETTERS, "sort", "3"], NAMES, 0, "9\n10\na\nA\ná\nb\nb\n".encode(), b""),
-    (["--case-first=upper", LETTERS, "sort", "3"], NAMES, 0, "10\n9\nA\na\ná\nb\nb\n".encode(), b""),
-    ([LETTERS, "sort", "1"], b"A\n\xc3\xa1\na", 0, b"A\n\xc3\xa1\na\n", b""),
-    ([LETTERS, "sort", "3"], b"", 0, b"", b""),
-    (["--shifted", LETTERS, "compare", "3", "a-b", "ab"], b"", 0, b"=\n", b""),
-    (["--blanked", LETTERS, "compare", "4", "a-b", "ab"], b"", 0, b"=\n", b""),
-    (["--shifted", "--max-variable=space", LETTERS, "compare", "3", "a-b", "ab"], b"", 0, b"<\n", b""),
-    (["--case-level", LETTERS, "compare", "1", "a", "A"], b"", 0, b"<\n", b""),
-    ([LETTERS, "neighbours", "3"], b"0061\n0041\n0062\n", 0, b"2 pairs, out of order by compare 0, by keys 0; 0 lines passed over\n", b""),
-    ([LETTERS, "neighbours", "3"], b"0062\n0061\n", 1, b"1 pairs, out of order by compare 1, by keys 1; 0 lines passed over\n", b""),
-    ([LETTERS, "neighbours", "1"], b"0041\n0061\n", 0, b"1 pairs, out of order by compare 0, by keys 0; 0 lines passed over\n", b""),
-    (["--help"], b"", 0, USAGE, b""),
-    (["--help", "--help"], b"", 2, b"", USAGE),
-    (["--help", LETTERS, "sort", "3"], NAMES, 2, b"", USAGE),
-    ([LETTERS, "--help"], b"", 2, b"", USAGE),
-    (["none", "sort", "3"], NAMES, 1, b"", b"none: not opened\n"),
-    ([], b"", 2, b"", USAGE),
-    ([LETTERS], b"", 2, b"", USAGE),
-    ([LETTERS, "sort"], NAMES, 2, b"", USAGE),
-    ([LETTERS, "sort", "5"], NAMES, 2, b"", USAGE),
-    ([LETTERS, "key", "3"], b"", 2, b"", USAGE),
-    ([LETTERS, "order", "3", "a", "b"], b"", 2, b"", USAGE),
-    (["none", "order", "3", "a", "b"], b"", 2, b"", USAGE),
-    (["--other", LETTERS, "sort", "3"], b"", 2, b"", USAGE),
+    (over("compare", "3", "ab", "aB"), b"", 1, b"<\n", b""),
+    (over("compare", "tertiary", "aB", "ab"), b"", 1, b">\n", b""),
+    (over("compare", "1", "as", "às"), b"", 0, b"=\n", b""),
+    (["compare", "--root", LETTERS, "ab", "aB"], b"", 1, b"<\n", b""),
+    (["compare", "--root", LETTERS, "-a", "--", "-b"], b"", 1, b"<\n", b""),
+    (over("key", "3", "ab"), b"", 0, b"61 10 14 01 06 01 01 06 01\n", b""),
+    (over("key", "i", "a"), b"", 0, b"61 10 01 05 01 01 05 01 01 01 01 92\n", b""),
+    (over("key", "identical", "a"), b"", 0, b"61 10 01 05 01 01 05 01 01 01 01 92\n", b""),
+    (over("compare", "3", "--alternate=shifted", "a-b", "ab"), b"", 0, b"=\n", b""),
+    (over("compare", "4", "--alternate=blanked", "a-b", "ab"), b"", 0, b"=\n", b""),
+    (over("compare", "3", "--alternate=shifted", "--max-variable=space", "a-b", "ab"), b"", 1, b"<\n", b""),
+    (over("compare", "1", "--case-level", "a", "A"), b"", 1, b"<\n", b""),
+    (SORT, NAMES, 0, "10\n9\na\nA\ná\nb\nb\n".encode(), b""),
+    (over("sort", "3", "--numeric"), NAMES, 0, "9\n10\na\nA\ná\nb\nb\n".encode(), b""),
+    (over("sort", "3", "--case-first=upper"), NAMES, 0, "10\n9\nA\na\ná\nb\nb\n".encode(), b""),
+    (over("sort", "3", "-r"), NAMES, 0, "b\nb\ná\nA\na\n9\n10\n".encode(), b""),
+    (over("sort", "3", "-u"), NAMES, 0, "10\n9\na\nA\ná\nb\n".encode(), b""),
+    (over("sort", "1", "-u"), NAMES, 0, "10\n9\ná\nb\n".encode(), b""),
+    (over("sort", "1", "-ru"), NAMES, 0, "b\ná\n9\n10\n".encode(), b""),
+    # Lines that are equal stand by their bytes, unless they are to stand as they came.
+    (over("sort", "1"), b"\xc3\xa1\na\nA", 0, b"A\na\n\xc3\xa1\n", b""),
+    (over("sort", "1", "-r"), b"\xc3\xa1\na\nA", 0, b"\xc3\xa1\na\nA\n", b""),
+    (over("sort", "1", "-s"), b"\xc3\xa1\na\nA", 0, b"\xc3\xa1\na\nA\n", b""),
+    (over("sort", "1", "-rs"), b"b\n\xc3\xa1\na\nA", 0, b"b\n\xc3\xa1\na\nA\n", b""),
+    (SORT, b"", 0, b"", b""),
+    (SORT, b"\n", 0, b"\n", b""),
+    (SORT, b"b\n\na\n\n", 0, b"\n\na\nb\n", b""),
+    (SORT, b"b\na", 0, b"a\nb\n", b""),
+    (SORT, b"b\r\na\r\n", 0, b"a\r\nb\r\n", b""),
+    (SORT, b"b\ra\n", 0, b"b\ra\n", b""),
+    (SORT, b"b\0\na\0c\n", 0, b"a\0c\nb\0\n", b""),
+    (over("sort", "3", "-z"), b"b\0a\n\0c", 0, b"a\n\0b\0c\0", b""),
+    (SORT, b"b\n\xff\na\xc3\n", 0, b"a\xc3\nb\n\xff\n", b""),
+    (over("sort", "3", "-m"), b"b\na\n", 0, b"a\nb\n", b""),
+    (over("sort", "3", "-c"), b"a\nb\n", 0, b"", b""),
+    (over("sort", "3", "-c"), b"a\nb\nA\n", 1, b"", b"collate-cldr: line 3 is out of order: A\n"),
+    (over("sort", "3", "-C"), b"b\na\n", 1, b"", b""),
+    (CHECK, NAMES, 1, b"", "collate-cldr: line 2 is out of order: á\n".encode()),
+    (CHECK, b"", 0, b"", b""),
+    (over("check", "3", "-q"), NAMES, 1, b"", b""),
+    (over("check", "3", "-r"), b"b\na\n", 0, b"", b""),
+    (over("check", "3", "-u"), b"a\na\n", 1, b"", b"collate-cldr: line 2 is out of order: a\n"),
+    (over("check", "1"), b"a\nA\n", 1, b"", b"collate-cldr: line 2 is out of order: A\n"),
+    (over("check", "1", "-s"), b"a\nA\n", 0, b"", b""),
+    (KEYS, b"b\na\n", 0, b"6114010501010501\tb\n6110010501010501\ta\n", b""),
+    (over("keys", "1", "-z"), b"b\0", 0, b"6114\tb\0", b""),
+    (over("neighbours", "3"), b"0061\n0041\n0062\n", 0, b"2 pairs, out of order by compare 0, by keys 0; 0 lines passed over\n", b""),
+    (over("neighbours", "3"), b"0062\n0061\n", 1, b"1 pairs, out of order by compare 1, by keys 1; 0 lines passed over\n", b""),
+    (over("neighbours", "1"), b"0041\n0061\n", 0, b"1 pairs, out of order by compare 0, by keys 0; 0 lines passed over\n", b""),
+    (["sort", "--root", "none"], NAMES, 3, b"", b"none" + NO_DATA),
+    (["sort", "--cldr", "none"], NAMES, 3, b"", b"none/common/uca/FractionalUCA.txt" + NO_DATA),
+    (over("sort", "3", "absent"), NAMES, 3, b"", b"absent: not opened\n"),
+    (over("sort", "3", "/"), NAMES, 3, b"", b"/: read failed\n"),
+    (over("sort", "3", "-o", "/none/out"), NAMES, 3, b"", b"/none/out: not created\n"),
+    (["compare", "--root", LETTERS, "-l", "und-u-ks-level1", "as", "às"], b"", 0, b"=\n", b""),
+    (["compare", "--root", LETTERS, "-l", "und-u-ks-level1", "--strength=2", "as", "às"], b"", 1, b"<\n", b""),
+    (["compare", "--root", LETTERS, "-l", "und-u-kn", "10", "9"], b"", 1, b">\n", b""),
+    (["compare", "--root", LETTERS, "-l", "und-u-kb", "a", "b"], b"", 3, b"",
+     b"collate-cldr: locale und-u-kb: kb: the secondary level isn't compared from its end yet\n"),
+    (["compare", "--root", LETTERS, "-l", "und-u-kr-latn", "a", "b"], b"", 3, b"",
+     b"collate-cldr: locale und-u-kr-latn: kr: scripts aren't reordered yet\n"),
+    ([], b"", 2, b"", b"collate-cldr: no command; --help says which there are\n"),
 ]
+# Wrong words, and the one that is said to be wrong.
+WRONG_WORDS = [
+    (["order", "a", "b"], "order"),
+    (over("compare", "3", "a"), "<B>"),
+    (over("compare", "3", "a", "b", "c"), "c"),
+    (over("sort", "5"), "5"),
+    (["sort", "--colour"], "--colour"),
+    (["sort", "--case-first=first"], "first"),
+    (["key", "--root", LETTERS], "<TEXT>"),
+    (["sort", "--root"], "--root"),
+    (["--other"], "--other"),
+]
+# Words that ask for help, and some of what it says.
+HELP = [(["--help"], "Status: 0, 1"), (["sort", "--help"], "Usage: collate-cldr sort [OPTIONS] [FILE]..."), (["help", "check"], "--quiet")]
 
 
 # The words, where the streams go, and what is wanted.
 STREAM_RUNS = [
-    (["--help"], "2>&-", 0, USAGE, b""),
-    (["--help"], ">&-", 1, b"", b"collate-cldr: write failed\n"),
-    (["--help"], ">/dev/full", 1, b"", b"collate-cldr: write failed\n"),
-    (["--help", "x"], ">&-", 2, b"", USAGE),
-    ([LETTERS, "compare", "3", "a", "b"], ">/dev/full", 1, b"", b"collate-cldr: write failed\n"),
-    ([LETTERS, "sort", "3"], "</", 1, b"", b"collate-cldr: read failed\n"),
-    ([LETTERS, "neighbours", "3"], "</", 1, b"", b"collate-cldr: read failed\n"),
-    (["/", "sort", "3"], "", 1, b"", b"/: read failed\n"),
+    (["--help"], ">&-", 3, b"", b"collate-cldr: write failed\n"),
+    (["--help"], ">/dev/full", 3, b"", b"collate-cldr: write failed\n"),
+    (over("compare", "3", "a", "b"), ">/dev/full", 3, b"", b"collate-cldr: write failed\n"),
+    (SORT, "</", 3, b"", b"collate-cldr: read failed\n"),
+    (SORT, "<&-", 0, b"", b""),
+    (CHECK, "</", 3, b"", b"collate-cldr: read failed\n"),
+    (over("neighbours", "3"), "</", 3, b"", b"collate-cldr: read failed\n"),
+    (["sort", "--root", "/"], "", 3, b"", b"/: read failed\n"),
 ]
 
 
@@ -72,12 +120,47 @@ def wrong_runs(program):
         ran = run_on_streams(program, words, redirections)
         if ran.came_to() != tuple(wanted):
             found.append(f"{words} {redirections}: {ran}; wanted: {Run(*wanted, None)}")
+    for words, named in WRONG_WORDS:
+        ran = run(program, words)
+        if ran.status != 2 or ran.output or named.encode() not in ran.faults:
+            found.append(f"{words}: {ran}; wanted: status 2, and {named} named")
+    for words, said in HELP:
+        ran = run(program, words)
+        if ran.status or ran.faults or said.encode() not in ran.output:
+            found.append(f"{words}: {ran}; wanted: help with {said}")
     return found
+
+
+def wrong_files(program, room):
+    """Files that are sorted together, and one that is replaced."""
+    one, two, found = os.path.join(room, "one"), os.path.join(room, "two"), []
+
+    def write(path, text):
+        with open(path, "wb") as it:
+            it.write(text)
+
+    def read(path):
+        with open(path, "rb") as it:
+            return it.read()
+
+    write(one, b"c\nA")
+    write(two, b"b\n")
+    ran = run(program, [*SORT, one, "-", two], b"a")
+    if ran.came_to() != (0, b"a\nA\nb\nc\n", b""):
+        found.append(f"two files and standard input: {ran}")
+    ran = run(program, [*SORT, "-o", one, one, two])
+    if ran.came_to() != (0, b"", b"") or read(one) != b"A\nb\nc\n" or sorted(os.listdir(room)).count("one") != 1:
+        found.append(f"a file that is replaced by its lines: {ran}, {read(one)}")
+    ran = run(program, [*SORT, "-o", one, two, "absent"])
+    if ran.status != 3 or read(one) != b"A\nb\nc\n":
+        found.append(f"a file that stays where another is missing: {ran}, {read(one)}")
+    left = [it for it in os.listdir(room) if "unfinished" in it]
+    return found + [f"left behind: {left}"] * bool(left)
 
 
 # ---- options of which both matter
 
-NUMERIC, SHIFTED, BLANKED, LEVEL = "--numeric", "--shifted", "--blanked", "--case-level"
+NUMERIC, SHIFTED, BLANKED, LEVEL = "--numeric", "--alternate=shifted", "--alternate=blanked", "--case-level"
 UPPER, SPACES = "--case-first=upper", "--max-variable=space"
 # Two options, what is asked with options that stand beside them, its input, and what is printed with neither, the first, the
 # second and both. Both print something else than each does alone.
@@ -117,8 +200,10 @@ def wrong_options(program, pairs):
         if pairs is PAIRS:
             chosen, printed = [*chosen, [second, first]], [*printed, printed[-1]]
         for options, lines in zip(chosen, printed):
-            ran = run(program, [*beside, *options, LETTERS, *command], "".join(f"{it}\n" for it in given.split()).encode())
-            if ran.came_to() != (0, lines.encode(), b""):
+            name, strength, *texts = command
+            words = over(name, strength, *beside, *options, *(["-s"] if name == "sort" else []), *texts)
+            ran = run(program, words, "".join(f"{it}\n" for it in given.split()).encode())
+            if ran.came_to() != (int(lines in ("<\n", ">\n")), lines.encode(), b""):
                 found.append(f"{[*beside, *options, *command]}: {ran}; wanted: {lines!r}")
     return found
 
@@ -160,7 +245,7 @@ def counts_of(pairs, greater, passed_over):
 def wrong_counts(program):
     found = []
     for options, strength, *counts in DISORDER:
-        ran = run(program, [*options, LETTERS, "neighbours", strength], TEXTS)
+        ran = run(program, over("neighbours", strength, *options), TEXTS)
         if ran.came_to() != (1, counts_of(*counts), b""):
             found.append(f"{options} at {strength}: {ran}; wanted: {counts_of(*counts)}")
     return found
@@ -186,7 +271,7 @@ def key_over(program, room, name, lines, probe):
     path = os.path.join(room, name)
     with open(path, "w", encoding="utf-8") as it:
         it.write("\n".join(lines) + "\n")
-    ran = run(program, [path, "key", "i", probe])
+    ran = run(program, ["key", "--root", path, "--strength", "i", "--", probe])
     os.remove(path)
     return ran
 
@@ -213,7 +298,7 @@ def wrong_cuts(program, room, cuts):
         name = f"cut-{at}-{end}"
         ran = key_over(program, room, name, [*lines[:at], cut, *lines[at + 1 :]], probe)
         path = os.path.join(room, name)
-        if ran.status == 1 and not ran.output:
+        if ran.status == 3 and not ran.output:
             places = [f"{path}: line {at + 1}: ", f"{path}: at the end: ", f"{path}: collation table "]
             return None if any(ran.faults.startswith(it.encode()) for it in places) else f"{cut!r}: {ran}"
         if ran.came_to() == whole.came_to():
@@ -240,14 +325,14 @@ def wrong_ends(program, room, step=1):
         path, begun = os.path.join(room, f"ends-{end}"), whole[:end]
         with open(path, "wb") as it:
             it.write(begun)
-        ran = run(program, [path, "compare", "3", "a", "b"], b"")
+        ran = run(program, ["compare", "--root", path, "a", "b"], b"")
         os.remove(path)
         said = CUT_OFF if begun else "the file is empty"
-        if ran.status == 0 and end == len(whole) - 1:
+        if ran.status == 1 and not ran.faults and end == len(whole) - 1:
             return None
         if not begun.endswith(b"\n") and ran.faults.startswith(f"{path}: line {begun.count(10) + 1}: expected ".encode()):
             return None
-        right = ran.came_to() == (1, b"", f"{path}: {said}\n".encode())
+        right = ran.came_to() == (3, b"", f"{path}: {said}\n".encode())
         return None if right else f"cut off behind {end} bytes: {ran}"
 
     ends = range(0, len(whole), step)
@@ -258,27 +343,31 @@ def wrong_ends(program, room, step=1):
 
 # ---- each request refused
 
-is_right = says_refusals("collate-cldr", f"{LETTERS}: read failed\n".encode(), b"collate-cldr: read failed\n")
+is_right = says_refusals(
+    "collate-cldr", f"{LETTERS}: read failed\n".encode(), b"collate-cldr: read failed\n", failed=3, answers=(0, 1)
+)
 # Of the allocations that read the file, which are the same for each command, one in so many is refused with all after it; by the
 # commands but the first none is, which leaves so many of the last ones.
 SOME, LAST_ONES = 8, 60
 # The commands, their input, and which of their allocations are refused.
 COMMANDS = [
-    (["sort", "3"], NAMES, lambda at, count, after: not after or at % SOME == 0 or at > count - LAST_ONES),
-    (["compare", "3", "ab", "aB"], b"", lambda at, count, after: at > count - LAST_ONES),
-    (["key", "3", "ab"], b"", lambda at, count, after: at > count - LAST_ONES),
-    (["neighbours", "3"], b"0061\n0041\n0062\n", lambda at, count, after: at > count - LAST_ONES),
+    (SORT, NAMES, lambda at, count, after: not after or at % SOME == 0 or at > count - LAST_ONES),
+    (over("sort", "3", "-u"), NAMES, lambda at, count, after: at > count - LAST_ONES),
+    (over("compare", "3", "ab", "aB"), b"", lambda at, count, after: at > count - LAST_ONES),
+    (over("key", "3", "ab"), b"", lambda at, count, after: at > count - LAST_ONES),
+    (KEYS, NAMES, lambda at, count, after: at > count - LAST_ONES),
+    (CHECK, b"a\nb\n", lambda at, count, after: at > count - LAST_ONES),
+    (over("neighbours", "3"), b"0061\n0041\n0062\n", lambda at, count, after: at > count - LAST_ONES),
 ]
 
 
 def check_refused(report, program, shim):
     for words, given, is_chosen in COMMANDS:
-        words = [LETTERS, *words]
         outcomes = sweep(shim, program, words, given, REQUESTS, is_right, is_chosen)
         plain = run(program, words, given, shim=shim)
-        report.say(f"collate-cldr: each request refused, {words[1]}", faults_of(outcomes), len(outcomes))
+        report.say(f"collate-cldr: each request refused, {words[0]}", faults_of(outcomes), len(outcomes))
         missed = losses_missed(outcomes, plain, is_right)
-        report.say(f"collate-cldr: a loss where a request is refused is found, {words[1]}", missed, len(outcomes))
+        report.say(f"collate-cldr: a loss where a request is refused is found, {words[0]}", missed, len(outcomes))
 
 
 # ---- the run of all, and programs with a fault
@@ -289,8 +378,10 @@ FAULTY = [
      'case $1 in --help) exec "$COLLATE" "$@" >&2;; esac; exec "$COLLATE" "$@"', wrong_runs),
     ("status 0 for words that are no command", '"$COLLATE" "$@"; [ $? = 1 ] && exit 1; exit 0', wrong_runs),
     ("the first of two options alone",
-     'case $1 in --*) one=$1; shift; while case $1 in --*) true;; *) false;; esac; do shift; done; exec "$COLLATE" "$one" "$@";; esac; '
-     'exec "$COLLATE" "$@"', lambda program: wrong_options(program, PAIRS[:4])),
+     'case $6 in --*) a=$1 b=$2 c=$3 d=$4 e=$5 f=$6; shift 6; while case $1 in --*) true;; *) false;; esac; do shift; done; '
+     'exec "$COLLATE" "$a" "$b" "$c" "$d" "$e" "$f" "$@";; esac; exec "$COLLATE" "$@"',
+     lambda program: wrong_options(program, PAIRS[:4])),
+    ("lines that are equal in any order", '"$COLLATE" "$@" | sort', wrong_runs),
     ("the last pair left out", 'sed "\\$d" | sed "\\$d" | "$COLLATE" "$@"', wrong_counts),
     ("no pair out of order by keys", '"$COLLATE" "$@" | sed "s/keys [0-9]*/keys 0/"', wrong_counts),
     ("pairs that are sorted first", 'sort -u | "$COLLATE" "$@"', wrong_counts),
@@ -307,7 +398,10 @@ def faults_missed(room, program):
 
 def check_collate_cldr(report, room, shim):
     program = built("collate_cldr")
-    report.say("collate-cldr: words", wrong_runs(program), len(RUNS) + len(STREAM_RUNS))
+    report.say("collate-cldr: words", wrong_runs(program), len(RUNS) + len(STREAM_RUNS) + len(WRONG_WORDS) + len(HELP))
+    folder = os.path.join(room, "files")
+    os.mkdir(folder)
+    report.say("collate-cldr: files", wrong_files(program, folder), 4)
     report.say("collate-cldr: options of which both matter", wrong_options(program, PAIRS), 5 * len(PAIRS))
     report.say("collate-cldr: options of which the last counts", wrong_options(program, LAST), 4 * len(LAST))
     report.say("collate-cldr: pairs out of order", wrong_counts(program), len(DISORDER))
@@ -317,7 +411,7 @@ def check_collate_cldr(report, room, shim):
     report.say("collate-cldr: each line of a file cut at each place", wrong_cuts(program, room, cuts), len(cuts))
     ends = os.path.getsize(LETTERS)
     report.say("collate-cldr: a file cut off at each place", wrong_ends(program, room), ends)
-    accepting = wrapped(room, "accepting_reader", program, 'printf "[fixed first ignorable tertiary byte 3C]" >>"$1"; "$COLLATE" "$@"')
+    accepting = wrapped(room, "accepting_reader", program, 'printf "[fixed first ignorable tertiary byte 3C]" >>"$3"; "$COLLATE" "$@"')
     missed = [] if wrong_ends(accepting, room, 100) else ["not found: a file that is cut off and read"]
     report.say("collate-cldr: a program that reads a file which is cut off is found", missed, ends // 100)
     some = cuts[len(cuts) // 2 :: 100]

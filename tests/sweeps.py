@@ -159,23 +159,24 @@ def sweep(shim, program, words, given, requests, is_right, is_chosen=every):
         return [*pool.map(lambda it: tried(shim, program, words, given, plain, it, is_right), all_refused)]
 
 
-def says_refusals(name, *read_failures):
+def says_refusals(name, *read_failures, failed=1, answers=(0,)):
     """Says of a program of this name whether it did right: its answer as without a refusal where the request was made again, or
-    the line of the fault; where a read failed, one of some lines."""
+    the line of the fault, with the status for it; where a read failed, one of some lines. A run that answers ends with one of some
+    statuses."""
 
     def is_right(plain, refused, ran):
         if not refused.is_error():
             return ran.came_to() == plain.came_to()
         if refused.request == "allocation":
             asked_again = not refused.also_after and ran.counts["allocation"] > plain.counts["allocation"]
-            is_said = ran.came_to() == (1, b"", f"{name}: no memory\n".encode())
+            is_said = ran.came_to() == (failed, b"", f"{name}: no memory\n".encode())
             return is_said or asked_again and ran.came_to() == plain.came_to()
         if refused.request == "read":
-            return ran.came_to() in [(1, b"", it) for it in read_failures]
-        if plain.status:
+            return ran.came_to() in [(failed, b"", it) for it in read_failures]
+        if plain.status not in answers:
             return ran.status == plain.status and not ran.output and is_beginning(ran.faults, plain.faults)
         said = b"" if refused.also_after else f"{name}: write failed\n".encode()
-        return ran.status == 1 and ran.output != plain.output and is_beginning(ran.output, plain.output) and ran.faults == said
+        return ran.status == failed and ran.output != plain.output and is_beginning(ran.output, plain.output) and ran.faults == said
 
     return is_right
 

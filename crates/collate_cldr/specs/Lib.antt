@@ -1,5 +1,3 @@
-pub mod Choices
-pub mod CldrLines
 pub mod Files
 pub mod Neighbours
 pub mod KeyedTexts

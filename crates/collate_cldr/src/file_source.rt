@@ -1,4 +1,4 @@
-//! The tables of a file as a source of collators.
+//! The tables of a file, and collators by them.
 ghost use Rattle.std.specs.Prelude.{◌≡◌, ◌++◌, ◌∷◌, [], codes, string_bytes, IfOk, IfErr};
 ghost use Rattle.icu_cldr.specs.Roots.{IsRoot, root_tables};
 ghost use Rattle.icu_checks.specs.WellFormedTables.{IsWellFormedTables};
@@ -7,7 +7,7 @@ ghost use Rattle.collate_commands.specs.CollatorErrors.{IsCollatorError};
 ghost use Rattle.collate_cldr.specs.Files.{ComparesAs, IsLineOf};
 
 use crate::choice::Chosen;
-use collate_commands::{CollatorSource, ProgramError};
+use collate_commands::ProgramError;
 use icu_cldr::{CldrRoot, ReadError, read_root};
 use icu_collator::Collator;
 use icu_entries::{DataError, DataErrorKind};
@@ -17,27 +17,6 @@ use std::fmt::Display;
 use std::fs;
 use std::io::BufReader;
 use std::rt::Files;
-
-/// Makes collators by the tables of a file, with the settings that options chose.
-#[derive(Clone, Copy)]
-pub(crate) struct FileSource<'a, R> {
-    pub(crate) rt: &'a R,
-    pub(crate) file: &'a str,
-    pub(crate) chosen: Chosen,
-}
-
-impl<'a, R: Files + AllocGlobal> CollatorSource for FileSource<'a, R> {
-    ghost use Rattle.collate_cldr.specs.Files.{ComparesAs, IsLineOf};
-
-    ghost compares = { λ s strength collation. ComparesAs s.chosen strength collation };
-
-    ghost refuses = { λ s strength line. IsLineOf s.file.now line };
-
-    fn collator(&self, alloc: Global, strength: Strength) -> Result<Collator, ProgramError> {
-        let root = read_file(self.rt, self.file)?;
-        root_collator(alloc, root, self.file, self.chosen, strength)
-    }
-}
 
 /// The line that says of a file what is wrong with it.
 fn line_of(alloc: Global, file: &str, what: &str) -> Result<String, AllocError>
@@ -52,7 +31,7 @@ fn line_of(alloc: Global, file: &str, what: &str) -> Result<String, AllocError>
 }
 
 /// An error that says of a file what is wrong with it.
-fn refused(alloc: Global, file: &str, what: &str) -> ProgramError
+pub(crate) fn refused(alloc: Global, file: &str, what: &str) -> ProgramError
     ensures { IsCollatorError (IsLineOf file.now) result }
 {
     match line_of(alloc, file, what) {
@@ -62,7 +41,7 @@ fn refused(alloc: Global, file: &str, what: &str) -> ProgramError
 }
 
 /// An error that says of a file what is wrong with it, by an error's own text.
-fn refused_by<E: Display>(alloc: Global, file: &str, error: &E) -> ProgramError
+pub(crate) fn refused_by<E: Display>(alloc: Global, file: &str, error: &E) -> ProgramError
     ensures { IsCollatorError (IsLineOf file.now) result }
 {
     match error.to_string(alloc) {
@@ -72,12 +51,19 @@ fn refused_by<E: Display>(alloc: Global, file: &str, error: &E) -> ProgramError
 }
 
 /// Reads the tables of a file.
-fn read_file<R: Files + AllocGlobal>(rt: &R, file: &str) -> Result<CldrRoot, ProgramError>
+pub(crate) fn read_file<R: Files + AllocGlobal>(
+    rt: &R,
+    file: &str,
+) -> Result<CldrRoot, ProgramError>
     ensures root { IfOk result (λ root. IsRoot (root_tables root)) }
     ensures refused { IfErr result (IsCollatorError (IsLineOf file.now)) }
 {
     let Ok(opened) = fs::open(rt, file) else {
-        return Err(refused(rt.alloc(), file, "not opened"));
+        return Err(refused(
+            rt.alloc(),
+            file,
+            "not opened; Debian's package unicode-cldr-core has it, and --root or --cldr say where it is",
+        ));
     };
     let Ok(reader) = BufReader::new(rt.alloc(), opened) else {
         return Err(ProgramError::NoMemory);
@@ -90,7 +76,7 @@ fn read_file<R: Files + AllocGlobal>(rt: &R, file: &str) -> Result<CldrRoot, Pro
 }
 
 /// A collator by the tables that were read from a file, with the chosen settings.
-fn root_collator(
+pub(crate) fn root_collator(
     alloc: Global,
     root: CldrRoot,
     file: &str,

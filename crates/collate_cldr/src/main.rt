@@ -1,19 +1,26 @@
-//! The program `collate-cldr`: compares texts, shows their sort keys and sorts lines by the tables of a file,
-//! FractionalUCA.txt of CLDR.
+//! The program `collate-cldr`: compares texts, and sorts, checks and shows lines by CLDR's root collation.
 #![tactic(auto)]
 
-mod asked;
 mod choice;
+mod data_place;
 mod file_source;
+mod inputs;
+mod locale;
+mod made_collator;
+mod named_settings;
 mod neighbours;
+mod neighbours_counts;
+mod output_file;
 mod program;
+mod sort_options;
+mod words;
 
-use collate_commands::{Input, report, words};
-use program::{run, wording};
+use collate_commands::Input;
+use program::{report, run};
 use std::process::ExitCode;
 
 fn main(rt: HostRuntime) -> ExitCode {
-    let status = match words(&rt) {
+    let status = match collate_commands::words(&rt) {
         Ok(words) => run(
             &rt,
             words.as_slice(),
@@ -21,7 +28,7 @@ fn main(rt: HostRuntime) -> ExitCode {
             &mut rt.stdout(),
             &mut rt.stderr(),
         ),
-        Err(error) => report(error, wording(), &mut rt.stderr()),
+        Err(error) => report(error, &mut rt.stderr()),
     };
     ExitCode::from(status)
 }

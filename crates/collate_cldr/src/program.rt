@@ -1,194 +1,291 @@
 //! One run of the program.
-ghost use Rattle.std.specs.Prelude.{◌≡◌, ◌≤◌, ◌↔◌, None, IfOk, IfSome, map, string_bytes, if◌then◌else◌};
-ghost use Rattle.std.specs.Io.KnownBytes.{Keeps};
-ghost use Rattle.collate_commands.specs.Commands.{command_of};
-ghost use Rattle.collate_commands.specs.ProgramErrors.{lines_in};
-ghost use Rattle.collate_commands.specs.ProgramRuns.{PrintsAnswer, Fails};
-ghost use Rattle.collate_commands.specs.PartialWrites.{AppendsBeginning};
-ghost use Rattle.collate_cldr.specs.CldrLines.{cldr_lines, usage_text};
-ghost use Rattle.collate_cldr.specs.Files.{ComparesAs, IsLineOf};
-ghost use Rattle.collate_cldr.specs.Neighbours.{are_in_order, JudgesInput};
 
-use crate::asked::{Asked, Request};
-use crate::file_source::FileSource;
-use crate::neighbours::{Counts, neighbours};
-use collate_commands::{CollatorSource, ProgramError, Wording, report, strength_named};
-use icu_options::Strength;
+ghost use Rattle.std.specs.Prelude.{◌≤◌, IfOk};
+
+use crate::data_place::root_file;
+use crate::file_source::read_file;
+use crate::inputs::read_inputs;
+use crate::made_collator::made_collator;
+use crate::neighbours_counts::print_neighbours;
+use crate::output_file::replace_file;
+use crate::sort_options::{separator_of, sort_request_of};
+use crate::words;
+use clap::ArgMatches;
+use clap::error::{Error, ErrorKind};
+use collate_commands::{ProgramError, write_text};
+use line_commands::{
+    disorder_text, first_disorder, print_comparison, print_key, print_keys, print_sorted,
+    sorted_text,
+};
 use std::io::{Read, Write};
-use std::rt::Files;
+use std::rt::{Env, Files};
 
-/// What is said of words that are no command, and what `--help` prints.
-const USAGE: &str =
-    "usage: collate-cldr [OPTION ..] FILE compare STRENGTH A B | key STRENGTH TEXT | sort STRENGTH | neighbours STRENGTH
-FILE is FractionalUCA.txt of CLDR; STRENGTH is 1, 2, 3, 4 or i.
-sort prints the lines of standard input in order.
-neighbours reads lines of characters' numbers, and counts those out of order.
-options: --numeric --shifted --blanked --case-level --case-first=off|lower|upper
-         --max-variable=space|punctuation|symbol|currency | --help
-";
+/// The version of the program.
+const VERSION: &str = "0.1";
 
-/// What the program says of its errors.
-pub(crate) fn wording() -> Wording
-    ensures { lines_in result ≡ cldr_lines }
+/// The status of a run: nothing is wrong.
+const DONE: u8 = 0;
+/// Lines aren't in order, or texts differ.
+const DIFFERS: u8 = 1;
+/// The words are wrong.
+const WRONG_WORDS: u8 = 2;
+/// Data, memory, input or output are missing or fail.
+const FAILED: u8 = 3;
+
+/// Writes to standard error what kept the program from its end, and returns the status. That a write fails there
+/// changes nothing.
+pub(crate) fn report<E: Write>(error: ProgramError, errors: &mut E) -> u8
+    ensures { result ≤ 3 }
 {
-    Wording {
-        usage: USAGE,
-        no_memory: "collate-cldr: no memory\n",
-        read_failed: "collate-cldr: read failed\n",
-        write_failed: "collate-cldr: write failed\n",
+    match error {
+        ProgramError::WrongWords => {
+            let _ = write_text(errors, b"collate-cldr: an argument isn't in UTF-8\n");
+            return WRONG_WORDS;
+        }
+        ProgramError::NoMemory => {
+            let _ = write_text(errors, b"collate-cldr: no memory\n");
+        }
+        ProgramError::Refused(line) => {
+            let _ = write_text(errors, line.as_bytes());
+        }
+        ProgramError::ReadFailed => {
+            let _ = write_text(errors, b"collate-cldr: read failed\n");
+        }
+        ProgramError::WriteFailed => {
+            let _ = write_text(errors, b"collate-cldr: write failed\n");
+        }
+    }
+    FAILED
+}
+
+/// A text that is required.
+fn text_of<'a>(matches: &ArgMatches<'a>, id: &str) -> &'a str {
+    match matches.get_str(id) {
+        Some(text) => text,
+        None => "",
     }
 }
 
-/// Makes one run of the program over the words after its name, and returns the status that it ends with.
-///
-/// - 0: the answer stands on `output`, or the usage text where that was asked for.
-/// - 1: neighbours are out of order, and their counts stand on `output`. Or an allocation, a read of `input` or a write
-///   failed, or the file isn't there, isn't read or has tables that fail a condition. `errors` says which, and of the
-///   file where.
-/// - 2: the words are no command. `errors` says what commands there are.
-///
-/// A failed write to `errors` changes no status.
-pub(crate) fn run<R: Files + AllocGlobal, I: Read + Drop, W: Write, E: Write>(
+/// Prints a text that was asked for.
+fn print<W: Write>(text: &str, output: &mut W) -> Result<u8, ProgramError>
+    ensures { IfOk result (λ status. status ≤ 3) }
+{
+    match write_text(output, text.as_bytes()) {
+        Ok(()) => Ok(DONE),
+        Err(_) => Err(ProgramError::WriteFailed),
+    }
+}
+
+/// Says what is wrong with the words, or prints the help that they ask for.
+fn answer_words<W: Write, E: Write>(
+    error: &Error,
+    text: &str,
+    output: &mut W,
+    errors: &mut E,
+) -> Result<u8, ProgramError>
+    ensures { IfOk result (λ status. status ≤ 3) }
+{
+    if error.use_stderr() {
+        let _ = write_text(errors, text.as_bytes());
+        return Ok(WRONG_WORDS);
+    }
+    print(text, output)
+}
+
+/// Prints the versions of the program and of the root's data.
+fn print_versions<R: Files + Env + AllocGlobal, W: Write>(
     rt: &R,
-    words: &[String],
+    matches: &ArgMatches<'_>,
+    output: &mut W,
+) -> Result<u8, ProgramError>
+    ensures { IfOk result (λ status. status ≤ 3) }
+{
+    let file = root_file(rt, matches)?;
+    let root = read_file(rt, file.as_str())?;
+    let unicode = match root.version() {
+        Some(version) => version,
+        None => "of an unknown version",
+    };
+    let text = format!(in rt.alloc();
+        "collate-cldr {VERSION}\nroot collation: Unicode {unicode}, {file}\n"
+    )?;
+    print(text.as_str(), output)
+}
+
+/// Whether lines are in order. Where they are not, and that is to be said, the first line that isn't is printed, with
+/// its number from 1 on.
+fn check<R: Files + Env + AllocGlobal, I: Read, E: Write>(
+    rt: &R,
+    matches: &ArgMatches<'_>,
+    is_quiet: bool,
+    input: &mut I,
+    errors: &mut E,
+) -> Result<u8, ProgramError>
+    ensures { IfOk result (λ status. status ≤ 3) }
+{
+    let request = sort_request_of(matches);
+    let collator = made_collator(rt, matches)?;
+    let bytes = read_inputs(rt, matches, request.separator, input)?;
+    let Some(index) = first_disorder(rt.alloc(), &collator, bytes.as_slice(), request)? else {
+        return Ok(DONE);
+    };
+    if !is_quiet {
+        let said = disorder_text(rt.alloc(), bytes.as_slice(), request, index)?;
+        let _ = write_text(errors, said.as_slice());
+    }
+    Ok(DIFFERS)
+}
+
+/// Prints lines in order, or writes them to the file that is asked for.
+fn sort<R: Files + Env + AllocGlobal, I: Read, W: Write>(
+    rt: &R,
+    matches: &ArgMatches<'_>,
+    input: &mut I,
+    output: &mut W,
+) -> Result<u8, ProgramError>
+    ensures { IfOk result (λ status. status ≤ 3) }
+{
+    let request = sort_request_of(matches);
+    let collator = made_collator(rt, matches)?;
+    let bytes = read_inputs(rt, matches, request.separator, input)?;
+    match matches.get_str("output") {
+        Some(file) => {
+            let text = sorted_text(rt.alloc(), &collator, bytes.as_slice(), request)?;
+            replace_file(rt, file, text.as_slice())?;
+        }
+        None => print_sorted(rt.alloc(), &collator, bytes.as_slice(), request, output)?,
+    }
+    Ok(DONE)
+}
+
+/// Prints the order of two texts.
+fn compare<R: Files + Env + AllocGlobal, W: Write>(
+    rt: &R,
+    matches: &ArgMatches<'_>,
+    output: &mut W,
+) -> Result<u8, ProgramError>
+    ensures { IfOk result (λ status. status ≤ 3) }
+{
+    let collator = made_collator(rt, matches)?;
+    let is_equal = print_comparison(
+        &collator,
+        text_of(matches, "A"),
+        text_of(matches, "B"),
+        output,
+    )?;
+    Ok(if is_equal { DONE } else { DIFFERS })
+}
+
+/// Prints the sort key of a text.
+fn key<R: Files + Env + AllocGlobal, W: Write>(
+    rt: &R,
+    matches: &ArgMatches<'_>,
+    output: &mut W,
+) -> Result<u8, ProgramError>
+    ensures { IfOk result (λ status. status ≤ 3) }
+{
+    let collator = made_collator(rt, matches)?;
+    print_key(rt.alloc(), &collator, text_of(matches, "TEXT"), output)?;
+    Ok(DONE)
+}
+
+/// Prints lines with their keys.
+fn keys<R: Files + Env + AllocGlobal, I: Read, W: Write>(
+    rt: &R,
+    matches: &ArgMatches<'_>,
+    input: &mut I,
+    output: &mut W,
+) -> Result<u8, ProgramError>
+    ensures { IfOk result (λ status. status ≤ 3) }
+{
+    let separator = separator_of(matches);
+    let collator = made_collator(rt, matches)?;
+    let bytes = read_inputs(rt, matches, separator, input)?;
+    print_keys(rt.alloc(), &collator, bytes.as_slice(), separator, output)?;
+    Ok(DONE)
+}
+
+/// What a command does, by its name and what was matched behind it.
+fn run_command<R: Files + Env + AllocGlobal, I: Read + Drop, W: Write, E: Write>(
+    rt: &R,
+    name: &str,
+    matches: &ArgMatches<'_>,
     mut input: I,
     output: &mut W,
     errors: &mut E,
-) -> u8
-    ensures { result ≤ 2 }
+) -> Result<u8, ProgramError>
+    ensures { IfOk result (λ status. status ≤ 3) }
 {
-    match Asked::parse(words) {
-        Some(Asked::Help) => status_of(print(USAGE, output), errors),
-        Some(Asked::Over(request)) => match neighbours_asked(request.words) {
-            Some(strength) => {
-                match print_neighbours(rt, request, strength, input, output) {
-                    Ok(status) => status,
-                    Err(error) => report(error, wording(), errors),
-                }
-            }
-            None => run_command(rt, request, &mut input, output, errors),
-        },
-        None => report(ProgramError::WrongWords, wording(), errors),
+    match name {
+        "sort" if matches.get_flag("check") => check(rt, matches, false, &mut input, errors),
+        "sort" if matches.get_flag("check-quietly") => check(rt, matches, true, &mut input, errors),
+        "sort" => sort(rt, matches, &mut input, output),
+        "check" => check(rt, matches, matches.get_flag("quiet"), &mut input, errors),
+        "compare" => compare(rt, matches, output),
+        "key" => key(rt, matches, output),
+        "keys" => keys(rt, matches, &mut input, output),
+        _ => print_neighbours(rt, matches, input, output),
     }
 }
 
-/// Makes one run of a command over the tables of a file.
-fn run_command<R: Files + AllocGlobal, I: Read, W: Write, E: Write>(
+/// What is said where no command is named.
+const NO_COMMAND: &str = "collate-cldr: no command; --help says which there are\n";
+
+/// Makes one run of the program over the words behind its name, and returns the status that it ends with.
+///
+/// - 0: nothing is wrong.
+/// - 1: lines aren't in order, or texts differ.
+/// - 2: the words are wrong; `errors` says which.
+/// - 3: data, memory, input or output are missing or fail; `errors` says which.
+///
+/// A failed write to `errors` changes no status.
+pub(crate) fn run<R: Files + Env + AllocGlobal, I: Read + Drop, W: Write, E: Write>(
     rt: &R,
-    request: Request<'_>,
-    input: &mut I,
+    words: &[String],
+    input: I,
     output: &mut W,
     errors: &mut E,
 ) -> u8
-    ensures statuses { result ≤ 2 }
-    ensures wrong_words { (result ≡ 2)
-        ↔ (command_of (map string_bytes request.entry.words.now) ≡ None) }
-    ensures usage { result ≡ 2
-        → AppendsBeginning (E.contents errors.old) (E.contents errors.new) usage_text }
-    ensures nothing { result ≡ 2 → Keeps (W.contents output.old) (W.contents output.new) }
-
-    // The answer is by the tables of the file, with the chosen settings.
-    ensures answer { result ≡ 0 → IfSome (command_of (map string_bytes request.entry.words.now))
-        (PrintsAnswer (ComparesAs request.entry.chosen)
-        (I.remaining input.old) (I.remaining input.new)
-        (W.contents output.old) (W.contents output.new)) }
-    ensures no_error { result ≡ 0 → Keeps (E.contents errors.old) (E.contents errors.new) }
-
-    // A file that isn't read, or whose tables are refused, is named.
-    ensures refused { result ≡ 1 → IfSome (command_of (map string_bytes request.entry.words.now))
-        (Fails cldr_lines (ComparesAs request.entry.chosen)
-        (λ strength. IsLineOf request.entry.file.now)
-        (I.remaining input.old) (I.remaining input.new)
-        (W.contents output.old) (W.contents output.new)
-        (E.contents errors.old) (E.contents errors.new)) }
+    ensures { result ≤ 3 }
 {
-    let source = FileSource {
-        rt,
-        file: request.file,
-        chosen: request.chosen,
+    let Ok(command) = words::program(rt.alloc()) else {
+        return report(ProgramError::NoMemory, errors);
     };
-    collate_commands::run(
-        rt.alloc(),
-        &source,
-        wording(),
-        request.words,
-        input,
-        output,
-        errors,
-    )
-}
-
-/// The strength of the command `neighbours`, if words are that.
-fn neighbours_asked(words: &[String]) -> Option<Strength> {
-    match words {
-        [name, strength] if name.as_str() == "neighbours" => strength_named(strength.as_str()),
-        _ => None,
+    let matches = match command.try_get_matches_from(words) {
+        Ok(matches) => matches,
+        Err(error) => return run_wrong_words(rt, &error, output, errors),
+    };
+    let status = match matches.subcommand() {
+        Some((name, inner)) => run_command(rt, name, inner, input, output, errors),
+        None if matches.get_flag("version") => print_versions(rt, &matches, output),
+        None => {
+            let _ = write_text(errors, NO_COMMAND.as_bytes());
+            Ok(WRONG_WORDS)
+        }
+    };
+    match status {
+        Ok(status) => status,
+        Err(error) => report(error, errors),
     }
 }
 
-/// Looks at the lines of the input, prints what was seen, and returns the status: 0 exactly where no pair of neighbours
-/// was out of order, else 1.
-fn print_neighbours<R: Files + AllocGlobal, I: Read + Drop, W: Write>(
+/// Says what is wrong with the words, or prints the help that they ask for, and returns the status.
+fn run_wrong_words<R: AllocGlobal, W: Write, E: Write>(
     rt: &R,
-    request: Request<'_>,
-    strength: Strength,
-    input: I,
+    error: &Error,
     output: &mut W,
-) -> Result<u8, ProgramError>
-    ensures bound { IfOk result (λ status. status ≤ 1) }
-    ensures judged { IfOk result (λ status.
-        JudgesInput (ComparesAs request.entry.chosen strength) (I.remaining input) status) }
+    errors: &mut E,
+) -> u8
+    ensures { result ≤ 3 }
 {
-    let source = FileSource {
-        rt,
-        file: request.file,
-        chosen: request.chosen,
+    if error.kind() == ErrorKind::OutOfMemory {
+        return report(ProgramError::NoMemory, errors);
+    }
+    let Ok(text) = error.to_string(rt.alloc()) else {
+        return report(ProgramError::NoMemory, errors);
     };
-    let collator = source.collator(rt.alloc(), strength)?;
-    let counts = neighbours(rt.alloc(), &collator, input)?;
-    print_counts(counts, output)?;
-    Ok(status_of_counts(counts))
-}
-
-/// The status after counts were printed: 0 exactly where no pair was out of order.
-fn status_of_counts(counts: Counts) -> u8
-    ensures { result ≡ (if are_in_order counts then 0 else 1) }
-{
-    if counts.are_in_order() { 0 } else { 1 }
-}
-
-/// Writes what was seen of lines to the output, and flushes it.
-fn print_counts<W: Write>(counts: Counts, output: &mut W) -> Result<(), ProgramError> {
-    let Counts {
-        pairs,
-        greater,
-        greater_by_keys,
-        passed_over,
-    } = counts;
-    let written = writeln!(
-        output,
-        "{pairs} pairs, out of order by compare {greater}, by keys {greater_by_keys}; {passed_over} lines passed over"
-    );
-    if written.is_err() || output.flush().is_err() {
-        return Err(ProgramError::WriteFailed);
-    }
-    Ok(())
-}
-
-/// Writes a text to the output, and flushes it.
-fn print<W: Write>(text: &str, output: &mut W) -> Result<(), ProgramError> {
-    if output.write_all(text.as_bytes()).is_err() || output.flush().is_err() {
-        return Err(ProgramError::WriteFailed);
-    }
-    Ok(())
-}
-
-/// The status after something was to be printed: says on standard error what kept it from that.
-fn status_of<E: Write>(printed: Result<(), ProgramError>, errors: &mut E) -> u8
-    ensures { result ≤ 2 }
-{
-    match printed {
-        Ok(()) => 0,
-        Err(error) => report(error, wording(), errors),
+    match answer_words(error, text.as_str(), output, errors) {
+        Ok(status) => status,
+        Err(error) => report(error, errors),
     }
 }

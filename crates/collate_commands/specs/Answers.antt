@@ -8,7 +8,7 @@ use Rattle.icu_text_order.specs.TextOrder.{text_order, text_key}
 use Rattle.icu_index.specs.Listings.{name_order, IsStablySorted}
 use Rattle.collate_commands.specs.Commands.{Asked, for_order, for_key, for_sorting, strength_of}
 use Rattle.collate_commands.specs.KeyText.{key_text}
-use Rattle.collate_commands.specs.InputLines.{lines_of, lines_text}
+use Rattle.keyed_lines.specs.InputLines.{lines_of, lines_text}
 
 -- the sign of an order
 abbrev pub sign_of : Ordering → List ℕ

@@ -1,6 +1,6 @@
+pub use Rattle.keyed_lines.specs.InputLines
 pub mod Commands
 pub mod KeyText
-pub mod InputLines
 pub mod InputRead
 pub mod Answers
 pub mod ProgramErrors

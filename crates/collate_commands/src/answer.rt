@@ -7,24 +7,25 @@ ghost use Rattle.icu_index.specs.NameIndexes.{index_collation, listing};
 ghost use Rattle.icu_text_order.specs.TextOrder.{text_key};
 ghost use Rattle.collate_commands.specs.Answers.{IsAnswerBy, SortsLines, sign_of};
 ghost use Rattle.collate_commands.specs.inner.Asked.{asked};
-ghost use Rattle.collate_commands.specs.InputLines.{lines_text};
+ghost use Rattle.keyed_lines.specs.InputLines.{lines_text};
 ghost use Rattle.collate_commands.specs.InputRead.{ReadsFor, TakesWhole};
 ghost use Rattle.collate_commands.specs.CollatorErrors.{IsUnanswered, IsUnread};
 ghost use Rattle.collate_commands.specs.inner.Shown.{shown};
 
 use crate::command::Command;
+use crate::input_read::read_whole;
 use crate::key_line::key_line;
-use crate::lines::{lines, read_whole};
 use crate::program_error::ProgramError;
 use icu_collator::Collator;
 use icu_index::NameIndex;
 use icu_index::laws::inserts_sort;
+use keyed_lines::lines_by;
 use std::alloc::{AllocError, Global};
 use std::cmp::Ordering;
 use std::io::Read;
 
 /// The sign of an order, and a line feed.
-fn sign_line(order: Ordering) -> &'static [u8]
+pub fn sign_line(order: Ordering) -> &'static [u8]
     ensures { result.now ≡ sign_of order ++ 10 ∷ [] }
 {
     match order {
@@ -35,7 +36,7 @@ fn sign_line(order: Ordering) -> &'static [u8]
 }
 
 /// The bytes of the sort key of a text.
-fn sort_key(alloc: Global, collator: &Collator, text: &str) -> Result<Vec<u8>, AllocError>
+pub fn sort_key(alloc: Global, collator: &Collator, text: &str) -> Result<Vec<u8>, AllocError>
     ensures { IfOk result (λ key.
         key.items ≡ text_key (collation_kept collator.now) (chars text.now)) }
 {
@@ -81,7 +82,7 @@ fn sorted_text(alloc: Global, collator: &Collator, bytes: &[u8]) -> Result<Vec<u
         bytes.now output.items) }
 {
     inserts_sort();
-    let lines = lines(alloc, bytes)?;
+    let lines = lines_by(alloc, bytes, b'\n')?;
     let index = index_of(alloc, collator, lines.as_slice())?;
     let text = listing_text(alloc, &index)?;
     Ok(text)

@@ -17,7 +17,7 @@ fn hex_digit(digit: u8) -> u8
 }
 
 /// Appends a byte as two digits.
-fn push_hex(line: &mut Vec<u8>, byte: u8) -> Result<(), AllocError>
+pub fn push_hex(line: &mut Vec<u8>, byte: u8) -> Result<(), AllocError>
     ensures { OnOk result (line.new.items ≡ line.old.items ++ hex byte) }
 {
     line.push(hex_digit(byte / 16))?;
@@ -37,7 +37,7 @@ fn push_spaced(line: &mut Vec<u8>, bytes: &[u8]) -> Result<(), AllocError>
 }
 
 /// The bytes of a key in hexadecimal digits with spaces between, and a line feed.
-pub(crate) fn key_line(alloc: Global, key: &[u8]) -> Result<Vec<u8>, AllocError>
+pub fn key_line(alloc: Global, key: &[u8]) -> Result<Vec<u8>, AllocError>
     ensures { IfOk result (λ line. line.items ≡ key_text key.now ++ 10 ∷ []) }
 {
     let mut line = Vec::new(alloc);

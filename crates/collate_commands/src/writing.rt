@@ -7,7 +7,7 @@ ghost use Rattle.collate_commands.specs.PartialWrites.{AppendsBeginning};
 use std::io::{Error, ErrorKind, Result, Write};
 
 /// Writes a text and flushes it, or a beginning of it where a write or the flush fails.
-pub(crate) fn write_text<W: Write>(writer: &mut W, text: &[u8]) -> Result<()>
+pub fn write_text<W: Write>(writer: &mut W, text: &[u8]) -> Result<()>
     ensures ok { OnOk result (Appends (W.contents writer.old) (W.contents writer.new) text.now) }
     ensures err { OnErr result
         (AppendsBeginning (W.contents writer.old) (W.contents writer.new) text.now) }

@@ -1,0 +1,259 @@
+//! The commands of the program, and their options.
+
+use clap::{Arg, ArgAction, Command};
+use std::alloc::{AllocError, Global};
+
+static STRENGTHS: [&str; 10] = [
+    "1",
+    "2",
+    "3",
+    "4",
+    "i",
+    "primary",
+    "secondary",
+    "tertiary",
+    "quaternary",
+    "identical",
+];
+
+static HANDLINGS: [&str; 3] = ["non-ignorable", "shifted", "blanked"];
+
+static CASES: [&str; 3] = ["off", "lower", "upper"];
+
+static GROUPS: [&str; 4] = ["space", "punctuation", "symbol", "currency"];
+
+const ABOUT: &str =
+    "Compares texts, and sorts, checks and shows lines, by the Unicode Collation Algorithm with CLDR's root collation: \
+the same order on every machine.";
+
+const AFTER: &str = "\
+Examples:
+  collate-cldr sort names.txt                    names in order
+  collate-cldr sort -u --strength 1 -r < words   one of each, whatever accents and case, the last first
+  collate-cldr sort --numeric -o files files     numbers by their value; the file is replaced
+  collate-cldr compare ångström zebra            prints <
+  collate-cldr check list.txt                    status 1 and the first line out of order
+
+Data: FractionalUCA.txt of CLDR, which the option --root names, or else stands in common/uca of the folder that the \
+option --cldr or the environment's CLDR_DIR names, or else in /usr/share/unicode/cldr, where Debian's package \
+unicode-cldr-core installs it.
+
+Status: 0, 1 (not in order, texts differ), 2 (wrong words), 3 (data, memory, input or output).";
+
+/// An option without a value.
+fn flag<'a>(alloc: Global, id: &'a str, help: &'a str) -> Arg<'a> {
+    Arg::new(alloc, id)
+        .long(id)
+        .help(help)
+        .action(ArgAction::SetTrue)
+}
+
+/// An option of one letter, without a value.
+fn letter<'a>(alloc: Global, id: &'a str, short: char, help: &'a str) -> Arg<'a> {
+    flag(alloc, id, help).short(short)
+}
+
+/// An option with a value.
+fn valued<'a>(alloc: Global, id: &'a str, value: &'a str, help: &'a str) -> Arg<'a> {
+    Arg::new(alloc, id).long(id).value_name(value).help(help)
+}
+
+/// A command with the options that say where the data are.
+fn with_data<'a>(alloc: Global, command: Command<'a>) -> Result<Command<'a>, AllocError> {
+    command
+        .arg(valued(alloc, "root", "FILE", "The root's data, FractionalUCA.txt"))?
+        .arg(valued(
+            alloc,
+            "cldr",
+            "DIR",
+            "The folder of CLDR's data, which has common/uca",
+        ))
+}
+
+/// A command with the options for settings of the order.
+fn with_settings<'a>(alloc: Global, command: Command<'a>) -> Result<Command<'a>, AllocError> {
+    command
+        .arg(valued(
+            alloc,
+            "locale",
+            "TAG",
+            "The language, with settings as in en-u-kn-ks-level1",
+        )
+        .short('l'))?
+        .arg(valued(
+            alloc,
+            "strength",
+            "LEVEL",
+            "How many levels count; tertiary if none is said",
+        )
+        .value_parser(STRENGTHS.as_slice()))?
+        .arg(valued(
+            alloc,
+            "alternate",
+            "HOW",
+            "How spaces and punctuation count",
+        )
+        .value_parser(HANDLINGS.as_slice()))?
+        .arg(valued(
+            alloc,
+            "max-variable",
+            "GROUP",
+            "The last group that the option --alternate is for",
+        )
+        .value_parser(GROUPS.as_slice()))?
+        .arg(valued(alloc, "case-first", "CASE", "Which case comes first").value_parser(
+            CASES.as_slice(),
+        ))?
+        .arg(flag(alloc, "case-level", "Case counts on a level of its own"))?
+        .arg(flag(
+            alloc,
+            "numeric",
+            "Digits count by the value of their number",
+        ))
+}
+
+/// A command over texts, by its name.
+fn command<'a>(alloc: Global, name: &'a str, about: &'a str) -> Result<Command<'a>, AllocError> {
+    let command = Command::new(alloc, name)
+        .about(about)
+        .args_override_self(true);
+    let command = with_data(alloc, command)?;
+    with_settings(alloc, command)
+}
+
+/// A text that is asked for.
+fn text<'a>(alloc: Global, id: &'a str) -> Arg<'a> {
+    Arg::new(alloc, id).required(true).allow_hyphen_values(true)
+}
+
+/// The files that lines are read from.
+fn files<'a>(alloc: Global) -> Arg<'a> {
+    Arg::new(alloc, "FILE")
+        .action(ArgAction::Append)
+        .num_args(0..)
+        .help("Where lines are read from; standard input where there is none, or for -")
+}
+
+/// A command over lines, by its name.
+fn line_command<'a>(
+    alloc: Global,
+    name: &'a str,
+    about: &'a str,
+) -> Result<Command<'a>, AllocError> {
+    command(alloc, name, about)?
+        .arg(letter(
+            alloc,
+            "zero-terminated",
+            'z',
+            "Lines end with a zero byte in place of a line feed",
+        ))?
+        .arg(files(alloc))
+}
+
+/// A command over lines in an order.
+fn ordering_command<'a>(
+    alloc: Global,
+    name: &'a str,
+    about: &'a str,
+) -> Result<Command<'a>, AllocError> {
+    line_command(alloc, name, about)?
+        .arg(letter(alloc, "reverse", 'r', "The greatest line first"))?
+        .arg(letter(
+            alloc,
+            "unique",
+            'u',
+            "Of lines that are equal the first alone",
+        ))?
+        .arg(letter(
+            alloc,
+            "stable",
+            's',
+            "Lines that are equal stand as they came, and not by their bytes",
+        ))
+}
+
+/// The command `sort`.
+fn sort_command<'a>(alloc: Global) -> Result<Command<'a>, AllocError> {
+    ordering_command(alloc, "sort", "Prints the lines of files in order")?
+        .arg(valued(
+            alloc,
+            "output",
+            "OUT",
+            "Writes to this file, which may be one that is read",
+        )
+        .short('o'))?
+        .arg(letter(
+            alloc,
+            "merge",
+            'm',
+            "The lines of each file are in order already",
+        ))?
+        .arg(letter(alloc, "check", 'c', "As the command check"))?
+        .arg(letter(alloc, "check-quietly", 'C', "As the command check --quiet"))
+}
+
+/// The command `check`.
+fn check_command<'a>(alloc: Global) -> Result<Command<'a>, AllocError> {
+    ordering_command(
+        alloc,
+        "check",
+        "Whether lines are in order: status 1 and the first that isn't, if one isn't",
+    )?
+    .arg(letter(alloc, "quiet", 'q', "Prints nothing"))
+}
+
+/// The command `compare`.
+fn compare_command<'a>(alloc: Global) -> Result<Command<'a>, AllocError> {
+    command(
+        alloc,
+        "compare",
+        "Prints the order of two texts, <, = or >: status 0 if they are equal, else 1",
+    )?
+    .arg(text(alloc, "A"))?
+    .arg(text(alloc, "B"))
+}
+
+/// The command `key`.
+fn key_command<'a>(alloc: Global) -> Result<Command<'a>, AllocError> {
+    command(
+        alloc,
+        "key",
+        "Prints the sort key of a text, byte by byte in hexadecimal digits",
+    )?
+    .arg(text(alloc, "TEXT"))
+}
+
+/// The command `neighbours`, for CLDR's test files.
+fn neighbours_command<'a>(alloc: Global) -> Result<Command<'a>, AllocError> {
+    command(
+        alloc,
+        "neighbours",
+        "Counts lines of characters' numbers, as in CLDR's tests, that are out of order",
+    )
+}
+
+/// The whole of the words that the program takes.
+pub(crate) fn program<'a>(alloc: Global) -> Result<Command<'a>, AllocError> {
+    let command = Command::new(alloc, "collate-cldr")
+        .no_binary_name(true)
+        .bin_name("collate-cldr")?
+        .about(ABOUT)
+        .after_help(AFTER);
+    with_data(alloc, command)?
+        .arg(letter(
+            alloc,
+            "version",
+            'V',
+            "Prints the versions of the program and of the root's data",
+        ))?
+        .subcommand(sort_command(alloc)?)?
+        .subcommand(check_command(alloc)?)?
+        .subcommand(compare_command(alloc)?)?
+        .subcommand(key_command(alloc)?)?
+        .subcommand(line_command(
+            alloc,
+            "keys",
+            "Prints each line behind its sort key in hexadecimal digits and a tab",
+        )?)?
+        .subcommand(neighbours_command(alloc)?)
+}

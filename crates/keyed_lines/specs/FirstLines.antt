@@ -1,0 +1,28 @@
+-- Which lines are printed of those that are sorted.
+use Rattle.std.specs.Prelude.{ℕ, ◌++◌, Bool, List, [], ◌∷◌, bytes_eq, if◌then◌else◌}
+use Rattle.keyed_lines.specs.declared.line_order.KeyedLine.{KeyedLine}
+use Rattle.keyed_lines.specs.declared.sort_request.Repeats.{Repeats}
+use Rattle.keyed_lines.specs.declared.sort_request.Repeats.TheVariants.{All, FirstOnly}
+
+-- of those behind another the ones that are not equal to the one before them
+abbrev pub firsts_behind : {X : Type 0} → (X → X → Bool) → X → List X → List X
+firsts_behind same before [] = []
+firsts_behind same before (x ∷ xs) = if same before x then firsts_behind same x xs else x ∷ firsts_behind same x xs
+
+-- the first of those that stand together and are equal
+abbrev pub firsts : {X : Type 0} → (X → X → Bool) → List X → List X
+firsts same [] = []
+firsts same (x ∷ xs) = x ∷ firsts_behind same x xs
+
+-- the ones that are printed
+abbrev pub printed : {X : Type 0} → Repeats → (X → X → Bool) → List X → List X
+printed All same xs = xs
+printed FirstOnly same xs = firsts same xs
+
+-- whether lines have one key
+abbrev pub have_one_key : KeyedLine → KeyedLine → Bool
+have_one_key x y = bytes_eq x.key.now y.key.now
+
+-- a line with a separator, unless it has the key of the line before it
+abbrev pub unrepeated : ℕ → KeyedLine → KeyedLine → List ℕ
+unrepeated separator before line = if have_one_key before line then [] else line.line.now ++ separator ∷ []

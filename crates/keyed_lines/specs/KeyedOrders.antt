@@ -1,0 +1,36 @@
+-- The order of lines with sort keys (UTS #10, "Compare Sort Keys").
+use Rattle.std.specs.Ordering.{ordering_then}
+use Rattle.std.specs.declared.cmp.Ordering.{Ordering}
+use Rattle.icu_levels.specs.ListOrder.{list_order}
+use Rattle.keyed_lines.specs.declared.line_order.Direction.{Direction}
+use Rattle.keyed_lines.specs.declared.line_order.Direction.TheVariants.{Ascending, Descending}
+use Rattle.keyed_lines.specs.declared.line_order.KeyedLine.{KeyedLine}
+use Rattle.keyed_lines.specs.declared.line_order.LineOrder.{LineOrder}
+use Rattle.keyed_lines.specs.declared.line_order.Ties.{Ties}
+use Rattle.keyed_lines.specs.declared.line_order.Ties.TheVariants.{AsTheyCame, ByBytes}
+
+-- an order in a direction
+abbrev pub directed : {X : Type 0} → Direction → (X → X → Ordering) → X → X → Ordering
+directed Ascending order x y = order x y
+directed Descending order x y = order y x
+
+-- an order, and another of what ties by the first, where ties are not to stand as they came
+abbrev pub with_ties : {X : Type 0} → Ties → (X → X → Ordering) → (X → X → Ordering) → X → X → Ordering
+with_ties AsTheyCame order last x y = order x y
+with_ties ByBytes order last x y = ordering_then (order x y) (last x y)
+
+-- an order of lines: a first one, and another of what ties by it, in a direction
+abbrev pub ordered_as : {X : Type 0} → LineOrder → (X → X → Ordering) → (X → X → Ordering) → X → X → Ordering
+ordered_as o order last = directed o.direction (with_ties o.ties order last)
+
+-- the order of the keys of two lines
+abbrev pub keys_of_lines_order : KeyedLine → KeyedLine → Ordering
+keys_of_lines_order x y = list_order x.key.now y.key.now
+
+-- the order of their bytes
+abbrev pub bytes_of_lines_order : KeyedLine → KeyedLine → Ordering
+bytes_of_lines_order x y = list_order x.line.now y.line.now
+
+-- by keys, and then by the bytes of the lines
+abbrev pub keyed_order : LineOrder → KeyedLine → KeyedLine → Ordering
+keyed_order o = ordered_as o keys_of_lines_order bytes_of_lines_order

@@ -1,0 +1,10 @@
+pub use Rattle.icu_index.specs.Listings
+pub use Rattle.keyed_lines.specs.FirstLines
+pub use Rattle.keyed_lines.specs.InputLines
+pub use Rattle.keyed_lines.specs.KeyedOrders
+pub mod Disorders
+pub mod Inputs
+pub mod LineKeyTexts
+pub mod LineOrders
+pub mod Printed
+pub mod SortedInputs

@@ -1,0 +1,14 @@
+//! What is done with the lines of an input by a collator: they are sorted, judged, and shown with their sort keys.
+#![tactic(auto)]
+
+pub mod disorder;
+pub mod input;
+pub mod line_keys_text;
+pub mod printing;
+pub mod sorted_lines;
+
+pub use disorder::{disorder_text, first_disorder};
+pub use input::append_input;
+pub use line_keys_text::keys_text;
+pub use printing::{print_comparison, print_key, print_keys, print_sorted};
+pub use sorted_lines::sorted_text;

@@ -1,0 +1,89 @@
+//! Lines, sorted by a collator.
+
+ghost use Rattle.std.specs.Prelude.{◌≡◌, ◌++◌, IfOk, OnOk, map};
+ghost use Rattle.icu_checks.specs.WellFormedTables.{IsWellFormedTables};
+ghost use Rattle.icu_collator.specs.Collators.{collation_borrowed, collation_kept, tables_borrowed};
+ghost use Rattle.keyed_lines.specs.KeyBuffers.{keys_in};
+ghost use Rattle.keyed_lines.specs.ShownLines.{shown_lines};
+ghost use Rattle.line_commands.specs.LineOrders.{AreSorted, key_of_line};
+ghost use Rattle.line_commands.specs.SortedInputs.{SortsInput};
+
+use icu_collator::{Collator, CollatorBorrowed};
+use keyed_lines::written_lines::written_lines;
+use keyed_lines::{KeyedLine, LineKeys, LineOrder, SortRequest, lines_by, sort_keyed_lines};
+use std::alloc::{AllocError, Global};
+
+/// Writes the sort key of a line, in UTF-8 that may be damaged, behind other bytes.
+pub(crate) fn write_line_key(
+    collator: &CollatorBorrowed<'_>,
+    line: &[u8],
+    key: &mut Vec<u8>,
+) -> Result<(), AllocError>
+    ensures { OnOk result (key.new.items
+        ≡ key.old.items ++ key_of_line (collation_borrowed collator.now) line.now) }
+{
+    match collator.write_sort_key_utf8_to(line, key) {
+        Ok(()) => Ok(()),
+        Err(_) => Err(AllocError),
+    }
+}
+
+/// The sort keys of lines.
+fn keys_of_lines(
+    alloc: Global,
+    collator: &CollatorBorrowed<'_>,
+    lines: &[&[u8]],
+) -> Result<LineKeys, AllocError>
+    ensures { IfOk result (λ keys. keys_in keys
+        ≡ map (key_of_line (collation_borrowed collator.now)) (shown_lines lines.now)) }
+{
+    let mut keys = LineKeys::new(alloc);
+    let mut key = Vec::new(alloc);
+    for line in lines {
+        key.clear();
+        write_line_key(collator, line, &mut key)?;
+        keys.push(key.as_slice())?;
+    }
+    Ok(keys)
+}
+
+/// Lines with their keys, sorted.
+fn sorted_lines<'a>(
+    collator: &CollatorBorrowed<'_>,
+    keys: &'a LineKeys,
+    lines: &[&'a [u8]],
+    order: LineOrder,
+) -> Result<Vec<KeyedLine<'a>>, AllocError>
+    requires well_formed { IsWellFormedTables (tables_borrowed collator.now) }
+    requires keyed { keys_in keys.now
+        ≡ map (key_of_line (collation_borrowed collator.now)) (shown_lines lines.now) }
+    ensures { IfOk result (λ sorted. AreSorted (collation_borrowed collator.now) order
+        (shown_lines lines.now) sorted.items) }
+{
+    let mut keyed = keys.with_lines(lines)?;
+    sort_keyed_lines(&mut keyed, order)?;
+    Ok(keyed)
+}
+
+/// The lines of a text in order, as they are to be printed.
+///
+/// # Errors
+///
+/// Fails only where an allocation does.
+pub fn sorted_text(
+    alloc: Global,
+    collator: &Collator,
+    bytes: &[u8],
+    request: SortRequest,
+) -> Result<Vec<u8>, AllocError>
+    ensures { IfOk result (λ output.
+        SortsInput (collation_kept collator.now) request bytes.now output.items) }
+{
+    let collator = collator.as_borrowed();
+    collator.has_well_formed_tables();
+    let lines = lines_by(alloc, bytes, request.separator)?;
+    let keys = keys_of_lines(alloc, &collator, lines.as_slice())?;
+    let sorted = sorted_lines(&collator, &keys, lines.as_slice(), request.order)?;
+    let text = written_lines(alloc, sorted.as_slice(), request)?;
+    Ok(text)
+}
