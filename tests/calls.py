@@ -13,6 +13,8 @@ DRIVER = "test_driver"
 # What says that a call may fail so, in the type that it returns.
 FAILURES = {"AllocError", "DataError", "LdmlError", "LineError", "MappingEntriesError", "ReadError", "RulesError", "SortKeyError", "TagError", "NumberingError", "TailoredEntriesError", "TailoringError",
             "XmlError"}
+FAILURES = {"AllocError", "DataError", "LdmlError", "LineError", "ReadError", "RulesError", "SortKeyError", "TagError", "NumberingError", "TailoredEntriesError", "TailoringError",
+            "RuleTablesError", "XmlError"}
 # Errors that say so within another one, and such as no public call returns.
 WITHIN = {"DataErrorKind", "RuleStepError", "UnplacedError"}
 # A public error, of which one kind is that an allocation failed.
@@ -46,8 +48,6 @@ LEFT_OUT = {
     ("icu_collation_data", "collect_weights"): CHECK,
     ("icu_collation_data", "collect_weights_from"): CHECK,
     ("icu_checked_root", "CheckedRoot::new"): ROOTS,
-    ("icu_checked_root", "CheckedRoot::secondaries"): ROOTS,
-    ("icu_checked_root", "CheckedRoot::tertiaries"): ROOTS,
     ("icu_checks", "CheckedTables::from_owned"): PROGRAM,
     ("icu_checks", "CheckedTables::new"): NOTHING,
     ("icu_collator", "Collator::from_checked_tables"): TYPES,
@@ -73,7 +73,10 @@ LEFT_OUT = {
     ("icu_indexed_text", "offset_marks"): SEARCHES,
     ("icu_indexed_text", "utf8_copy"): SEARCHES,
     ("icu_indexed_text", "word_bounds"): SEARCHES,
+    ("icu_rule_steps", "SymbolicTailoring::maker_of"): TAILORINGS,
     ("icu_rule_steps", "SymbolicTailoring::of_rules"): RULES,
+    ("icu_rule_tables", "Tailoring::from_rules"): TAILORINGS,
+    ("icu_rule_tables", "Tailoring::from_text"): TAILORINGS,
     ("icu_rules", "Rules::parse"): READERS,
     ("icu_rules", "Rules::resolve"): READERS,
     ("icu_small_tables", "checked_small_tables"): TYPES,

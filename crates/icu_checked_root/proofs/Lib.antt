@@ -3,3 +3,4 @@ mod WindowLemmas
 mod KeyCollectionLemmas
 mod RootEntryLemmas
 mod RootWeightLemmas
+mod LevelListLemmas

@@ -68,3 +68,12 @@ pub record IsTertiaryOfRoot (root : Root) (w : ℕ) : Type 0 where
   pub primary : ℕ
   pub secondary : ℕ
   pub stands : Contains (root.weights (primary ∷ secondary ∷ [])) w
+
+-- all numbers of which something holds, ascending, each once
+pub record AreAll (P : ℕ → Type 0) (ws : List ℕ) : Type 0 where
+  pub ascending : IsStrictlyIncreasing ws
+  pub members : (w : ℕ) → Contains ws w ↔ P w
+
+-- a primary weight below those of all characters without one of their own (UTS #10, "Implicit Weights")
+abbrev pub least_without_own : ℕ
+least_without_own = 0xFE040202

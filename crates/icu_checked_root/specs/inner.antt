@@ -3,3 +3,4 @@ pub mod LedEntries
 pub mod KeyWindows
 pub mod KeyPlaces
 pub mod KeyCollections
+pub mod LevelLists

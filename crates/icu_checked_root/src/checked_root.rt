@@ -9,7 +9,9 @@ ghost use Rattle.icu_tailoring.specs.TailoredRoots.{first_above, lowest_below};
 ghost use Rattle.icu_tailoring.specs.RootPositions.{first_number, last_number};
 ghost use Rattle.icu_checked_root.specs.RootEntries.{root_mappings_of};
 ghost use Rattle.icu_checked_root.specs.CheckedRoots.{below_or_zero, elements_of_suffix, first_implicit_of, has_suffix_alone, last_regular_of, last_variable_of, leading_or, leading_primary};
+ghost use Rattle.icu_checked_root.specs.declared.key_window.KeyLevel.TheVariants.{Secondary, Tertiary};
 ghost use Rattle.icu_checked_root.specs.inner.KeyWindows.{lesser_by_keys, weights_by_keys};
+ghost use Rattle.icu_checked_root.specs.inner.LevelLists.{HasLevelWeights};
 
 use crate::entry_mappings::RootMapping;
 use crate::key_collector::collect_keys;
@@ -23,8 +25,12 @@ use icu_checks::CheckedTables;
 use icu_entries::CollationElement;
 use icu_symbolic_mappings::{CharacterMapping, RootMappings};
 use icu_tailoring::SymbolicWeight;
+use icu_tailoring_numbers::RootLevels;
 use icu_weight_tree::RootWeights;
 use std::alloc::{AllocError, Global};
+
+/// A primary weight that is below those of all characters without one of their own, and above all others.
+const LEAST_WITHOUT_OWN: u32 = 0xFE04_0202;
 
 /// The root of checked tables: the mappings of characters that they have without their tailoring, and the weights of
 /// its elements, level by level.
@@ -32,10 +38,14 @@ use std::alloc::{AllocError, Global};
 pub struct CheckedRoot<'t> {
     tables: &'t CheckedTables,
     keys: Vec<u64>,
+    secondaries: Vec<u16>,
+    tertiaries: Vec<u16>,
     last_variable: u32,
     last_regular: u32,
     first_implicit: u32,
     ghost ascending: { IsStrictlyIncreasing keys.items },
+    ghost secondary_level: { HasLevelWeights Secondary keys.items secondaries.items },
+    ghost tertiary_level: { HasLevelWeights Tertiary keys.items tertiaries.items },
 }
 
 /// The next lesser weight below weights of which none is tailored, if there is one.
@@ -189,9 +199,8 @@ fn last_variable(tables: &CheckedTables, keys: &[u64]) -> u32
 }
 
 impl<'t> CheckedRoot<'t> {
-    ghost use Rattle.std.specs.Prelude.{◌↔◌, ℕ};
-    ghost use Rattle.std.specs.List.{Contains};
-    ghost use Rattle.icu_checked_root.specs.CheckedRoots.{IsRootOf, IsSecondaryOfRoot, IsTertiaryOfRoot};
+    ghost use Rattle.icu_provider.specs.StoredTables.{special_of};
+    ghost use Rattle.icu_checked_root.specs.CheckedRoots.{AreAll, IsRootOf, IsSecondaryOfRoot, IsTertiaryOfRoot, least_without_own};
     ghost use Rattle.icu_checked_root.specs.StoredRoots.{stored_root, tables_beside};
 
     /// The root of checked tables. Allocates its weights, 8 bytes for each element that the tables state at most, and
@@ -205,9 +214,13 @@ impl<'t> CheckedRoot<'t> {
         let first_implicit = first_implicit(alloc, tables)?;
         let last_regular = last_regular(alloc, tables, keys.as_slice(), first_implicit)?;
         let last_variable = last_variable(tables, keys.as_slice());
+        let secondaries = level_weights(alloc, KeyLevel::Secondary, keys.as_slice())?;
+        let tertiaries = level_weights(alloc, KeyLevel::Tertiary, keys.as_slice())?;
         Ok(CheckedRoot {
             tables,
             keys,
+            secondaries,
+            tertiaries,
             last_variable,
             last_regular,
             first_implicit,
@@ -221,22 +234,23 @@ impl<'t> CheckedRoot<'t> {
         self.tables
     }
 
-    /// All secondary weights, ascending, each once.
-    pub fn secondaries(&self, alloc: Global) -> Result<Vec<u16>, AllocError>
-        ensures ascending { IfOk result (λ ws. IsStrictlyIncreasing ws.items) }
-        ensures members { IfOk result (λ ws. (w : ℕ)
-            → Contains ws.items w ↔ IsSecondaryOfRoot (stored_root self.now) w) }
+    /// What the numbers of tailored weights have to fit: the special primary weights, a primary weight above all
+    /// tailored ones, and all secondary and tertiary weights, without case.
+    pub fn levels(&self) -> RootLevels<'_>
+        ensures special { special_of result.special
+            ≡ (checked_tables (tables_beside self.now)).special }
+        ensures limit { result.limit ≡ least_without_own }
+        ensures secondaries { AreAll (IsSecondaryOfRoot (stored_root self.now))
+            result.secondaries.now }
+        ensures tertiaries { AreAll (IsTertiaryOfRoot (stored_root self.now))
+            result.tertiaries.now }
     {
-        level_weights(alloc, KeyLevel::Secondary, self.keys.as_slice())
-    }
-
-    /// All tertiary weights, without case, ascending, each once.
-    pub fn tertiaries(&self, alloc: Global) -> Result<Vec<u16>, AllocError>
-        ensures ascending { IfOk result (λ ws. IsStrictlyIncreasing ws.items) }
-        ensures members { IfOk result (λ ws. (w : ℕ)
-            → Contains ws.items w ↔ IsTertiaryOfRoot (stored_root self.now) w) }
-    {
-        level_weights(alloc, KeyLevel::Tertiary, self.keys.as_slice())
+        RootLevels {
+            special: self.tables.special_primaries(),
+            limit: LEAST_WITHOUT_OWN,
+            secondaries: self.secondaries.as_slice(),
+            tertiaries: self.tertiaries.as_slice(),
+        }
     }
 }
 

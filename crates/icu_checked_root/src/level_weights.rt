@@ -4,6 +4,7 @@ ghost use Rattle.std.specs.Prelude.{◌≡◌, ◌↔◌, ℕ, IfOk};
 ghost use Rattle.std.specs.List.{Contains};
 ghost use Rattle.std.specs.List.Sorted.{IsStrictlyIncreasing};
 ghost use Rattle.icu_checked_root.specs.inner.KeyWindows.{low_part, low_parts};
+ghost use Rattle.icu_checked_root.specs.inner.LevelLists.{HasLevelWeights};
 
 use crate::key_window::{KeyLevel, key_to};
 use std::alloc::{AllocError, Global};
@@ -40,9 +41,7 @@ pub(crate) fn level_weights(
     level: KeyLevel,
     keys: &[u64],
 ) -> Result<Vec<u16>, AllocError>
-    ensures ascending { IfOk result (λ ws. IsStrictlyIncreasing ws.items) }
-    ensures members { IfOk result (λ ws. (w : ℕ)
-        → Contains ws.items w ↔ Contains (low_parts level keys.now) w) }
+    ensures { IfOk result (λ ws. HasLevelWeights level keys.now ws.items) }
 {
     let mut weights = low_parts(alloc, level, keys)?;
     sort_and_dedup(&mut weights);

@@ -1,3 +1,4 @@
 mod StateLemmas
 mod RuleLoopLemmas
 mod ContractionEnds
+mod WeightMakerLemmas

@@ -1,3 +1,4 @@
 pub mod RuleFaults
 pub mod SymbolicTailorings
 pub mod ReadRules
+pub mod WeightMakers

@@ -4,8 +4,11 @@
 mod decomposing;
 mod faults;
 mod rule_step_error;
+pub mod statement_place;
 pub mod symbolic_tailoring;
 pub mod tailoring_error;
+mod weight_makers;
 
+pub use statement_place::StatementPlace;
 pub use symbolic_tailoring::SymbolicTailoring;
 pub use tailoring_error::{TailoringError, TailoringErrorKind};

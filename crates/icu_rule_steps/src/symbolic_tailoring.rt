@@ -25,7 +25,7 @@ pub struct SymbolicTailoring<'r, R> {
 }
 
 impl<'r, R: RootWeights + RootMappings> SymbolicTailoring<'r, R> {
-    ghost use Rattle.std.specs.Prelude.{◌≡◌, ◌++◌, ◌⊎◌, [], ◌∷◌, None, Some, map, reverse, IfOk, IfErr, OnOk};
+    ghost use Rattle.std.specs.Prelude.{◌≡◌, ◌++◌, ◌⊎◌, [], ◌∷◌, nat_lt, None, Some, map, reverse, IfOk, IfErr, OnOk};
     ghost use Rattle.icu_tailoring.specs.Rules.{at_position, at_string, characters_of, lone_relation, place_of_anchor, relation, reset, rules_of, setting_rules, starred_rules, statement_rules};
     ghost use Rattle.icu_tailoring.specs.Steps.{before_level, before_step, case_step, first_state, mapping_step, place_elements, strength_step, suppression_step, tailoring_of};
     ghost use Rattle.icu_weight_tree.specs.RuleStates.{with_elements};
@@ -39,7 +39,7 @@ impl<'r, R: RootWeights + RootMappings> SymbolicTailoring<'r, R> {
     ghost use Rattle.icu_rule_steps.specs.SymbolicTailorings.{root_in, state_in};
 
     /// What no rules say: nothing but the root.
-    fn new(alloc: Global, root: &'r R) -> Self
+    pub(crate) fn new(alloc: Global, root: &'r R) -> Self
         ensures { state_in R.mappings_of result
             ≡ first_state (root_in R.root R.mappings_of root.now) }
     {
@@ -360,7 +360,7 @@ impl<'r, R: RootWeights + RootMappings> SymbolicTailoring<'r, R> {
     }
 
     /// Reads a statement.
-    fn read_statement(
+    pub(crate) fn read_statement(
         &mut self,
         alloc: Global,
         root: &'r R,
@@ -409,6 +409,13 @@ impl<'r, R: RootWeights + RootMappings> SymbolicTailoring<'r, R> {
             }
         }
         Ok(tailoring)
+    }
+
+    /// Whether more tailored weights were made than there were before this one.
+    pub(crate) fn has_made(&self, weight: usize) -> bool
+        ensures { result ≡ nat_lt weight (state_in R.mappings_of self.now).made }
+    {
+        weight < self.rule.tree().made()
     }
 
     /// The order of weights.

@@ -97,13 +97,14 @@ fn weights_of_a_level(rt: HostRuntime) -> Result<(), Fail> {
     let mini = with_contexts(rt.alloc())?;
     let tables = checked(rt.alloc(), &mini)?;
     let root = CheckedRoot::new(rt.alloc(), &tables)?;
-    let secondaries = root.secondaries(rt.alloc())?;
+    let levels = root.levels();
+    let secondaries = levels.secondaries;
     assert_eq!(rt; secondaries.len(), 76);
     assert_eq!(rt; secondaries.first().copied(), Some(0x500));
     assert_eq!(rt; secondaries.get(1).copied(), Some(0x4600));
     assert_eq!(rt; secondaries.last().copied(), Some(0x9400));
-    let tertiaries = root.tertiaries(rt.alloc())?;
-    assert!(rt; tertiaries.as_slice() == [0x500, 0x1C00, 0x3D00].as_slice());
-    assert_eq!(rt; root.tables().special_primaries().numeric_primary(), 0x0F);
+    assert!(rt; levels.tertiaries == [0x500, 0x1C00, 0x3D00].as_slice());
+    assert_eq!(rt; levels.special.numeric_primary(), 0x0F);
+    assert_eq!(rt; levels.limit, 0xFE04_0202);
     Ok(())
 }

@@ -2,6 +2,8 @@
 #![tactic(auto)]
 
 #[cfg(test)]
+mod checked_root_rows;
+#[cfg(test)]
 mod order_rows;
 #[cfg(test)]
 mod small_tables;

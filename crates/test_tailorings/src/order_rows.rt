@@ -174,16 +174,13 @@ fn found_difference(
     Some(Difference::Nowhere)
 }
 
-/// Looks at each pair of neighbours of a row.
-fn check_row(
+/// Looks at each pair of neighbours of a row, by a collator of these rules.
+pub(crate) fn check_row(
     rt: &impl Abort,
-    alloc: Global,
-    root: &OwnedData,
+    collator: &CollatorBorrowed<'_>,
     rules: &str,
     row: &str,
 ) -> Result<(), Fail> {
-    let collator = collator_by(alloc, root, rules)?;
-    let borrowed = collator.as_borrowed();
     let mut last = "";
     let mut wanted = None;
     for word in row.split(' ') {
@@ -191,7 +188,7 @@ fn check_row(
             Some(difference) => wanted = Some(difference),
             None => {
                 if wanted.is_some() {
-                    let found = found_difference(&borrowed, last, word);
+                    let found = found_difference(collator, last, word);
                     assert_eq!(rt; found, wanted, "{rules}: {last} {word}");
                 }
                 last = word;
@@ -205,7 +202,8 @@ fn check_row(
 fn check_rows(rt: &impl Abort, alloc: Global, rows: &[(&str, &str)]) -> Result<(), Fail> {
     let root = small_root(alloc)?;
     for (rules, row) in rows {
-        check_row(rt, alloc, &root, rules, row)?;
+        let collator = collator_by(alloc, &root, rules)?;
+        check_row(rt, &collator.as_borrowed(), rules, row)?;
     }
     Ok(())
 }

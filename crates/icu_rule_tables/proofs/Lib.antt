@@ -1,0 +1,3 @@
+mod RuleSettingLemmas
+mod NoImportLemmas
+mod TailoringLemmas

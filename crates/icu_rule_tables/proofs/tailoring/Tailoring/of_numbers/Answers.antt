@@ -1,0 +1,33 @@
+-- The tables are those of the root, with what was made.
+use Rattle.std.proofs.Common.{sym, ap, ◌∙◌}
+use Rattle.icu_table_builder.specs.OwnedData.{owned_data}
+use Rattle.icu_provider.specs.OwnedTables.{owned_diacritics}
+use Rattle.icu_checked_root.specs.StoredRoots.{stored_root, tables_beside}
+use Rattle.icu_rule_steps.specs.SymbolicTailorings.{settings_in}
+use Rattle.icu_rule_tables.specs.RuleErrors.{IsErrorOfRules}
+use Rattle.icu_rule_tables.specs.RuleSettings.{names_reordering}
+use Rattle.icu_rule_tables.proofs.TailoringLemmas.{handed_on, tables_are}
+use Rattle.icu_rule_tables.proofs.tailoring.Tailoring.of_numbers.Goals as goal
+
+pub returns-clause-ok : goal.returns-clause-ok
+returns-clause-ok c =
+    let lists = c.in_ok-checked_data.field-0 in
+    let diacritics = owned_diacritics c.in_ok-checked_diacritics.field-0 in
+    record {
+      in_order = ap names_reordering (sym c.settings.ensures) ∙ sym c.names_reordering.ensures ∙ c.if-names_reordering.false;
+      own = owned_data lists;
+      diacritics = diacritics;
+      are = tables_are c.tables-tables.result.now (tables_beside c.args.root.now) c.tailored_metadata-metadata.result.bits lists
+          diacritics c.as_slice.result.now (settings_in c.args.said.now) _ c.tables-tables.ensures c.tailored_metadata-metadata.ensures
+          c.settings-2.ensures (c.as_slice.ensures.value ∙ sym c.in_ok-checked_diacritics.ensures.ok);
+    }
+
+pub returns-in_err-checked_data-clause-err : goal.returns-in_err-checked_data-clause-err
+returns-in_err-checked_data-clause-err c statements =
+    handed_on c.from_residual-in_err-checked_data.result c.in_err-checked_data.field-0.0 (IsErrorOfRules (stored_root c.args.root.now) statements)
+    c.from_residual-in_err-checked_data.ensures.1 (c.in_err-checked_data.ensures.err (stored_root c.args.root.now) statements)
+
+pub returns-in_err-checked_diacritics-clause-err : goal.returns-in_err-checked_diacritics-clause-err
+returns-in_err-checked_diacritics-clause-err c statements =
+    handed_on c.from_residual-in_err-checked_diacritics.result c.in_err-checked_diacritics.field-0.0 (IsErrorOfRules (stored_root c.args.root.now) statements)
+    c.from_residual-in_err-checked_diacritics.ensures.1 (c.in_err-checked_diacritics.ensures.err (stored_root c.args.root.now) statements)

@@ -1,0 +1,5 @@
+pub mod RuleErrors
+pub mod RuleSettings
+pub mod StatesByRules
+pub mod Tailorings
+pub mod inner

@@ -1,0 +1,61 @@
+-- The tables of a collation by rules.
+use Rattle.std.specs.Prelude.{ℕ, ◌≡◌, false, List, Some, None, map}
+use Rattle.icu_collation_data.specs.Data.{Data}
+use Rattle.icu_table_builder.specs.OwnedData.{owned_data}
+use Rattle.icu_provider.specs.CollatorTables.{CollatorTables}
+use Rattle.icu_provider.specs.OwnedTables.{owned_diacritics}
+use Rattle.icu_checks.specs.Checked.{checked_tables}
+use Rattle.icu_rules.specs.declared.rules.PlacedStatement.{PlacedStatement}
+use Rattle.icu_rules.specs.declared.statement.RuleSetting.{RuleSetting}
+use Rattle.icu_rules.specs.Statements.{SpellStatements}
+use Rattle.icu_tailoring.specs.Steps.{first_state}
+use Rattle.icu_tailoring_numbers.specs.declared.tailoring_numbers.TailoringNumbers.{TailoringNumbers}
+use Rattle.icu_rule_steps.specs.RuleFaults.{first_error}
+use Rattle.icu_checked_root.specs.declared.checked_root.CheckedRoot.{CheckedRoot}
+use Rattle.icu_checked_root.specs.StoredRoots.{stored_root, tables_beside}
+use Rattle.icu_rule_tables.specs.RuleSettings.{names_reordering, tailored_bits}
+use Rattle.icu_rule_tables.specs.StatesByRules.{NumbersState, state_over}
+use Rattle.icu_rule_tables.specs.declared.tailoring.Tailoring.{Tailoring}
+
+-- the tables of a root with a tailoring, its settings, the last one first, and its secondary weights of diacritics
+abbrev pub tables_by_rules : CollatorTables → List RuleSetting → Data → List ℕ → CollatorTables
+tables_by_rules root said own diacritics = record {
+  tables = record { root = root.tables.root; tailoring = Some own; jamo = root.tables.jamo; diacritics = diacritics };
+  special = root.special;
+  bits = tailored_bits root said diacritics;
+  reordering = None;
+}
+
+-- all tables of a collation by rules
+abbrev pub tailored_tables : Tailoring → CollatorTables
+tailored_tables t = record {
+  tables = record {
+    root = (checked_tables t.root.now).tables.root;
+    tailoring = Some (owned_data t.lists);
+    jamo = (checked_tables t.root.now).tables.jamo;
+    diacritics = owned_diacritics t.diacritics;
+  };
+  special = (checked_tables t.root.now).special;
+  bits = t.metadata.bits;
+  reordering = None;
+}
+
+-- The tables of a root with some tailoring and these settings, the last one first. None of them is a reordering.
+pub record HasTablesOf (root : CheckedRoot) (said : List RuleSetting) (t : Tailoring) : Type 0 where
+  pub in_order : names_reordering said ≡ false
+  pub own : Data
+  pub diacritics : List ℕ
+  pub are : tailored_tables t ≡ tables_by_rules (checked_tables (tables_beside root)) said own diacritics
+
+-- tables of rules, none of which is refused, by some numbers
+pub record SaysRules (root : CheckedRoot) (statements : List PlacedStatement) (t : Tailoring) : Type 0 where
+  pub unrefused : first_error (stored_root root) (first_state (stored_root root)) statements ≡ None
+  pub numbers : TailoringNumbers
+  pub numbered : NumbersState (stored_root root) (state_over root statements) numbers
+  pub tables : HasTablesOf root (state_over root statements).settings t
+
+-- tables of the rules that a text spells
+pub record SaysText (root : CheckedRoot) (text : List ℕ) (t : Tailoring) : Type 0 where
+  pub statements : List PlacedStatement
+  pub spelled : SpellStatements (map (λ p. p.statement) statements) text
+  pub says : SaysRules root statements t

@@ -1,0 +1,13 @@
+//! Tables by a text of rules, over the root of checked tables (UTS #35 part 5, "Collation Tailorings").
+#![tactic(auto)]
+
+mod jamo_changes;
+mod rule_numbers;
+mod rule_settings;
+pub mod rule_tables_error;
+mod tailored_metadata;
+pub mod tailoring;
+mod text_rules;
+
+pub use rule_tables_error::{RuleRefusal, RuleTablesError};
+pub use tailoring::Tailoring;

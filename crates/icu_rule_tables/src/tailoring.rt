@@ -1,0 +1,145 @@
+//! The tables of a collation by rules.
+ghost use Rattle.std.specs.Prelude.{◌≡◌, List, IfErr, IfOk};
+ghost use Rattle.icu_rules.specs.declared.rules.PlacedStatement.{PlacedStatement};
+ghost use Rattle.icu_tailoring.specs.TailoredRoots.{Root};
+ghost use Rattle.icu_table_builder.specs.OwnedData.{owned_data, vectors_data};
+ghost use Rattle.icu_provider.specs.OwnedTables.{owned_diacritics};
+ghost use Rattle.icu_checked_root.specs.StoredRoots.{stored_root};
+ghost use Rattle.icu_rule_tables.specs.RuleErrors.{IsErrorOfRules};
+
+use crate::jamo_changes::change_jamo;
+use crate::rule_numbers::numbers_of;
+use crate::rule_settings::names_reordering;
+use crate::rule_tables_error::{RuleTablesError, table_error};
+use crate::tailored_metadata::tailored_metadata;
+use crate::text_rules::rules_of_text;
+use icu_checked_root::CheckedRoot;
+use icu_checks::CheckedTables;
+use icu_entries::{DataError, DataErrorKind, DataTable};
+use icu_provider::{CollationMetadata, FixedLoads, FixedProvider, OwnedDiacritics};
+use icu_rule_steps::SymbolicTailoring;
+use icu_rules::Rules;
+use icu_table_builder::{DataVectors, OwnedData};
+use icu_tailored_entries::{tailored_data, tailored_diacritics};
+use icu_tailoring_numbers::TailoringNumbers;
+use std::alloc::Global;
+
+/// The tables of a collation by rules, over the root of checked tables (UTS #35 part 5, "Collation Tailorings"). It is
+/// a `CollationProvider`, which returns them for every locale and type: the root's, with a tailoring, metadata and
+/// diacritics of its own.
+#[derive(Debug, Drop)]
+pub struct Tailoring<'t> {
+    root: &'t CheckedTables,
+    metadata: CollationMetadata,
+    lists: OwnedData,
+    diacritics: OwnedDiacritics,
+}
+
+/// The lists of a tailoring, checked.
+fn checked_data(vectors: DataVectors) -> Result<OwnedData, RuleTablesError>
+    ensures ok { IfOk result (λ o. owned_data o ≡ vectors_data vectors) }
+    ensures err { (root : Root) (statements : List PlacedStatement)
+        → IfErr result (IsErrorOfRules root statements) }
+{
+    match OwnedData::new(vectors) {
+        Ok(data) => Ok(data),
+        Err(kind) => Err(table_error(DataTable::Tailoring, kind)),
+    }
+}
+
+/// The secondary weights of diacritics, checked.
+fn checked_diacritics(secondaries: Vec<u16>) -> Result<OwnedDiacritics, RuleTablesError>
+    ensures ok { IfOk result (λ o. owned_diacritics o ≡ secondaries.items) }
+    ensures err { (root : Root) (statements : List PlacedStatement)
+        → IfErr result (IsErrorOfRules root statements) }
+{
+    match OwnedDiacritics::new(secondaries) {
+        Ok(diacritics) => Ok(diacritics),
+        Err(kind) => Err(table_error(DataTable::Diacritics, kind)),
+    }
+}
+
+impl<'t> Tailoring<'t> {
+    ghost use Rattle.std.specs.Prelude.{chars};
+    ghost use Rattle.icu_rule_tables.specs.StatesByRules.{said_by};
+    ghost use Rattle.icu_rule_tables.specs.Tailorings.{HasTablesOf, SaysRules, SaysText};
+
+    /// The tables of what rules say, with these numbers.
+    fn of_numbers(
+        alloc: Global,
+        root: &CheckedRoot<'t>,
+        said: &SymbolicTailoring<'_, CheckedRoot<'t>>,
+        numbers: &TailoringNumbers,
+    ) -> Result<Tailoring<'t>, RuleTablesError>
+        ensures ok { IfOk result (HasTablesOf root.now (said_by said.now).settings) }
+        ensures err { (statements : List PlacedStatement)
+            → IfErr result (IsErrorOfRules (stored_root root.now) statements) }
+    {
+        if names_reordering(said.settings()) {
+            return Err(table_error(DataTable::Reordering, DataErrorKind::Absent));
+        }
+        if change_jamo(alloc, root, said.mappings())? {
+            return Err(table_error(DataTable::Jamo, DataErrorKind::Absent));
+        }
+        let tables = root.tables();
+        let vectors = tailored_data(alloc, root, numbers, said.mappings())?;
+        let secondaries = tables.diacritics().secondaries();
+        let diacritics = tailored_diacritics(alloc, secondaries, numbers, said.mappings())?;
+        let metadata = tailored_metadata(tables, said.settings(), diacritics.as_slice());
+        Ok(Tailoring {
+            root: tables,
+            metadata,
+            lists: checked_data(vectors)?,
+            diacritics: checked_diacritics(diacritics)?,
+        })
+    }
+
+    /// The tables of rules over a root. Imports are resolved before (`Rules::resolve`); one that isn't says nothing.
+    pub fn from_rules(
+        alloc: Global,
+        root: &CheckedRoot<'t>,
+        rules: &Rules,
+    ) -> Result<Tailoring<'t>, RuleTablesError>
+        ensures says { IfOk result (SaysRules root.now rules.now.statements.items) }
+        ensures err { IfErr result
+            (IsErrorOfRules (stored_root root.now) rules.now.statements.items) }
+    {
+        let said = SymbolicTailoring::of_rules(alloc, root, rules)?;
+        let numbers = numbers_of(alloc, root, rules, &said)?;
+        Tailoring::of_numbers(alloc, root, &said, &numbers)
+    }
+
+    /// The tables of a text of rules over a root. An import is refused, since no other rules are known.
+    pub fn from_text(
+        alloc: Global,
+        root: &CheckedRoot<'t>,
+        text: &str,
+    ) -> Result<Tailoring<'t>, RuleTablesError>
+        ensures { IfOk result (SaysText root.now (chars text.now)) }
+    {
+        let rules = rules_of_text(alloc, text)?;
+        Tailoring::from_rules(alloc, root, &rules)
+    }
+}
+
+impl<'t> FixedProvider for Tailoring<'t> {
+    ghost fixed = { λ t. loads_of (tailored_tables t) };
+
+    ghost use Rattle.icu_provider.specs.TableSets.{loads_of};
+    ghost use Rattle.icu_rule_tables.specs.Tailorings.{tailored_tables};
+
+    fn loads(&self) -> FixedLoads<'_> {
+        FixedLoads {
+            root: Ok(self.root.root()),
+            jamo: Ok(self.root.jamo()),
+            special: Ok(self.root.special_primaries()),
+            metadata: Ok(self.metadata),
+            tailoring: Ok(self.lists.as_data()),
+            reordering: Err(DataError {
+                table: DataTable::Reordering,
+                kind: DataErrorKind::Absent,
+            }),
+            diacritics: Ok(self.diacritics.as_diacritics()),
+        }
+    }
+}
