@@ -12,8 +12,6 @@ import crates
 DRIVER = "test_driver"
 # What says that a call may fail so, in the type that it returns.
 FAILURES = {"AllocError", "DataError", "LdmlError", "LineError", "MappingEntriesError", "ReadError", "RulesError", "SortKeyError", "TagError", "NumberingError", "TailoredEntriesError", "TailoringError",
-            "XmlError"}
-FAILURES = {"AllocError", "DataError", "LdmlError", "LineError", "ReadError", "RulesError", "SortKeyError", "TagError", "NumberingError", "TailoredEntriesError", "TailoringError",
             "RuleTablesError", "XmlError"}
 # Errors that say so within another one, and such as no public call returns.
 WITHIN = {"DataErrorKind", "RuleStepError", "UnplacedError"}
