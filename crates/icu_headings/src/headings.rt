@@ -93,7 +93,6 @@ impl<'c> Headings<'c> {
     }
 
     /// How many headings there are, those without names among them: one for each start, and one before all of them.
-    /// Saturates where there are as many starts as a `usize` counts, which no memory holds.
     pub fn len(&self) -> usize
         ensures { result ≡ length (heading_starts self.now) + 1 }
     {
