@@ -11,7 +11,7 @@ import crates
 
 DRIVER = "test_driver"
 # What says that a call may fail so, in the type that it returns.
-FAILURES = {"AllocError", "DataError", "LdmlError", "LineError", "ReadError", "RulesError", "SortKeyError", "TagError", "NumberingError", "TailoredEntriesError", "TailoringError",
+FAILURES = {"AllocError", "DataError", "LdmlError", "LineError", "MappingEntriesError", "ReadError", "RulesError", "SortKeyError", "TagError", "NumberingError", "TailoredEntriesError", "TailoringError",
             "RuleTablesError", "XmlError"}
 # Errors that say so within another one, and such as no public call returns.
 WITHIN = {"DataErrorKind", "RuleStepError", "UnplacedError"}
@@ -160,6 +160,10 @@ LEFT_OUT = {
     ("icu_cldr", "CharRange::parse_all"): LINE,
     ("icu_cldr", "FractionalElement::parse_all"): LINE,
     ("icu_cldr", "Mapping::parse"): LINE,
+    ("icu_mapping_entries", "entry_in_contexts"): FILE,
+    ("icu_mapping_entries", "entry_of_digit"): FILE,
+    ("icu_mapping_entries", "entry_of_elements"): FILE,
+    ("icu_mapping_entries", "put_between"): FILE,
     ("icu_provider", "OwnedDiacritics::copy"): CHECK,
     ("icu_provider", "OwnedJamo::copy"): CHECK,
     ("icu_provider", "OwnedReordering::copy"): CHECK,

@@ -9,10 +9,10 @@ use Rattle.ucd_table.specs.Rows.{Range, HasExactly, IsRising, in_ranges, is_rang
 use Rattle.ucd_perl.specs.Perl.{is_digit_char}
 use Rattle.icu_collation_data.specs.Data.{Data}
 use Rattle.icu_collation_data.proofs.CharLemmas.{scalar_below}
-use Rattle.icu_cldr.specs.DecimalValues.{decimal_value, digits_before}
+use Rattle.icu_mapping_entries.specs.DigitEntries.{decimal_value, digits_before}
 use Rattle.icu_cldr.specs.inner.Digits.{IsDigitOrAbsent, MakesDigits, MakesDigitsBelow, MakesAllDigits}
 use Rattle.icu_cldr.specs.inner.LineEntries.{Plain}
-use Rattle.icu_cldr.specs.inner.Surroundings.{Extends}
+use Rattle.icu_mapping_entries.specs.GrownLists.{Extends}
 use Rattle.icu_cldr.proofs.DigitRangeLemmas.{by_test, or_absent_further}
 
 -- ---- tests

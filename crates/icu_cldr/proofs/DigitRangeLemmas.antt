@@ -1,29 +1,15 @@
 -- Digits of a range, one by one.
-use Rattle.std.proofs.Common.{◌≡◌, ℕ, ◌+◌, ◌-◌, ◌%◌, ◌<◌, ◌≤◌, Bool, true, false, Option, Some, None, refl, sym, ap, subst, ◌∙◌, length, length-append, arith}
+use Rattle.std.proofs.Common.{◌≡◌, ℕ, ◌+◌, ◌-◌, ◌%◌, ◌≤◌, Bool, true, false, Option, Some, None, refl, sym, subst, ◌∙◌, arith}
 use Rattle.std.specs.Prelude.{◌==◌, ◌&&◌, nat_le, nat_lt, MatchBool}
 use Rattle.std.specs.BTreeMap.{get}
 use Rattle.std.specs.Char.{IsScalar}
 use Rattle.std.specs.Ordering.{nat_cmp}
-use Rattle.std.proofs.Math.ListN.{get_or-append}
 use Rattle.std.proofs.lemmas.Bool.Decides.{nat_tests}
-use Rattle.icu_collation_data.specs.Data.{Data, plain_of}
-use Rattle.icu_entries.specs.Entries.{entry_index}
-use Rattle.icu_cldr.specs.CharacterEntries.{IsDigitEntry}
+use Rattle.icu_collation_data.specs.Data.{Data}
 use Rattle.icu_cldr.specs.inner.Digits.{IsDigitOrAbsent, MakesDigits}
 use Rattle.icu_cldr.specs.inner.LineEntries.{Plain}
-use Rattle.icu_cldr.specs.inner.Surroundings.{Extends, HasMoreLists}
-
--- a digit's entry stays one
-pub digit_further : (d new : Data) (value plain e : ℕ) → HasMoreLists d new → IsDigitEntry d value plain e → IsDigitEntry new value plain e
-digit_further d new value plain e grows digit =
-    let size : length new.entries ≡ length d.entries + length grows.more_entries = ap length grows.entries ∙ length-append d.entries grows.more_entries in
-    let here : plain_of new e ≡ plain_of d e = ap (λ xs. plain_of (record d { entries = xs }) e) grows.entries ∙ get_or-append d.entries grows.more_entries 0 (entry_index e) digit.inside in
-    record {
-      kind = digit.kind;
-      value = digit.value;
-      inside = let b : entry_index e < length d.entries = digit.inside in omega arith;
-      plain = here ∙ digit.plain;
-    }
+use Rattle.icu_mapping_entries.specs.GrownLists.{Extends}
+use Rattle.icu_mapping_entries.proofs.GrownListLemmas.{digit_further}
 
 pub or_absent_further : (d new : Data) (value : ℕ) (was is : Option ℕ) → Extends d new → IsDigitOrAbsent d value was is → IsDigitOrAbsent new value was is
 or_absent_further d new value None is grows digit = digit

@@ -12,27 +12,27 @@ use Rattle.icu_entries.specs.EncodedEntries.{implicit_entry}
 use Rattle.icu_collation_data.specs.Data.{Data}
 use Rattle.icu_collation_data.proofs.CharLemmas.{scalar_below}
 use Rattle.icu_table_builder.specs.Building.{built_data}
-use Rattle.icu_cldr.specs.CharacterEntries.{IsDigitEntry, entry_of_char}
-use Rattle.icu_cldr.specs.DecimalValues.{decimal_value}
+use Rattle.icu_mapping_entries.specs.DigitEntries.{IsDigitEntry, decimal_value}
+use Rattle.icu_cldr.specs.CharacterEntries.{entry_of_char}
 use Rattle.icu_cldr.specs.FileRoots.{GivesMapping}
-use Rattle.icu_cldr.specs.Given.{Gives}
+use Rattle.icu_mapping_entries.specs.Given.{Gives}
 use Rattle.icu_cldr.specs.Ideographs.{primary_in}
 use Rattle.icu_cldr.specs.WrittenMappings.{is_without_context}
 use Rattle.icu_cldr.specs.inner.Digits.{IsDigitOrAbsent, MakesAllDigits}
 use Rattle.icu_cldr.specs.inner.LineEntries.{Around, HasEntry, Plain, entry_around}
 use Rattle.icu_cldr.specs.inner.Resolved.{IsResolved}
 use Rattle.icu_cldr.specs.inner.RootValues.{HasEntries, SameLists}
-use Rattle.icu_cldr.specs.inner.Surroundings.{Extends, HasMoreLists, IsBehind, Surroundings, entry_between, nearest, nearest_of, own_entry, value_among}
+use Rattle.icu_mapping_entries.specs.GrownLists.{Extends, HasMoreLists}
+use Rattle.icu_mapping_entries.specs.Surroundings.{IsBehind, Surroundings, entry_between, nearest, nearest_of, own_entry, value_among}
 use Rattle.icu_cldr.specs.Unmapped.{GivesUnmapped}
 use Rattle.icu_cldr.specs.inner.Taken.{HasMapping, HasNothing}
 use Rattle.icu_cldr.specs.inner.TakenCharacters.{HasNoEntry, HasUnmapped}
 use Rattle.icu_cldr.specs.declared.collected.Collected.{Collected}
 use Rattle.icu_cldr.specs.declared.mapping.Mapping.{Mapping}
-use Rattle.icu_cldr.proofs.NearestLemmas.{nearest_at}
-use Rattle.icu_cldr.proofs.AddedContextLemmas.{lists_further, leads_further}
-use Rattle.icu_cldr.proofs.DigitRangeLemmas.{by_test, digit_further}
+use Rattle.icu_mapping_entries.proofs.NearestLemmas.{nearest_at}
+use Rattle.icu_mapping_entries.proofs.GrownListLemmas.{lists_further, leads_further, digit_further, spells_further}
+use Rattle.icu_cldr.proofs.DigitRangeLemmas.{by_test}
 use Rattle.icu_cldr.proofs.IdeographValueLemmas.{unmapped_further}
-use Rattle.icu_cldr.proofs.TakenLemmas.{spells_further}
 
 -- what holds where a call didn't fail, and its error became another one where it did
 pub on_ok_kept : {T E D P : Type 0} (r : Result T E) (s : Result T D) (x : T) → OnOk r P → is_ok s ≡ is_ok r → s ≡ Ok x → P

@@ -18,7 +18,7 @@ use Rattle.icu_table_builder.specs.Building.{and_elements, empty_data, set_in}
 use Rattle.icu_cldr.specs.Ideographs.{HasNoIdeographs, ideograph_weight_in, primary_among, primary_in}
 use Rattle.icu_cldr.specs.Unmapped.{GivesUnmapped, GivesWeight}
 use Rattle.icu_cldr.specs.inner.IdeographValues.{GivesOrKeeps, SetsBelow, SetsRange}
-use Rattle.icu_cldr.specs.inner.Surroundings.{Extends, HasMoreLists}
+use Rattle.icu_mapping_entries.specs.GrownLists.{Extends, HasMoreLists}
 use Rattle.icu_cldr.specs.declared.ideograph_weights.IdeographWeights.{IdeographWeights}
 use Rattle.icu_cldr.specs.declared.ideograph_weights.WeightedRange.{WeightedRange}
 use Rattle.icu_cldr.proofs.IdeographLemmas.{no_primary}

@@ -1,8 +1,4 @@
 pub mod HexDigitLemmas
-pub mod SurroundingLemmas
-pub mod AddedContextLemmas
-pub mod NearestLemmas
-pub mod PrefixLemmas
 pub mod LineWordLemmas
 pub mod SaidElementLemmas
 pub mod LinePartLemmas

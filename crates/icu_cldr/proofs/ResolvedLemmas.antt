@@ -11,11 +11,12 @@ use Rattle.std.specs.declared.cmp.Ordering.TheVariants.{Less}
 use Rattle.std.proofs.lemmas.Bool.Decides.{nat_tests}
 use Rattle.icu_collation_data.specs.Data.{Data}
 use Rattle.icu_cldr.specs.CharacterEntries.{entry_of_char}
-use Rattle.icu_cldr.specs.Given.{Gives}
+use Rattle.icu_mapping_entries.specs.Given.{Gives}
 use Rattle.icu_cldr.specs.inner.LineEntries.{Around, Plain}
 use Rattle.icu_cldr.specs.inner.Resolved.{GivesAll, IsResolved}
-use Rattle.icu_cldr.specs.inner.Surroundings.{Extends, Surroundings}
-use Rattle.icu_cldr.proofs.AddedContextLemmas.{leads_further}
+use Rattle.icu_mapping_entries.specs.GrownLists.{Extends}
+use Rattle.icu_mapping_entries.specs.Surroundings.{Surroundings}
+use Rattle.icu_mapping_entries.proofs.GrownListLemmas.{leads_further}
 use Rattle.icu_cldr.proofs.RootValueLemmas.{at_same, same_number}
 
 -- the contexts of a character among those that are left

@@ -1,20 +1,16 @@
 -- What was taken in stays.
-use Rattle.std.proofs.Common.{◌≡◌, ℕ, ◌+◌, ◌-◌, ◌≤◌, ◌<◌, Bool, true, false, List, [], ◌∷◌, ◌++◌, Option, Some, None, refl, sym, ap, subst, ◌∙◌, inl, inr, length, length-append, map, take, drop, arith, option_map, zero, suc}
-use Rattle.std.specs.Prelude.{IfSome, OnOk, Result, Ok, Err, ◌==◌, ◌&&◌, ◌||◌, nat_lt, nat_le, bytes_eq, reverse, if◌then◌else◌}
+use Rattle.std.proofs.Common.{◌≡◌, ℕ, ◌+◌, ◌-◌, ◌<◌, Bool, true, false, List, [], ◌∷◌, ◌++◌, Option, Some, None, refl, sym, ap, subst, ◌∙◌, length, map, arith, option_map, suc}
+use Rattle.std.specs.Prelude.{IfSome, OnOk, Result, Ok, Err, ◌==◌, ◌&&◌, ◌||◌, bytes_eq, reverse}
 use Rattle.std.proofs.lemmas.Bool.Decides.{nat_tests}
 use Rattle.icu_table_builder.specs.Building.{built_data}
 use Rattle.icu_cldr.specs.FileLines.{AreLines}
 use Rattle.std.specs.BTreeMap.{get}
-use Rattle.std.specs.List.{AllByRecursion, AllZip, flat_map, list_any}
+use Rattle.std.specs.List.{AllByRecursion, AllZip, list_any}
 use Rattle.std.specs.Ordering.{nat_cmp}
 use Rattle.std.proofs.lemmas.List.Folds.{list_any-append}
-use Rattle.std.proofs.lemmas.List.{take-append-le, drop-append-le, length-drop, length-reverse}
-use Rattle.icu_collation_data.specs.Data.{Data}
-use Rattle.icu_collation_data.specs.Final.{listed}
+use Rattle.std.proofs.lemmas.List.{length-reverse}
 use Rattle.icu_entries.specs.Elements.{Element}
-use Rattle.icu_entries.specs.Entries.{entry_index, list_length, self_contained}
 use Rattle.icu_entries.specs.EncodedEntries.{of_weights}
-use Rattle.icu_cldr.specs.Given.{Spells}
 use Rattle.icu_cldr.specs.Ideographs.{primary_in}
 use Rattle.icu_cldr.specs.Unmapped.{maps_first}
 use Rattle.icu_cldr.specs.LineElements.{primary_said, element_said, AreSaid}
@@ -22,7 +18,6 @@ use Rattle.icu_cldr.specs.WrittenLines.{LineSays}
 use Rattle.icu_cldr.specs.WrittenMappings.{is_without_context}
 use Rattle.icu_cldr.specs.inner.LineEntries.{Around, EntriesGrow, HasEntry, Plain}
 use Rattle.icu_cldr.specs.inner.SpecialParts.{AddsSpecial}
-use Rattle.icu_cldr.specs.inner.Surroundings.{HasMoreLists}
 use Rattle.icu_cldr.specs.inner.TakenCharacters.{HasNoEntry, KeepsOthers, KeepsUnmapped, MapsOnly}
 use Rattle.icu_cldr.specs.inner.WeightedRanges.{AddsIdeographs}
 use Rattle.icu_cldr.specs.inner.Taken.{AddsFacts, CountsSome, Grows, HasMapping, HasSaid, TakesFile, TakesLines}
@@ -33,56 +28,10 @@ use Rattle.icu_cldr.specs.declared.fractional_element.Primary.TheVariants.{Weigh
 use Rattle.icu_cldr.specs.declared.line.Line.{Line}
 use Rattle.icu_cldr.specs.declared.line.Line.TheVariants as says
 use Rattle.icu_cldr.specs.declared.mapping.Mapping.{Mapping}
-use Rattle.icu_cldr.proofs.AddedContextLemmas.{lists_further, lists_itself}
+use Rattle.icu_mapping_entries.proofs.GrownListLemmas.{lists_further, lists_itself, spells_further}
 use Rattle.icu_cldr.proofs.FileFactLemmas.{facts_more}
 use Rattle.icu_cldr.proofs.SaidSpecialLemmas.{specials_more}
 use Rattle.icu_cldr.proofs.WeightedRangeLemmas.{ideographs_more}
-
--- ---- lists of a table that grows
-
-inside_further : {A : Type 0} (n : ℕ) (xs more ys : List A) → ys ≡ xs ++ more → n ≤ length xs → n ≤ length ys
-inside_further n xs more ys same inside =
-    let size : length ys ≡ length xs + length more = ap length same ∙ length-append xs more in
-    omega arith
-
-some_or_none : {A : Type 0} (i n : ℕ) (xs : List A) → i + n ≤ length xs → (if nat_lt 0 n && nat_le (i + n) (length xs) then take n (drop i xs) else []) ≡ take n (drop i xs)
-some_or_none i zero xs inside = refl
-some_or_none i (suc n) xs inside =
-    let some : nat_lt 0 (suc n) ≡ true = grind (arith, nat_tests) in
-    let fits : nat_le (i + suc n) (length xs) ≡ true = grind (arith, nat_tests) in
-    rw (some, fits) refl
-
--- a list that lies inside is the part of the table's list
-pub listed_inside : {A : Type 0} (e : ℕ) (xs : List A) → entry_index e + list_length e ≤ length xs → listed e xs ≡ take (list_length e) (drop (entry_index e) xs)
-listed_inside e xs inside = some_or_none (entry_index e) (list_length e) xs inside
-
-listed_further : {A : Type 0} (e : ℕ) (xs more ys : List A) → ys ≡ xs ++ more → entry_index e + list_length e ≤ length xs → listed e ys ≡ listed e xs
-listed_further e xs more ys same inside =
-    let i : ℕ = entry_index e in
-    let n : ℕ = list_length e in
-    let fits : i + n ≤ length xs = inside in
-    let size : length (drop i xs) ≡ length xs - i = length-drop i xs in
-    listed_inside e ys (inside_further (i + n) xs more ys same inside)
-    ∙ ap (λ zs. take n (drop i zs)) same
-    ∙ ap (take n) (drop-append-le i xs more (omega arith))
-    ∙ take-append-le n (drop i xs) more (omega arith)
-    ∙ sym (listed_inside e xs inside)
-
--- an entry spells what it spelt
-pub spells_further : (d new : Data) (e : ℕ) (es : List Element) → HasMoreLists d new → Spells d e es → Spells new e es
-spells_further d new e es grows (inl s) = inl s
-spells_further d new e es grows (inr (inl s)) =
-    inr (inl (record {
-      kind = s.kind;
-      inside = inside_further (entry_index e + list_length e) d.entries grows.more_entries new.entries grows.entries s.inside;
-      elements = ap (flat_map self_contained) (listed_further e d.entries grows.more_entries new.entries grows.entries s.inside) ∙ s.elements;
-    }))
-spells_further d new e es grows (inr (inr s)) =
-    inr (inr (record {
-      kind = s.kind;
-      inside = inside_further (entry_index e + list_length e) d.elements grows.more_elements new.elements grows.elements s.inside;
-      elements = listed_further e d.elements grows.more_elements new.elements grows.elements s.inside ∙ s.elements;
-    }))
 
 -- ---- elements
 

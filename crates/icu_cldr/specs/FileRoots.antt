@@ -6,12 +6,11 @@ use Rattle.ucd_perl.specs.Perl.{is_digit_char}
 use Rattle.icu_entries.specs.Elements.{Element}
 use Rattle.icu_collation_data.specs.Data.{Data}
 use Rattle.icu_provider.specs.CollatorTables.{CollatorTables}
-use Rattle.icu_cldr.specs.CharacterEntries.{IsDigitEntry}
-use Rattle.icu_cldr.specs.DecimalValues.{decimal_value}
+use Rattle.icu_mapping_entries.specs.DigitEntries.{IsDigitEntry, decimal_value}
 use Rattle.icu_cldr.specs.FileFacts.{SaysFacts}
 use Rattle.icu_cldr.specs.FileLines.{AreLines}
 use Rattle.icu_cldr.specs.FixedBytes.{fixes_last}
-use Rattle.icu_cldr.specs.Given.{Spells, Gives}
+use Rattle.icu_mapping_entries.specs.Given.{Spells, Gives}
 use Rattle.icu_cldr.specs.IdeographOrder.{ideograph_weight, ideographs_of}
 use Rattle.icu_cldr.specs.LineElements.{AreSaid}
 use Rattle.icu_cldr.specs.SaidSpecials.{SaysSpecials}

@@ -11,12 +11,10 @@ pub mod FileFacts
 pub mod Ranges
 pub mod Errors
 pub mod Roots
-pub mod Given
 pub mod LineElements
 pub mod Ideographs
 pub mod IdeographOrder
 pub mod CharacterEntries
-pub mod DecimalValues
 pub mod SaidSpecials
 pub mod Unmapped
 pub mod FileRoots

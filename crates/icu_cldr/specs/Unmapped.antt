@@ -7,7 +7,7 @@ use Rattle.icu_entries.specs.Entries.{kind_of, entry_index}
 use Rattle.icu_entries.specs.EntryConditions.{has_offset_weight}
 use Rattle.icu_entries.specs.Weights.{offset_weight}
 use Rattle.icu_collation_data.specs.Data.{Data, data_element}
-use Rattle.icu_cldr.specs.Given.{SpellsAlone}
+use Rattle.icu_mapping_entries.specs.Given.{SpellsAlone}
 use Rattle.icu_cldr.specs.declared.line.Line.{Line}
 use Rattle.icu_cldr.specs.declared.line.Line.TheVariants as says
 

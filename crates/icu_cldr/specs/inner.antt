@@ -1,6 +1,5 @@
 -- Words of private contracts and proofs only: no public contract names them.
 pub mod Diacritics
-pub mod Surroundings
 pub mod LineEntries
 pub mod Taken
 pub mod CompressedLeads

@@ -4,23 +4,23 @@ ghost use Rattle.std.specs.BTreeMap.{get};
 ghost use Rattle.std.specs.Ordering.{nat_cmp};
 ghost use Rattle.icu_table_builder.specs.Building.{built_data, SaysOfCharacters};
 ghost use Rattle.icu_table_builder.specs.OwnedData.{owned_data};
-ghost use Rattle.icu_provider.specs.OwnedTables.{owned_jamo, owned_special};
+ghost use Rattle.icu_provider.specs.OwnedTables.{owned_jamo};
 ghost use Rattle.icu_cldr.specs.CharacterEntries.{entry_of_char};
 ghost use Rattle.icu_cldr.specs.Errors.{IsOtherError};
 ghost use Rattle.icu_cldr.specs.Roots.{IsRoot, root_facts, root_tables};
 ghost use Rattle.icu_cldr.specs.inner.Resolved.{IsResolved};
-ghost use Rattle.icu_cldr.specs.inner.Surroundings.{Extends};
+ghost use Rattle.icu_mapping_entries.specs.GrownLists.{Extends};
 ghost use Rattle.icu_cldr.specs.inner.RootValues.{SameLists, HasEntries};
 ghost use Rattle.icu_cldr.specs.inner.SpecialParts.{MakesSpecials};
 ghost use Rattle.icu_cldr.specs.inner.Taken.{KeepsMappings};
 ghost use Rattle.icu_cldr.specs.inner.TakenCharacters.{LeavesUnmapped};
 
 use crate::collected::Collected;
-use crate::contexts::{Contexts, entry_in_contexts};
 use crate::digits::make_digits;
 use crate::error::{ReadError, UnnumberedError, named};
 use crate::root::CldrRoot;
 use icu_entries::{CollationElement32, DataTable};
+use icu_mapping_entries::{CONTEXT_STEPS, Contexts, entry_in_contexts};
 use icu_options::MaxVariable;
 use icu_provider::jamo::{JAMO_BASE, JAMO_COUNT};
 use icu_provider::{CollationMetadata, MetadataFields, OwnedDiacritics, OwnedJamo, OwnedTables};
@@ -75,9 +75,6 @@ fn diacritics(alloc: Global, secondaries: &[u16]) -> Result<OwnedDiacritics, Rea
     let secondaries = Vec::from_slice(alloc, secondaries)?;
     named(DataTable::Diacritics, OwnedDiacritics::new(secondaries))
 }
-
-/// How many steps it may take in all to join the mappings of prefixes by those of shorter ones.
-const CONTEXT_STEPS: u64 = 1 << 24;
 
 /// Gives the characters that have contexts their entries.
 fn resolve_contexts(

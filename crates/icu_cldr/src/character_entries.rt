@@ -4,9 +4,9 @@ ghost use Rattle.icu_cldr.specs.inner.LineEntries.{HasEntry, PutsPlain, PutsBetw
 ghost use Rattle.icu_cldr.specs.inner.TakenCharacters.{KeepsOthers};
 
 use crate::Mapping;
-use crate::contexts::{Contexts, put_between};
 use crate::error::{LineErrorKind, UnnumberedError};
 use icu_entries::CollationElement32;
+use icu_mapping_entries::{Contexts, put_between};
 use std::alloc::Global;
 use std::collections::BTreeMap;
 

@@ -4,7 +4,6 @@ ghost use Rattle.icu_cldr.specs.inner.Diacritics.{SaysOfMark};
 
 use crate::character_entries::{CharacterContexts, CharacterEntries, add_entry};
 use crate::error::{LineErrorKind, UnnumberedError};
-use crate::expansions::add_elements;
 use crate::file_facts::FileFacts;
 use crate::ideograph_entries::set_ideographs;
 use crate::ideograph_weights::IdeographWeights;
@@ -13,6 +12,7 @@ use crate::special::Special;
 use crate::{CharRange, Line, Mapping};
 use icu_entries::element::COMMON_WEIGHT16;
 use icu_entries::{CollationElement, CollationElement32};
+use icu_mapping_entries::entry_of_elements;
 use icu_provider::diacritics::{OPTIMIZED_DIACRITICS_MAX_COUNT, is_replaced_index};
 use icu_table_builder::DataBuilder;
 use std::alloc::{AllocError, Global};
@@ -189,7 +189,7 @@ impl Collected {
     {
         let elements = elements_said(self.alloc, &self.ideographs, mapping.elements.as_slice())?;
         set_diacritic(&mut self.diacritics, &mapping, elements.as_slice())?;
-        let entry = add_elements(self.alloc, &mut self.builder, elements.as_slice())?;
+        let entry = entry_of_elements(self.alloc, &mut self.builder, elements.as_slice())?;
         add_entry(
             self.alloc,
             &mut self.entries,

@@ -1,38 +1,21 @@
 //! The digits that make numbers: characters with General_Category Nd.
-ghost use Rattle.std.specs.Prelude.{◌≡◌, ◌≤◌, ◌==◌, ◌%◌, ℕ, false, if◌then◌else◌, IfOk, OnOk};
+ghost use Rattle.std.specs.Prelude.{◌≡◌, ◌≤◌, ◌==◌, ◌%◌, ℕ, false, if◌then◌else◌, OnOk};
 ghost use Rattle.std.specs.BTreeMap.{get};
 ghost use Rattle.std.specs.Char.{IsScalar};
 ghost use Rattle.std.specs.Ordering.{nat_cmp};
 ghost use Rattle.icu_table_builder.specs.Building.{built_data};
-ghost use Rattle.icu_cldr.specs.CharacterEntries.{IsDigitEntry};
 ghost use Rattle.icu_cldr.specs.inner.Digits.{IsDigitOrAbsent, MakesDigits, MakesAllDigits};
-ghost use Rattle.icu_cldr.specs.inner.Surroundings.{Extends};
+ghost use Rattle.icu_mapping_entries.specs.GrownLists.{Extends};
 
 use crate::character_entries::CharacterEntries;
-use crate::error::{LineErrorKind, UnnumberedError};
-use icu_entries::{CollationElement32, INDEX_COUNT};
+use crate::error::UnnumberedError;
+use icu_mapping_entries::entry_of_digit;
 use icu_table_builder::DataBuilder;
 use std::alloc::Global;
 use ucd_perl::digit_ranges;
 
-/// The entry of a digit whose plain entry this is.
-fn entry_of_digit(
-    builder: &mut DataBuilder,
-    value: u32,
-    plain: CollationElement32,
-) -> Result<CollationElement32, UnnumberedError>
-    ensures extends { OnOk result (Extends (built_data builder.old) (built_data builder.new)) }
-    ensures digit { IfOk result (IsDigitEntry (built_data builder.new) (value % 10) plain) }
-{
-    let index = builder.add_entries(&[plain])?;
-    if index >= INDEX_COUNT {
-        return Err(UnnumberedError::Refused(LineErrorKind::FullTables));
-    }
-    Ok(CollationElement32::digit_with_plain((value % 10) as u8, index))
-}
-
 /// Replaces the entry of a character, if it is one and is mapped, by a digit entry.
-#[tactic(auto, using(crate::proofs::AddedContextLemmas::extends_itself))]
+#[tactic(auto, using(icu_mapping_entries::proofs::GrownListLemmas::extends_itself))]
 fn make_digit(
     builder: &mut DataBuilder,
     entries: &mut CharacterEntries,
@@ -51,7 +34,7 @@ fn make_digit(
     let Some(plain) = entries.get(&c).copied() else {
         return Ok(());
     };
-    let entry = entry_of_digit(builder, value, plain)?;
+    let entry = entry_of_digit(builder, (value % 10) as u8, plain)?;
     entries.insert(c, entry)?;
     Ok(())
 }

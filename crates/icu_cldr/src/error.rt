@@ -4,6 +4,7 @@ ghost use Rattle.icu_cldr.specs.Errors.{IsOtherError};
 
 use crate::{Expected, LineError};
 use icu_entries::{DataError, DataErrorKind, DataTable};
+use icu_mapping_entries::MappingEntriesError;
 use std::alloc::{AllocError, AllocFailed};
 use std::io;
 use thiserror::Error;
@@ -134,6 +135,18 @@ impl From<LineError> for UnnumberedError {
             LineError::Expected(expected) => UnnumberedError::Refused(LineErrorKind::Written(
                 expected,
             )),
+        }
+    }
+}
+
+impl From<MappingEntriesError> for UnnumberedError {
+    fn from(error: MappingEntriesError) -> UnnumberedError {
+        match error {
+            MappingEntriesError::NoMemory => UnnumberedError::NoMemory,
+            MappingEntriesError::FullTables => UnnumberedError::Refused(LineErrorKind::FullTables),
+            MappingEntriesError::FewerElements => UnnumberedError::Refused(
+                LineErrorKind::FewerElements,
+            ),
         }
     }
 }

@@ -5,7 +5,7 @@ ghost use Rattle.icu_table_builder.specs.Building.{built_data};
 ghost use Rattle.icu_cldr.specs.Ideographs.{ideograph_weight_in, primary_among};
 ghost use Rattle.icu_cldr.specs.Unmapped.{GivesWeight};
 ghost use Rattle.icu_cldr.specs.inner.IdeographValues.{GivesOrKeeps, SetsRange};
-ghost use Rattle.icu_cldr.specs.inner.Surroundings.{HasMoreLists};
+ghost use Rattle.icu_mapping_entries.specs.GrownLists.{HasMoreLists};
 
 use crate::error::{LineErrorKind, UnnumberedError};
 use crate::ideograph_weights::{STEP, WeightedRange, char_count};
@@ -16,7 +16,7 @@ use icu_table_builder::DataBuilder;
 const FEW_IDEOGRAPHS: u32 = 8;
 
 /// Gives an ideograph of a range an entry of its own, if the code is a character's.
-#[tactic(auto, using(crate::proofs::AddedContextLemmas::lists_itself))]
+#[tactic(auto, using(icu_mapping_entries::proofs::GrownListLemmas::lists_itself))]
 fn set_one(
     builder: &mut DataBuilder,
     weighted: WeightedRange,

@@ -1,1 +1,4 @@
-mod GivenLemmas
+pub mod MappingEntryLemmas
+pub mod BegunSuffixLemmas
+pub mod NearestMappingLemmas
+pub mod TailoredCharacterLemmas

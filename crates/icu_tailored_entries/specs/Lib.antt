@@ -1,1 +1,2 @@
-pub mod GivenElements
+pub mod GivenMappings
+pub mod inner

@@ -1,18 +1,25 @@
 //! The entries of characters by what stands before and after them.
-ghost use Rattle.std.specs.Prelude.{◌<◌, ◌^◌, IfOk, IfSome};
+ghost use Rattle.std.specs.Prelude.{◌≡◌, ◌∷◌, [], true, IfOk, IfSome, OnOk};
+ghost use Rattle.ucd_perl.specs.Perl.{is_digit_char};
+ghost use Rattle.ucd_table.specs.Rows.{HasExactly};
+ghost use Rattle.icu_table_builder.specs.Building.{built_data};
+ghost use Rattle.icu_mapping_entries.specs.GrownLists.{Extends};
+ghost use Rattle.icu_tailoring.specs.TailoredMappings.{has_no_context};
+ghost use Rattle.icu_symbolic_mappings.specs.StoredMappings.{symbolic_mapping, symbolic_mappings};
+ghost use Rattle.icu_tailored_entries.specs.GivenMappings.{GivesMappings, IsMappingEntry};
+ghost use Rattle.icu_tailored_entries.specs.inner.MappingEntries.{HasEntriesOf, PutsEntryOf};
 
-use crate::decimal_digits::digit_value;
-use crate::elements::{entry_of_elements, index_of};
+use crate::elements::entry_of_symbolic_elements;
 use crate::error::TailoredEntriesError;
 use icu_entries::CollationElement32;
-use icu_symbolic_mappings::{SymbolicMapping, mappings_behind};
+use icu_mapping_entries::{
+    Contexts, entry_in_contexts, entry_of_digit, put_between, value_of_digit,
+};
+use icu_symbolic_mappings::SymbolicMapping;
 use icu_table_builder::DataBuilder;
 use icu_tailoring_numbers::TailoringNumbers;
-use std::alloc::{AllocError, Global};
+use std::alloc::Global;
 use std::collections::BTreeMap;
-
-/// Entries by the characters of a context.
-type Rows = BTreeMap<Vec<char>, CollationElement32>;
 
 /// What the mappings of a character become entries by.
 #[derive(Debug, Clone, Copy)]
@@ -21,114 +28,127 @@ pub(crate) struct EntrySources<'n> {
     pub numbers: &'n TailoringNumbers,
     /// The ranges of characters that are digits.
     pub digits: &'n [(u32, u32)],
+    ghost are_digits: { HasExactly digits.now is_digit_char },
 }
 
-/// The rows of a context.
-fn rows_of(alloc: Global, rows: &Rows) -> Result<Vec<(&[char], CollationElement32)>, AllocError> {
-    let mut list = Vec::new(alloc);
-    for (chars, entry) in rows.iter() {
-        list.extend_from_slice(&[(chars.as_slice(), *entry)])?;
-    }
-    Ok(list)
-}
-
-/// The index of a context with these rows, if there are any.
-fn add_context(
-    alloc: Global,
-    builder: &mut DataBuilder,
-    default: CollationElement32,
-    rows: &Rows,
-) -> Result<Option<usize>, TailoredEntriesError>
-    ensures { IfOk result (λ added. IfSome added (λ index. index < 2 ^ 19)) }
+/// Whether the mapping is of its character alone.
+fn has_no_context(mapping: &SymbolicMapping) -> bool
+    ensures { result ≡ has_no_context (symbolic_mapping mapping.now) }
 {
-    let list = rows_of(alloc, rows)?;
-    if list.is_empty() {
-        return Ok(None);
-    }
-    let index = index_of(builder.add_context(default, list.as_slice())?)?;
-    Ok(Some(index))
+    let none: &[char] = &[];
+    mapping.prefix.as_slice() == none && mapping.suffix.as_slice() == none
 }
 
-/// The entry of a digit whose plain entry this is.
-fn entry_of_digit(
-    builder: &mut DataBuilder,
-    value: u8,
-    plain: CollationElement32,
-) -> Result<CollationElement32, TailoredEntriesError>
-    requires { value < 10 }
-{
-    let index = index_of(builder.add_entries(&[plain])?)?;
-    Ok(CollationElement32::digit_with_plain(value, index))
-}
-
-/// The entry of a character by itself, which is a digit where the character is one and no prefix stands before it.
-fn entry_alone(
+/// The entry of a mapping of a character, which is that of a digit where a digit is mapped by itself.
+fn entry_of_mapping(
     alloc: Global,
     builder: &mut DataBuilder,
     sources: EntrySources<'_>,
     c: char,
-    before: &[char],
     mapping: &SymbolicMapping,
-) -> Result<CollationElement32, TailoredEntriesError> {
-    let plain = entry_of_elements(alloc, builder, sources.numbers, mapping.elements.as_slice())?;
-    if !before.is_empty() {
-        return Ok(plain);
+) -> Result<CollationElement32, TailoredEntriesError>
+    ensures extends { OnOk result (Extends (built_data builder.old) (built_data builder.new)) }
+    ensures entry { IfOk result (IsMappingEntry sources.entry.numbers.now (built_data builder.new) c
+        (symbolic_mapping mapping.now)) }
+{
+    let elements = mapping.elements.as_slice();
+    let letter = entry_of_symbolic_elements(alloc, builder, sources.numbers, elements)?;
+    if !has_no_context(mapping) {
+        return Ok(letter);
     }
-    match digit_value(sources.digits, c) {
-        Some(value) => entry_of_digit(builder, value, plain),
-        None => Ok(plain),
+    match value_of_digit(sources.digits, c) {
+        Some(value) => Ok(entry_of_digit(builder, value, letter)?),
+        None => Ok(letter),
     }
 }
 
-/// The entry of a character behind these characters, the nearest first.
-fn entry_behind(
+/// Puts the entry of a mapping of a character between its prefix and its suffix.
+fn put_entry(
+    alloc: Global,
+    builder: &mut DataBuilder,
+    sources: EntrySources<'_>,
+    c: char,
+    mapping: &SymbolicMapping,
+    contexts: &mut Contexts,
+) -> Result<(), TailoredEntriesError>
+    ensures extends { OnOk result (Extends (built_data builder.old) (built_data builder.new)) }
+    ensures puts { OnOk result (PutsEntryOf sources.entry.numbers.now (built_data builder.new) c
+        (symbolic_mapping mapping.now) contexts.old contexts.new) }
+{
+    let entry = entry_of_mapping(alloc, builder, sources, c, mapping)?;
+    let before = Vec::from_slice(alloc, mapping.prefix.as_slice())?;
+    let after = Vec::from_slice(alloc, mapping.suffix.as_slice())?;
+    put_between(alloc, contexts, before, after, entry)?;
+    Ok(())
+}
+
+/// The entries of a character by what stands around it. Of mappings of one prefix and one suffix the first counts, so
+/// the last is put first.
+fn contexts_of(
     alloc: Global,
     builder: &mut DataBuilder,
     sources: EntrySources<'_>,
     c: char,
     own: &[SymbolicMapping],
-    before: &[char],
-) -> Result<CollationElement32, TailoredEntriesError> {
-    let mut default = CollationElement32::simple(0, 0, 0);
-    let mut rows = BTreeMap::new(alloc);
-    for mapping in &mappings_behind(alloc, own, before)? {
-        if mapping.suffix.is_empty() {
-            default = entry_alone(alloc, builder, sources, c, before, mapping)?;
-        } else {
-            let entry = entry_of_elements(
-                alloc,
-                builder,
-                sources.numbers,
-                mapping.elements.as_slice(),
-            )?;
-            rows.insert(Vec::from_slice(alloc, mapping.suffix.as_slice())?, entry)?;
-        }
+) -> Result<Contexts, TailoredEntriesError>
+    ensures extends { OnOk result (Extends (built_data builder.old) (built_data builder.new)) }
+    ensures entries { IfOk result (HasEntriesOf sources.entry.numbers.now (built_data builder.new) c
+        (symbolic_mappings own.now)) }
+{
+    let mut contexts = BTreeMap::new(alloc);
+    for index in (0..own.len()).rev() {
+        put_entry(alloc, builder, sources, c, &own[index], &mut contexts)?;
     }
-    match add_context(alloc, builder, default, &rows)? {
-        Some(index) => Ok(CollationElement32::contraction(index)),
-        None => Ok(default),
+    Ok(contexts)
+}
+
+/// The mapping of a character alone, where the character has no other.
+fn lone_mapping(own: &[SymbolicMapping]) -> Option<&SymbolicMapping>
+    ensures lone { IfSome result (λ m.
+        symbolic_mappings own.now ≡ symbolic_mapping m.now ∷ []) }
+    ensures alone { IfSome result (λ m. has_no_context (symbolic_mapping m.now) ≡ true) }
+{
+    match own {
+        [mapping] if has_no_context(mapping) => Some(mapping),
+        _ => None,
     }
 }
 
-/// The entry of a character with these mappings.
+/// The entry of a character with these mappings, of which some depend on what stands around it.
+fn entry_by_contexts(
+    alloc: Global,
+    left: &mut u64,
+    builder: &mut DataBuilder,
+    sources: EntrySources<'_>,
+    c: char,
+    own: &[SymbolicMapping],
+) -> Result<CollationElement32, TailoredEntriesError>
+    ensures extends { OnOk result (Extends (built_data builder.old) (built_data builder.new)) }
+    ensures gives { IfOk result (GivesMappings sources.entry.numbers.now (built_data builder.new) c
+        (symbolic_mappings own.now)) }
+{
+    let contexts = contexts_of(alloc, builder, sources, c, own)?;
+    let ignorable = CollationElement32::simple(0, 0, 0);
+    let entry = entry_in_contexts(alloc, left, builder, ignorable, &contexts)?;
+    Ok(entry)
+}
+
+/// The entry of a character with these mappings. Of the steps that are left it takes those for prefixes whose mappings
+/// are joined by those of shorter ones.
 pub(crate) fn entry_of_mappings(
     alloc: Global,
+    left: &mut u64,
     builder: &mut DataBuilder,
     sources: EntrySources<'_>,
     c: char,
     own: &[SymbolicMapping],
-) -> Result<CollationElement32, TailoredEntriesError> {
-    let default = entry_behind(alloc, builder, sources, c, own, &[])?;
-    let mut rows: Rows = BTreeMap::new(alloc);
-    for mapping in own {
-        let before = mapping.prefix.as_slice();
-        if !before.is_empty() && rows.get(before).is_none() {
-            let entry = entry_behind(alloc, builder, sources, c, own, before)?;
-            rows.insert(Vec::from_slice(alloc, before)?, entry)?;
-        }
-    }
-    match add_context(alloc, builder, default, &rows)? {
-        Some(index) => Ok(CollationElement32::prefix(index)),
-        None => Ok(default),
+) -> Result<CollationElement32, TailoredEntriesError>
+    ensures extends { OnOk result (Extends (built_data builder.old) (built_data builder.new)) }
+    ensures gives { IfOk result (GivesMappings sources.entry.numbers.now (built_data builder.new) c
+        (symbolic_mappings own.now)) }
+{
+    match lone_mapping(own) {
+        Some(mapping) => entry_of_mapping(alloc, builder, sources, c, mapping),
+        None => entry_by_contexts(alloc, left, builder, sources, c, own),
     }
 }

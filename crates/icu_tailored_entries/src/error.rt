@@ -1,4 +1,5 @@
 //! Why mappings have no entries.
+use icu_mapping_entries::MappingEntriesError;
 use std::alloc::{AllocError, AllocFailed};
 use thiserror::Error;
 
@@ -8,7 +9,8 @@ pub enum TailoredEntriesError {
     /// Out of memory.
     #[error("no memory")]
     NoMemory,
-    /// There are more lists or contexts than entries can refer to.
+    /// There are more lists or contexts than entries can refer to, or too many mappings of shorter prefixes count
+    /// behind longer ones.
     #[error("expected fewer expansions and contractions")]
     FullTables,
     /// A mapping has more than 31 elements.
@@ -38,5 +40,15 @@ impl<T: Drop> From<AllocFailed<T>> for TailoredEntriesError {
 
     fn from(_: AllocFailed<T>) -> TailoredEntriesError {
         TailoredEntriesError::NoMemory
+    }
+}
+
+impl From<MappingEntriesError> for TailoredEntriesError {
+    fn from(error: MappingEntriesError) -> TailoredEntriesError {
+        match error {
+            MappingEntriesError::NoMemory => TailoredEntriesError::NoMemory,
+            MappingEntriesError::FullTables => TailoredEntriesError::FullTables,
+            MappingEntriesError::FewerElements => TailoredEntriesError::FewerElements,
+        }
     }
 }

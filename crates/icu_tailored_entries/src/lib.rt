@@ -2,7 +2,6 @@
 #![tactic(auto)]
 
 mod contexts;
-mod decimal_digits;
 mod elements;
 pub mod error;
 pub mod kept_diacritics;

@@ -5,8 +5,7 @@ use Rattle.std.specs.Char.{IsScalar}
 use Rattle.std.specs.Ordering.{nat_cmp}
 use Rattle.icu_collation_data.specs.Data.{Data}
 use Rattle.ucd_perl.specs.Perl.{is_digit_char}
-use Rattle.icu_cldr.specs.CharacterEntries.{IsDigitEntry}
-use Rattle.icu_cldr.specs.DecimalValues.{decimal_value}
+use Rattle.icu_mapping_entries.specs.DigitEntries.{IsDigitEntry, decimal_value}
 use Rattle.icu_cldr.specs.inner.LineEntries.{Plain}
 
 -- a character that had an entry has that of a digit in its place, and one that had none has none

@@ -2,7 +2,7 @@
 use Rattle.std.specs.Prelude.{◌≡◌, ℕ, ◌==◌, ◌&&◌, false, List, [], Option, Some, None, option_and_then, if◌then◌else◌, reverse, bytes_eq, MatchBool}
 use Rattle.std.specs.BTreeMap.{BTreeMap, get}
 use Rattle.std.specs.Ordering.{nat_cmp}
-use Rattle.icu_cldr.specs.inner.Surroundings.{Surroundings, entry_between}
+use Rattle.icu_mapping_entries.specs.Surroundings.{Surroundings, entry_between}
 use Rattle.icu_cldr.specs.WrittenMappings.{is_without_context}
 use Rattle.icu_cldr.specs.declared.mapping.Mapping.{Mapping}
 

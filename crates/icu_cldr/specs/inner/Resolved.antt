@@ -1,8 +1,8 @@
 -- Characters that have contexts, and the entries that they have by them.
 use Rattle.std.specs.Prelude.{◌≡◌, ℕ, List, Option, Some, None}
 use Rattle.icu_collation_data.specs.Data.{Data}
-use Rattle.icu_cldr.specs.Given.{Gives}
-use Rattle.icu_cldr.specs.inner.Surroundings.{Surroundings, IsBehind, nearest}
+use Rattle.icu_mapping_entries.specs.Given.{Gives}
+use Rattle.icu_mapping_entries.specs.Surroundings.{Surroundings, IsBehind, nearest}
 
 -- the entry of a character comes to each of its entries by what stands around, and elsewhere to its own
 abbrev pub GivesAll : Data → Surroundings → ℕ → ℕ → Type 0

@@ -2,7 +2,7 @@
 use Rattle.std.specs.Prelude.{◌≡◌, ℕ, ◌<◌, List, [], ◌∷◌, ◌++◌, Some, None}
 use Rattle.icu_entries.specs.Elements.{Element}
 use Rattle.icu_table_builder.specs.Building.{built_data}
-use Rattle.icu_cldr.specs.Given.{Spells}
+use Rattle.icu_mapping_entries.specs.Given.{Spells}
 use Rattle.icu_cldr.specs.IdeographOrder.{ideographs_of}
 use Rattle.icu_cldr.specs.Ideographs.{primary_in}
 use Rattle.icu_cldr.specs.LineElements.{AreSaid}
@@ -15,7 +15,7 @@ use Rattle.icu_cldr.specs.FileLines.{AreLines}
 use Rattle.icu_cldr.specs.WrittenLines.{LineSays}
 use Rattle.icu_cldr.specs.inner.LineEntries.{HasEntry, EntriesGrow, entry_around}
 use Rattle.icu_cldr.specs.inner.SpecialParts.{AddsSpecial, HasSpecials}
-use Rattle.icu_cldr.specs.inner.Surroundings.{HasMoreLists}
+use Rattle.icu_mapping_entries.specs.GrownLists.{HasMoreLists}
 use Rattle.icu_cldr.specs.inner.TakenCharacters.{KeepsUnmapped, MapsOnly}
 use Rattle.icu_cldr.specs.inner.WeightedRanges.{AddsIdeographs, HasIdeographs}
 use Rattle.icu_cldr.specs.declared.collected.Collected.{Collected}

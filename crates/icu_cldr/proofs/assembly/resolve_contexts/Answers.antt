@@ -1,7 +1,7 @@
 use Rattle.std.proofs.Common.{◌≡◌, rules, subst}
 use Rattle.icu_table_builder.specs.Building.{built_data}
 use Rattle.icu_cldr.specs.inner.Resolved.{GivesAll}
-use Rattle.icu_cldr.proofs.AddedContextLemmas.{extends_itself, extends_further}
+use Rattle.icu_mapping_entries.proofs.GrownListLemmas.{extends_itself, extends_further}
 use Rattle.icu_cldr.proofs.SpeltEntryLemmas.{other_key}
 use Rattle.icu_cldr.proofs.ResolvedLemmas.{none_resolved, one_resolved, all_resolved}
 use Rattle.icu_cldr.proofs.assembly.resolve_contexts.Goals as goal

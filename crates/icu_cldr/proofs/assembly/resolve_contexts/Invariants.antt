@@ -1,5 +1,5 @@
 use Rattle.icu_table_builder.specs.Building.{built_data}
-use Rattle.icu_cldr.specs.inner.Surroundings.{Extends}
+use Rattle.icu_mapping_entries.specs.GrownLists.{Extends}
 use Rattle.icu_cldr.proofs.ResolvedLemmas.{ResolvedSoFar}
 use Rattle.icu_cldr.proofs.assembly.resolve_contexts.Given as goal
 

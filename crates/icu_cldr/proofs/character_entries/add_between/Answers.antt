@@ -1,5 +1,5 @@
 use Rattle.std.proofs.Common.{◌≡◌, ◌∙◌, sym, subst, List, ℕ, None}
-use Rattle.icu_cldr.specs.inner.Surroundings.{PutsEntryBetween, entry_between}
+use Rattle.icu_mapping_entries.specs.Surroundings.{PutsEntryBetween, entry_between}
 use Rattle.icu_cldr.proofs.SpeltEntryLemmas.{other_key, put_around}
 use Rattle.icu_cldr.proofs.character_entries.add_between.Goals as goal
 

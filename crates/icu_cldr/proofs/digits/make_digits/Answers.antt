@@ -2,7 +2,7 @@ use Rattle.std.proofs.Common.{◌≡◌, ◌<◌, ◌≤◌, ◌∷◌, ◌+◌,
 use Rattle.std.proofs.lemmas.List.{at_drop_more, at_drop_all}
 use Rattle.ucd_table.specs.Rows.{Range}
 use Rattle.icu_table_builder.specs.Building.{built_data}
-use Rattle.icu_cldr.proofs.AddedContextLemmas.{extends_itself, extends_further}
+use Rattle.icu_mapping_entries.proofs.GrownListLemmas.{extends_itself, extends_further}
 use Rattle.icu_cldr.proofs.CountedDigitLemmas.{DigitsSoFar, no_digits_yet, range_more, start_below, all_digits}
 use Rattle.icu_cldr.proofs.digits.make_digits.Goals as goal
 

@@ -1,6 +1,6 @@
 use Rattle.std.proofs.Common.{drop}
 use Rattle.icu_table_builder.specs.Building.{built_data}
-use Rattle.icu_cldr.specs.inner.Surroundings.{Extends}
+use Rattle.icu_mapping_entries.specs.GrownLists.{Extends}
 use Rattle.icu_cldr.proofs.CountedDigitLemmas.{DigitsSoFar}
 use Rattle.icu_cldr.proofs.digits.make_digits.Given as goal
 

@@ -1,7 +1,7 @@
 use Rattle.std.proofs.Common.{◌≡◌, ◌≤◌, rules, subst}
 use Rattle.icu_table_builder.specs.Building.{built_data}
 use Rattle.icu_cldr.specs.inner.Digits.{MakesDigits}
-use Rattle.icu_cldr.proofs.AddedContextLemmas.{extends_itself, extends_further}
+use Rattle.icu_mapping_entries.proofs.GrownListLemmas.{extends_itself, extends_further}
 use Rattle.icu_cldr.proofs.DigitRangeLemmas.{no_digits, next_digit}
 use Rattle.icu_cldr.proofs.digits.make_digits_of.Goals as goal
 

@@ -1,6 +1,6 @@
 use Rattle.icu_table_builder.specs.Building.{built_data}
 use Rattle.icu_cldr.specs.inner.Digits.{MakesDigits}
-use Rattle.icu_cldr.specs.inner.Surroundings.{Extends}
+use Rattle.icu_mapping_entries.specs.GrownLists.{Extends}
 use Rattle.icu_cldr.proofs.digits.make_digits_of.Given as goal
 
 -- the digits so far

@@ -1,5 +1,5 @@
 use Rattle.icu_table_builder.specs.Building.{built_data}
-use Rattle.icu_cldr.proofs.AddedContextLemmas.{lists_further, lists_itself}
+use Rattle.icu_mapping_entries.proofs.GrownListLemmas.{lists_further, lists_itself}
 use Rattle.icu_cldr.proofs.IdeographValueLemmas.{few_none, few_turn}
 use Rattle.icu_cldr.proofs.ideograph_entries.set_few.Goals as goal
 

@@ -1,6 +1,6 @@
 use Rattle.icu_table_builder.specs.Building.{built_data}
 use Rattle.icu_cldr.specs.inner.IdeographValues.{SetsBelow}
-use Rattle.icu_cldr.specs.inner.Surroundings.{HasMoreLists}
+use Rattle.icu_mapping_entries.specs.GrownLists.{HasMoreLists}
 use Rattle.icu_cldr.proofs.ideograph_entries.set_few.Given as goal
 
 -- the characters so far have their entries

@@ -2,7 +2,7 @@ use Rattle.std.proofs.Common.{◌≡◌, ◌<◌, ◌≤◌, ◌∙◌, ◌∷�
 use Rattle.std.proofs.lemmas.List.{at_drop_more, at_drop_all}
 use Rattle.icu_table_builder.specs.Building.{built_data}
 use Rattle.icu_cldr.specs.declared.ideograph_weights.WeightedRange.{WeightedRange}
-use Rattle.icu_cldr.proofs.AddedContextLemmas.{lists_further, lists_itself}
+use Rattle.icu_mapping_entries.proofs.GrownListLemmas.{lists_further, lists_itself}
 use Rattle.icu_cldr.proofs.IdeographValueLemmas.{range_none, range_turn}
 use Rattle.icu_cldr.proofs.ideograph_entries.set_ideographs.Goals as goal
 

@@ -2,6 +2,5 @@ use Rattle.std.proofs.Common.{◌≡◌, map, take}
 use Rattle.icu_tailoring_numbers.specs.NumberedElements.{numbered_element}
 use Rattle.icu_tailored_entries.proofs.elements.numbered.Given as goal
 
--- the elements so far, with their numbers
 abbrev pub invariant-loop-element : goal.invariant-loop-element
 invariant-loop-element l = l.found.items ≡ map (numbered_element l.numbers) (take l.element-index l.elements)

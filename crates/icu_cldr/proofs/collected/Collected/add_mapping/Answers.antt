@@ -6,5 +6,5 @@ use Rattle.icu_cldr.proofs.collected.Collected.add_mapping.Goals as goal
 pub returns-clause-unmapped : goal.returns-clause-unmapped
 returns-clause-unmapped c =
     ok_always c.add_entry.result
-    (λ has. unmapped_kept (built_data c.args.self.now.builder) (built_data c.add_elements.new.builder) c.args.self.now.ideographs
+    (λ has. unmapped_kept (built_data c.args.self.now.builder) (built_data c.entry_of_elements.new.builder) c.args.self.now.ideographs
     c.in_ok-entry.ensures.extends has)

@@ -10,7 +10,7 @@ use Rattle.icu_cldr.specs.Roots.{root_tables}
 use Rattle.icu_cldr.specs.inner.Digits.{MakesAllDigits}
 use Rattle.icu_cldr.specs.inner.LineEntries.{Plain}
 use Rattle.icu_cldr.specs.inner.Resolved.{IsResolved}
-use Rattle.icu_cldr.specs.inner.Surroundings.{Extends}
+use Rattle.icu_mapping_entries.specs.GrownLists.{Extends}
 use Rattle.icu_cldr.proofs.FinishedLemmas.{mapping_given, on_ok_kept, unmapped_left}
 use Rattle.icu_cldr.proofs.collected.Collected.finish.Goals as goal
 

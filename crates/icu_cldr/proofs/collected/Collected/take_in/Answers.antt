@@ -1,5 +1,5 @@
 use Rattle.std.proofs.lemmas.Result.{on_ok_weaker}
-use Rattle.icu_cldr.proofs.AddedContextLemmas.{lists_itself}
+use Rattle.icu_mapping_entries.proofs.GrownListLemmas.{lists_itself}
 use Rattle.icu_cldr.proofs.TakenLemmas.{kept_by_ideographs, kept_by_mapping}
 use Rattle.icu_cldr.proofs.collected.Collected.take_in.Goals as goal
 

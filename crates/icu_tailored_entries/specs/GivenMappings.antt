@@ -1,0 +1,52 @@
+-- What a tailoring gives for the mappings of characters (UTS #35 part 5, "Context-Sensitive Mappings"; UTS #10,
+-- "Expansions" and "Contractions").
+use Rattle.std.specs.Prelude.{ℕ, ◌≡◌, ◌⊎◌, ◌&&◌, true, List, [], ◌∷◌, map, Some, MatchBool}
+use Rattle.std.specs.List.{list_any}
+use Rattle.ucd_perl.specs.Perl.{is_digit_char}
+use Rattle.icu_entries.specs.Elements.{Element}
+use Rattle.icu_entries.specs.Entries.{fallback_entry}
+use Rattle.icu_entries.specs.EncodedEntries.{of_weights}
+use Rattle.icu_collation_data.specs.Data.{Data}
+use Rattle.icu_mapping_entries.specs.DigitEntries.{IsDigitEntry, decimal_value}
+use Rattle.icu_mapping_entries.specs.Given.{Gives, Spells}
+use Rattle.icu_tailoring.specs.declared.symbolic.SymbolicElement.{SymbolicElement}
+use Rattle.icu_tailoring.specs.TailoredMappings.{SymbolicMapping, beginnings, has_no_context, mapping_with, mappings_behind, stands_after_prefix}
+use Rattle.icu_tailoring.specs.TailoredRoots.{RootMapping}
+use Rattle.icu_tailoring_numbers.specs.NumberedElements.{numbered_element}
+use Rattle.icu_tailoring_numbers.specs.declared.tailoring_numbers.TailoringNumbers.{TailoringNumbers}
+use Rattle.icu_symbolic_mappings.specs.KeptMappings.{mappings_in, untouched_mappings}
+use Rattle.icu_symbolic_mappings.specs.declared.kept_mappings.Mappings.{Mappings}
+
+-- the elements that a table has for some: those, or, for none, one without weights
+abbrev pub or_without_weights : List Element → List Element
+or_without_weights [] = of_weights 0 0 0 ∷ []
+or_without_weights (x ∷ xs) = x ∷ xs
+
+-- the elements with numbers that a table has for symbolic ones
+abbrev pub numbered_elements : TailoringNumbers → List SymbolicElement → List Element
+numbered_elements t es = or_without_weights (map (numbered_element t) es)
+
+-- The entry of a mapping of a character: it spells the elements with numbers. Of a digit by itself it is a digit entry
+-- with its value, which names one that spells them.
+pub record IsMappingEntry (t : TailoringNumbers) (d : Data) (c : ℕ) (m : SymbolicMapping) (e : ℕ) : Type 0 where
+  pub letter : ℕ
+  pub spells : Spells d letter (numbered_elements t m.elements)
+  pub digit : MatchBool (has_no_context m && is_digit_char c) (IsDigitEntry d (decimal_value c) letter e) (e ≡ letter)
+
+-- these characters are the prefix of one of the mappings, or there are none of them
+abbrev pub IsPrefixOfSome : List SymbolicMapping → List ℕ → Type 0
+IsPrefixOfSome mappings before = (before ≡ []) ⊎ (list_any (stands_after_prefix before) mappings ≡ true)
+
+-- The entry e of a character gives its mappings: behind the prefix of one of them, or none, the nearest character
+-- first, and before the suffix of one that counts there it comes to the entry of that.
+abbrev pub GivesMappings : TailoringNumbers → Data → ℕ → List SymbolicMapping → ℕ → Type 0
+GivesMappings t d c mappings e = (before after : List ℕ) (m : SymbolicMapping) → IsPrefixOfSome mappings before
+    → mapping_with (mappings_behind mappings (beginnings before)) after ≡ Some m
+    → (f : ℕ) × IsMappingEntry t d c m f × Gives d e before after f
+
+-- The root's entry stands for a character, or its entry gives the mappings that it has, or would have if no relation
+-- touched it.
+abbrev pub TailorsCharacter : {R : Type 0} → (R → ℕ → List RootMapping) → TailoringNumbers → Mappings R → Data → ℕ → Type 0
+TailorsCharacter mappings_of t m d c =
+    (d.value c ≡ fallback_entry) ⊎ (GivesMappings t d c (mappings_in mappings_of m c) (d.value c)
+    ⊎ GivesMappings t d c (untouched_mappings mappings_of m c) (d.value c))
