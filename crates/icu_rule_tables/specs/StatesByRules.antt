@@ -1,9 +1,9 @@
 -- What rules say over the root of checked tables, and the numbers of their weights.
-use Rattle.std.specs.Prelude.{List}
+use Rattle.std.specs.Prelude.{ℕ, List}
 use Rattle.icu_checks.specs.Checked.{checked_tables}
 use Rattle.icu_rules.specs.declared.rules.PlacedStatement.{PlacedStatement}
 use Rattle.icu_tailoring.specs.Rules.{rules_of}
-use Rattle.icu_tailoring.specs.TailoredRoots.{Root}
+use Rattle.icu_tailoring.specs.TailoredRoots.{RootMapping, Root}
 use Rattle.icu_tailoring.specs.Steps.{TailoringState, tailoring_of}
 use Rattle.icu_tailoring.specs.SymbolicOrders.{NumbersTree}
 use Rattle.icu_tailoring_numbers.specs.declared.tailoring_numbers.TailoringNumbers.{TailoringNumbers}
@@ -19,9 +19,13 @@ use Rattle.icu_checked_root.specs.StoredRoots.{stored_root, tables_beside}
 abbrev pub state_over : CheckedRoot → List PlacedStatement → TailoringState
 state_over root statements = tailoring_of (stored_root root) (rules_of statements)
 
+-- the mappings of the root's tables
+abbrev pub mappings_beside : CheckedRoot → ℕ → List RootMapping
+mappings_beside root = root_mappings_of (checked_tables (tables_beside root)).tables
+
 -- what rules have said, as it is kept
 abbrev pub said_by : SymbolicTailoring CheckedRoot → TailoringState
-said_by = state_in (λ root. root_mappings_of (checked_tables (tables_beside root)).tables)
+said_by = state_in mappings_beside
 
 -- the weights of a state have numbers, which ascend among siblings and stand between the same neighbours in the root
 pub record NumbersState (root : Root) (state : TailoringState) (numbers : TailoringNumbers) : Type 0 where

@@ -1,6 +1,7 @@
 -- The tables of a collation by rules.
-use Rattle.std.specs.Prelude.{ℕ, ◌≡◌, false, List, Some, None, map}
+use Rattle.std.specs.Prelude.{ℕ, ◌≡◌, ◌<◌, false, List, Some, None, map}
 use Rattle.icu_collation_data.specs.Data.{Data}
+use Rattle.icu_collation_data.specs.CodePointTables.{code_point_count}
 use Rattle.icu_table_builder.specs.OwnedData.{owned_data}
 use Rattle.icu_provider.specs.CollatorTables.{CollatorTables}
 use Rattle.icu_provider.specs.OwnedTables.{owned_diacritics}
@@ -8,13 +9,16 @@ use Rattle.icu_checks.specs.Checked.{checked_tables}
 use Rattle.icu_rules.specs.declared.rules.PlacedStatement.{PlacedStatement}
 use Rattle.icu_rules.specs.declared.statement.RuleSetting.{RuleSetting}
 use Rattle.icu_rules.specs.Statements.{SpellStatements}
-use Rattle.icu_tailoring.specs.Steps.{first_state}
+use Rattle.icu_tailoring.specs.Steps.{TailoringState, first_state}
+use Rattle.icu_symbolic_mappings.specs.KeptMappings.{mappings_in}
+use Rattle.icu_symbolic_mappings.specs.declared.kept_mappings.Mappings.{Mappings}
+use Rattle.icu_tailored_entries.specs.GivenMappings.{TailorsCharacter}
 use Rattle.icu_tailoring_numbers.specs.declared.tailoring_numbers.TailoringNumbers.{TailoringNumbers}
 use Rattle.icu_rule_steps.specs.RuleFaults.{first_error}
 use Rattle.icu_checked_root.specs.declared.checked_root.CheckedRoot.{CheckedRoot}
 use Rattle.icu_checked_root.specs.StoredRoots.{stored_root, tables_beside}
 use Rattle.icu_rule_tables.specs.RuleSettings.{names_reordering, tailored_bits}
-use Rattle.icu_rule_tables.specs.StatesByRules.{NumbersState, state_over}
+use Rattle.icu_rule_tables.specs.StatesByRules.{NumbersState, mappings_beside, state_over}
 use Rattle.icu_rule_tables.specs.declared.tailoring.Tailoring.{Tailoring}
 
 -- the tables of a root with a tailoring, its settings, the last one first, and its secondary weights of diacritics
@@ -40,19 +44,27 @@ tailored_tables t = record {
   reordering = None;
 }
 
--- The tables of a root with some tailoring and these settings, the last one first. None of them is a reordering.
-pub record HasTablesOf (root : CheckedRoot) (said : List RuleSetting) (t : Tailoring) : Type 0 where
-  pub in_order : names_reordering said ≡ false
+-- The mappings of a state, as they are kept, by which a tailoring gives each character its entry.
+pub record GivesState (numbers : TailoringNumbers) (state : TailoringState) (own : Data) : Type 0 where
+  pub kept : Mappings CheckedRoot
+  pub same : mappings_in mappings_beside kept ≡ state.mappings
+  pub gives : (c : ℕ) → c < code_point_count → TailorsCharacter mappings_beside numbers kept own c
+
+-- The tables of a root with a tailoring that gives what a state says, by these numbers, and with its settings. None of
+-- them is a reordering.
+pub record HasTablesOf (root : CheckedRoot) (numbers : TailoringNumbers) (state : TailoringState) (t : Tailoring) : Type 0 where
+  pub in_order : names_reordering state.settings ≡ false
   pub own : Data
+  pub given : GivesState numbers state own
   pub diacritics : List ℕ
-  pub are : tailored_tables t ≡ tables_by_rules (checked_tables (tables_beside root)) said own diacritics
+  pub are : tailored_tables t ≡ tables_by_rules (checked_tables (tables_beside root)) state.settings own diacritics
 
 -- tables of rules, none of which is refused, by some numbers
 pub record SaysRules (root : CheckedRoot) (statements : List PlacedStatement) (t : Tailoring) : Type 0 where
   pub unrefused : first_error (stored_root root) (first_state (stored_root root)) statements ≡ None
   pub numbers : TailoringNumbers
   pub numbered : NumbersState (stored_root root) (state_over root statements) numbers
-  pub tables : HasTablesOf root (state_over root statements).settings t
+  pub tables : HasTablesOf root numbers (state_over root statements) t
 
 -- tables of the rules that a text spells
 pub record SaysText (root : CheckedRoot) (text : List ℕ) (t : Tailoring) : Type 0 where

@@ -71,7 +71,7 @@ impl<'t> Tailoring<'t> {
         said: &SymbolicTailoring<'_, CheckedRoot<'t>>,
         numbers: &TailoringNumbers,
     ) -> Result<Tailoring<'t>, RuleTablesError>
-        ensures ok { IfOk result (HasTablesOf root.now (said_by said.now).settings) }
+        ensures ok { IfOk result (HasTablesOf root.now numbers.now (said_by said.now)) }
         ensures err { (statements : List PlacedStatement)
             → IfErr result (IsErrorOfRules (stored_root root.now) statements) }
     {

@@ -16,7 +16,7 @@ returns-clause-says c =
       unrefused = c.in_ok-said.ensures.sound;
       numbers = numbers;
       numbered = subst (λ (s : TailoringState). NumbersState (stored_root root) s numbers) says c.in_ok-numbers.ensures.ok;
-      tables = subst (λ (s : TailoringState). HasTablesOf root s.settings t) says tables;
+      tables = subst (λ (s : TailoringState). HasTablesOf root numbers s t) says tables;
     }) c.of_numbers.ensures.ok
 
 pub returns-clause-err : goal.returns-clause-err

@@ -1,5 +1,8 @@
 -- The tables are those of the root, with what was made.
-use Rattle.std.proofs.Common.{sym, ap, ◌∙◌}
+use Rattle.std.proofs.Common.{sym, ap, subst, ◌∙◌}
+use Rattle.icu_collation_data.specs.Data.{Data}
+use Rattle.icu_tailored_entries.specs.GivenMappings.{TailorsCharacter}
+use Rattle.icu_rule_tables.specs.StatesByRules.{mappings_beside}
 use Rattle.icu_table_builder.specs.OwnedData.{owned_data}
 use Rattle.icu_provider.specs.OwnedTables.{owned_diacritics}
 use Rattle.icu_checked_root.specs.StoredRoots.{stored_root, tables_beside}
@@ -16,6 +19,13 @@ returns-clause-ok c =
     record {
       in_order = ap names_reordering (sym c.settings.ensures) ∙ sym c.names_reordering.ensures ∙ c.if-names_reordering.false;
       own = owned_data lists;
+      given = record {
+        kept = c.mappings-2.result.now;
+        same = c.mappings-2.ensures;
+        gives = λ x small.
+            subst (λ (d : Data). TailorsCharacter mappings_beside c.args.numbers.now c.mappings-2.result.now d x)
+            (sym c.in_ok-checked_data.ensures.ok) (c.in_ok-vectors.ensures x small);
+      };
       diacritics = diacritics;
       are = tables_are c.tables-tables.result.now (tables_beside c.args.root.now) c.tailored_metadata-metadata.result.bits lists
           diacritics c.as_slice.result.now (settings_in c.args.said.now) _ c.tables-tables.ensures c.tailored_metadata-metadata.ensures
