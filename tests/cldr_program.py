@@ -71,7 +71,7 @@ RUNS = [
     (["sort", "--cldr", "none"], NAMES, 3, b"", b"none/common/uca/FractionalUCA.txt" + NO_DATA),
     (over("sort", "3", "absent"), NAMES, 3, b"", b"absent: not opened\n"),
     (over("sort", "3", "/"), NAMES, 3, b"", b"/: read failed\n"),
-    (over("sort", "3", "-o", "/none/out"), NAMES, 3, b"", b"/none/out: not created\n"),
+    (over("sort", "3", "-o", "/none/out"), NAMES, 3, b"", b"/none/out.collate-cldr-unfinished: not created\n"),
     (["compare", "--root", LETTERS, "-l", "und-u-ks-level1", "as", "às"], b"", 0, b"=\n", b""),
     (["compare", "--root", LETTERS, "-l", "und-u-ks-level1", "--strength=2", "as", "às"], b"", 1, b"<\n", b""),
     (["compare", "--root", LETTERS, "-l", "und-u-kn", "10", "9"], b"", 1, b">\n", b""),
