@@ -365,9 +365,11 @@ def check_refused(report, program, shim):
     for words, given, is_chosen in COMMANDS:
         outcomes = sweep(shim, program, words, given, REQUESTS, is_right, is_chosen)
         plain = run(program, words, given, shim=shim)
-        report.say(f"collate-cldr: each request refused, {words[0]}", faults_of(outcomes), len(outcomes))
+        report.say(f"collate-cldr: each request refused, {' '.join(words[:1] + words[5:])}", faults_of(outcomes), len(outcomes))
+        if not plain.output:
+            continue
         missed = losses_missed(outcomes, plain, is_right)
-        report.say(f"collate-cldr: a loss where a request is refused is found, {words[0]}", missed, len(outcomes))
+        report.say(f"collate-cldr: a loss where a request is refused is found, {' '.join(words[:1] + words[5:])}", missed, len(outcomes))
 
 
 # ---- the run of all, and programs with a fault
