@@ -70,7 +70,7 @@ module _ (reading : Reading) (c : ℕ) (cut : BeginsPieces reading c) (tail : Li
           let same : nfd back ≡ nfd mid ++ p.first ∷ p.more = ap nfd parted ∙ p.whole_is in
           omega (arith, ap length same, ap length back_is, ap length p.back_is, length-append (nfd mid) (p.first ∷ p.more))
 
-  place_behind : (front : List ℕ) (i : ℕ) → is_place reading (front ++ back) (length front + i) ≡ is_place reading back i
+  pub place_behind : (front : List ℕ) (i : ℕ) → is_place reading (front ++ back) (length front + i) ≡ is_place reading back i
   place_behind front zero =
       let k = length front + 0 in
       let here : is_place_before reading (front ++ back) (drop k (front ++ back)) ≡ true = ap (is_place_before reading (front ++ back)) (drop_behind front back 0) ∙ place_there front in
@@ -109,7 +109,7 @@ module _ (reading : Reading) (c : ℕ) (cut : BeginsPieces reading c) (tail : Li
       ∙ ap (λ (t : List ℕ). is_place_before reading t (d ∷ ds)) parted
       ∙ ap (is_place_before reading front) (sym rest)
 
-  place_before : (front : List ℕ) (i : ℕ) → i ≤ length front → is_place reading (front ++ back) i ≡ is_place reading front i
+  pub place_before : (front : List ℕ) (i : ℕ) → i ≤ length front → is_place reading (front ++ back) i ≡ is_place reading front i
   place_before front i fits =
       let whole = front ++ back in
       elim (cases_eq i (length front)) [

@@ -1,14 +1,14 @@
 -- How the matches that are found come one after another.
-use Rattle.std.proofs.Common.{◌≡◌, ℕ, zero, suc, ◌<◌, ◌≤◌, ◌+◌, ◌-◌, Bool, true, false, nat_le, List, [], ◌∷◌, ◌++◌, Option, Some, None, if◌then◌else◌, refl, sym, ap, ◌∙◌, arith, inl, inr, subst}
+use Rattle.std.proofs.Common.{◌≡◌, ℕ, zero, suc, ◌<◌, ◌≤◌, ◌+◌, ◌-◌, Bool, true, false, nat_le, nat_lt, List, [], ◌∷◌, ◌++◌, Option, Some, None, if◌then◌else◌, refl, sym, ap, ◌∙◌, arith, inl, inr, subst}
 use Rattle.std.specs.Prelude.{IfSome, option_to_list}
-use Rattle.std.specs.List.{AllByRecursion}
-use Rattle.std.proofs.lemmas.Bool.{cases_Bool, cases_lt, le-leb, lt-leb, lt-ltb, le-ltb, ltb-true, false≢true}
+use Rattle.std.specs.List.{AllByRecursion, Contains}
+use Rattle.std.proofs.lemmas.Bool.{cases_Bool, cases_lt, le-leb, lt-leb, lt-ltb, le-ltb, ltb-true, ltb-false, false≢true}
 use Rattle.std.proofs.lemmas.Option.{same_Some}
-use Rattle.icu_search.specs.LeastMatches.{Span, span, shortest_from, narrowed, least_from, apart_from, RisesTo}
+use Rattle.icu_search.specs.LeastMatches.{Span, span, shortest_from, narrowed, least_from, apart_from, HoldsSpan, RisesTo}
 use Rattle.icu_search.specs.LeastMatchLaws.{IsMatchWithin, IsLeastWithin}
-use Rattle.icu_search.specs.inner.HeldSpans.{joined_to_held, stops_before, from_behind, found_behind}
+use Rattle.icu_search.specs.inner.HeldSpans.{TellsLeastSpan, joined_to_held, stops_before, last_to_try, from_behind, found_behind}
 use Rattle.icu_search.specs.Selections.{first_span, found_from}
-use Rattle.icu_search.proofs.SpanListLemmas.{member_of, each_member, InPairs}
+use Rattle.icu_search.proofs.SpanListLemmas.{not_in_nil, head_or_tail, member_of, each_member, the_member, InPairs}
 use Rattle.icu_search.proofs.LeastLemmas.{ShortestOf, ShortestOf-shortest_from, Leasts-least_from}
 use Rattle.icu_search.proofs.ApartLemmas.{apart_from-nil, apart_from-taken, apart_from-passed}
 
@@ -55,6 +55,14 @@ joined_to_held-assoc (Some a) None c = refl
 joined_to_held-assoc (Some a) (Some b) None = joined_to_held-none (joined_to_held (Some a) (Some b))
 joined_to_held-assoc (Some a) (Some b) (Some c) = joined_to_held-three a b c
 
+-- the first of some parts, if there is one, is so; there is one
+abbrev IfFirst : (Span → Type 0) → List Span → Type 0
+IfFirst P [] = ⊥
+IfFirst P (m ∷ later) = P m
+
+none_some : (m : Span) → None ≡ Some m → ⊥
+none_some m e = cc
+
 -- ---- the least matches that begin at an offset or after it
 
 -- and end at most at n
@@ -84,6 +92,112 @@ module _ (matches : ℕ → ℕ → Bool) (n : ℕ) where
   pub first_turn : (start : ℕ) → start ≤ n → first_span (least_to matches n start) ≡ joined_to_held (shortest_from matches start start (n - start)) (first_span (least_to matches n (start + 1)))
   first_turn start inside =
       ap first_span (turn start (n - start) (omega (arith, inside))) ∙ first_span-narrowed (shortest_from matches start start (n - start)) (least_to matches n (start + 1))
+
+  -- ---- a start that is tried up to an offset
+
+  -- a match that begins behind a start holds a least one that does, and the first of those ends first
+  ends_first : (spans : List Span) (stop : ℕ) → InPairs RisesTo spans → (l : Span) → Contains spans l → l.stop ≤ stop → IfFirst (λ m. m.stop ≤ stop) spans
+  ends_first [] stop rising l at before = absurd (not_in_nil l at)
+  ends_first (m ∷ later) stop rising l at before =
+      elim (head_or_tail l m later at) as (λ _. m.stop ≤ stop) [
+        | inl same ↦ omega (arith, before, ap (λ (s : Span). s.stop) same)
+        | inr behind ↦ let above = (member_of (RisesTo m) l later rising.0 behind).stop in omega (arith, before, above)
+      ]
+
+  first_ends : (start stop : ℕ) → start ≤ stop → stop ≤ n → matches start stop ≡ true → IfFirst (λ m. m.stop ≤ stop) (least_to matches n start)
+  first_ends start stop ordered inside is =
+      let k = n - start in
+      let e : n ≡ start + k = omega (arith, ordered, inside) in
+      let ls = Leasts-least_from matches start k n e in
+      let spans = least_from matches start k in
+      let some = the_member (HoldsSpan (span start stop)) spans (ls.held (span start stop) (record { is_match = is; from_low = omega arith; ordered = ordered; to_high = inside })) in
+      subst (IfFirst (λ m. m.stop ≤ stop)) (sym (least_to-at start k e)) (ends_first spans stop ls.rise some.0 some.1.0 some.1.1.stop)
+
+  -- a match that is found among fewer ends is found among more
+  shortest_more : (start stop few more : ℕ) (m : Span) → few ≤ more → shortest_from matches start stop few ≡ Some m → shortest_from matches start stop more ≡ Some m
+  unfolding shortest_from
+  shortest_more start stop zero zero m fits is = is
+  shortest_more start stop zero (suc more) m fits is =
+      elim (cases_Bool (matches start stop)) [
+        | inl here ↦ rw here (rw here at is)
+        | inr not ↦ absurd (none_some m (rw not at is))
+      ]
+  shortest_more start stop (suc few) zero m fits is = absurd (omega (arith, fits))
+  shortest_more start stop (suc few) (suc more) m fits is =
+      elim (cases_Bool (matches start stop)) [
+        | inl here ↦ rw here (rw here at is)
+        | inr not ↦ rw not (shortest_more start (stop + 1) few more m (omega (arith, fits)) (rw not at is))
+      ]
+
+  tried_to : (held : Option Span) → last_to_try held n ≤ n
+  tried_to None = omega arith
+  tried_to (Some m) = elim (cases_lt m.stop n) as (λ _. (if nat_lt m.stop n then m.stop else n) ≤ n) [
+    | inl below ↦ rw (lt-ltb m.stop n below) (omega (arith, below))
+    | inr above ↦ rw (le-ltb m.stop n above) (omega arith)
+  ]
+
+  to_end : (held : Option Span) (start : ℕ) → start ≤ last_to_try held n → start ≤ n
+  to_end held start ordered = omega (arith, ordered, tried_to held)
+
+  pub tries_there : (held : Option Span) (start : ℕ) → stops_before held start ≡ false → start ≤ n → start ≤ last_to_try held n
+  tries_there None start goes_on inside = inside
+  tries_there (Some m) start goes_on inside =
+      let ends : start ≤ m.stop = ltb-false m.stop start goes_on in
+      elim (cases_lt m.stop n) as (λ _. start ≤ (if nat_lt m.stop n then m.stop else n)) [
+        | inl below ↦ rw (lt-ltb m.stop n below) ends
+        | inr above ↦ rw (le-ltb m.stop n above) inside
+      ]
+
+  -- a match that ends behind the one that is held changes nothing
+  joined_behind : (h m : Span) (later : Option Span) → h.stop < m.stop → joined_to_held (Some h) (joined_to_held (Some m) later) ≡ joined_to_held (Some h) later
+  joined_behind h m None longer = rw (lt-leb m.stop h.stop longer) refl
+  joined_behind h m (Some l) longer =
+      elim (cases_lt m.stop l.stop) [
+        | inl last ↦ rw (lt-leb l.stop m.stop last, lt-leb m.stop h.stop longer, lt-leb l.stop h.stop (omega (arith, longer, last))) refl
+        | inr first ↦ rw (le-leb l.stop m.stop first) refl
+      ]
+
+  past : (held : Option Span) (m : Span) (later_one : Option Span) → last_to_try held n < m.stop → m.stop ≤ n → joined_to_held held (joined_to_held (Some m) later_one) ≡ joined_to_held held later_one
+  past None m later_one behind inside = absurd (omega (arith, behind, inside))
+  past (Some h) m later_one behind inside =
+      elim (cases_lt h.stop n) [
+        | inl below ↦ joined_behind h m later_one (omega (arith, behind, ap (λ b. if b then h.stop else n) (lt-ltb h.stop n below)))
+        | inr above ↦ absurd (omega (arith, behind, inside, ap (λ b. if b then h.stop else n) (le-ltb h.stop n above)))
+      ]
+
+  -- nor does one that holds a later one
+  joined_over : (m : Span) (spans : List Span) → IfFirst (λ l. l.stop ≤ m.stop) spans → joined_to_held (Some m) (first_span spans) ≡ first_span spans
+  joined_over m [] none = absurd none
+  joined_over m (l ∷ later) before = rw (le-leb l.stop m.stop before) refl
+
+  -- what is told of a start, up to the last offset that is tried, makes what the shortest match from there does
+  pub told : (held : Option Span) (start : ℕ) (o : Option Span) → start ≤ last_to_try held n → TellsLeastSpan matches start (last_to_try held n) o
+      → joined_to_held (joined_to_held held o) (first_span (least_to matches n (start + 1))) ≡ joined_to_held held (first_span (least_to matches n start))
+  told held start (Some m) ordered tells =
+      let later = first_span (least_to matches n (start + 1)) in
+      let inside = to_end held start ordered in
+      let here : span start m.stop ≡ m = ap (λ s. span s m.stop) (sym tells.0) in
+      let all : shortest_from matches start start (n - start) ≡ Some m =
+      shortest_more start start (last_to_try held n - start) (n - start) m (omega (arith, tried_to held)) (tells.1.1 ∙ ap (λ (s : Span). Some s) here) in
+      joined_to_held-assoc held (Some m) later
+      ∙ ap (joined_to_held held) (ap (λ (s : Option Span). joined_to_held s later) (sym all) ∙ sym (first_turn start inside))
+  told held start None ordered tells =
+      let spans = least_to matches n (start + 1) in
+      let later = first_span spans in
+      let inside = to_end held start ordered in
+      ap (λ (s : Option Span). joined_to_held s later) (joined_to_held-none held)
+      ∙ sym (passes (shortest_from matches start start (n - start)) (ShortestOf-shortest_from matches start start (n - start) n (omega (arith, inside))))
+      ∙ ap (joined_to_held held) (sym (first_turn start inside))
+    where
+      passes : (o : Option Span) → ShortestOf matches start start n o → joined_to_held held (joined_to_held o (first_span (least_to matches n (start + 1)))) ≡ joined_to_held held (first_span (least_to matches n (start + 1)))
+      passes None is = refl
+      passes (Some m) is =
+          elim (cases_lt (last_to_try held n) m.stop) [
+            | inl behind ↦ past held m (first_span (least_to matches n (start + 1))) behind is.to_high
+            | inr before ↦
+                let one_on = tells m.stop is.low_to before is.is_match in
+                ap (joined_to_held held) (joined_over m (least_to matches n (start + 1)) (first_ends (start + 1) m.stop (omega (arith, one_on.0)) is.to_high one_on.1))
+          ]
 
   -- they begin at the offset or after it, and end no earlier than they begin
   within : (start : ℕ) → AllByRecursion (IsMatchWithin matches start n) (least_to matches n start)

@@ -1,6 +1,6 @@
 -- Of the matches of a pattern in a text: the least ones, and of these the ones that are found, from left to right and
 -- apart (UTS #10, "Searching and Matching"). Which parts of the text match is given.
-use Rattle.std.specs.Prelude.{ℕ, zero, suc, ◌+◌, ◌<◌, ◌≤◌, Bool, nat_le, List, [], ◌∷◌, Option, Some, None, if◌then◌else◌}
+use Rattle.std.specs.Prelude.{ℕ, zero, suc, ◌+◌, ◌-◌, ◌<◌, ◌≤◌, ◌≡◌, Bool, true, nat_le, List, [], ◌∷◌, Option, Some, None, if◌then◌else◌}
 
 -- a part of a text: where it begins, and where it ends, in characters
 pub record Span : Type 0 where
@@ -42,6 +42,14 @@ least_matches matches n = least_from matches 0 n
 -- the matches that are found in it
 abbrev pub found_matches : (ℕ → ℕ → Bool) → ℕ → List Span
 found_matches matches n = apart_from 0 (least_matches matches n)
+
+-- ---- ends, one by one
+
+-- Where the first match from a start ends, of those that end at an offset or before. None is told where there is none,
+-- and may be told where each of them holds a match from the next start, so that none is least.
+abbrev pub TellsLeastStop : (ℕ → ℕ → Bool) → ℕ → ℕ → Option ℕ → Type 0
+TellsLeastStop matches start last (Some stop) = (stop ≤ last) × (shortest_from matches start start (last - start) ≡ Some (span start stop))
+TellsLeastStop matches start last None = (stop : ℕ) → start ≤ stop → stop ≤ last → matches start stop ≡ true → (start < stop) × (matches (start + 1) stop ≡ true)
 
 -- ---- what they are
 

@@ -1,24 +1,38 @@
 //! The matches that are found in a text, one after another.
 
-ghost use Rattle.std.specs.Prelude.{◌≡◌, ◌++◌, ◌<◌, ◌≤◌, ◌-◌, [], option_to_list, IfOk, IfSome, OnErr};
-ghost use Rattle.icu_search.specs.LeastMatches.{shortest_from};
+ghost use Rattle.std.specs.Prelude.{◌≡◌, ◌++◌, ◌<◌, ◌≤◌, [], option_to_list, IfOk, IfSome, OnErr};
 ghost use Rattle.icu_search.specs.Selections.{first_span, found_from};
-ghost use Rattle.icu_search.specs.inner.HeldSpans.{from_behind, joined_to_held, stops_before};
+ghost use Rattle.icu_search.specs.inner.HeldSpans.{TellsLeastSpan, from_behind, joined_to_held, last_to_try, stops_before};
 ghost use Rattle.icu_search.specs.LeastMatches.{found_matches};
 
 use crate::char_span::CharSpan;
 use crate::match_ends::MatchEnds;
 use std::alloc::AllocError;
 
-/// The match that begins at an offset and ends first.
-fn shortest_at<M: MatchEnds>(ends: &M, start: usize) -> Result<Option<CharSpan>, AllocError>
-    requires { start ≤ M.char_len ends.now }
-    ensures { IfOk result (λ m. m
-        ≡ shortest_from (M.matches ends.now) start start (M.char_len ends.now - start)) }
+/// The match that begins at an offset and ends first, of those that end at `last` or before; none where each of them
+/// holds one that begins behind it.
+fn least_at<M: MatchEnds>(
+    ends: &M,
+    start: usize,
+    last: usize,
+) -> Result<Option<CharSpan>, AllocError>
+    requires ordered { start ≤ last }
+    requires within { last ≤ M.char_len ends.now }
+    ensures { IfOk result (λ m. TellsLeastSpan (M.matches ends.now) start last m) }
 {
-    match ends.first_stop(start)? {
+    match ends.least_stop(start, last)? {
         Some(stop) => Ok(Some(CharSpan::new(start, stop))),
         None => Ok(None),
+    }
+}
+
+/// Where matches have to end that are to take the place of the one that is held.
+fn last_stop(held: Option<CharSpan>, count: usize) -> usize
+    ensures { result ≡ last_to_try held count }
+{
+    match held {
+        Some(m) => { if m.stop() < count { m.stop() } else { count } }
+        None => count,
     }
 }
 
@@ -62,7 +76,8 @@ pub fn first_least<M: MatchEnds>(ends: &M, offset: usize) -> Result<Option<CharS
         if stops_before(held, start) {
             return Ok(held);
         }
-        held = joined(held, shortest_at(ends, start)?);
+        let last = last_stop(held, count);
+        held = joined(held, least_at(ends, start, last)?);
     }
     Ok(held)
 }

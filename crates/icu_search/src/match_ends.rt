@@ -1,8 +1,7 @@
 //! Where the matches of a text end.
 
-ghost use Rattle.std.specs.Prelude.{◌≡◌, ◌-◌, ◌<◌, ◌≤◌, ℕ, Bool, IfOk};
-ghost use Rattle.std.specs.Option.{option_map};
-ghost use Rattle.icu_search.specs.LeastMatches.{span, shortest_from};
+ghost use Rattle.std.specs.Prelude.{◌≡◌, ◌<◌, ◌≤◌, ℕ, Bool, IfOk};
+ghost use Rattle.icu_search.specs.LeastMatches.{TellsLeastStop};
 
 use std::alloc::AllocError;
 
@@ -19,10 +18,11 @@ pub trait MatchEnds {
         ensures count { result ≡ char_len self.now }
         ensures bound { result < usize.MAX };
 
-    /// Where the match ends that begins at an offset and ends first, or `None` where no match begins there. Fails only
+    /// Of the matches that begin at an offset, and end at `last` or before, where the one ends that ends first. It may
+    /// be left out where each of them holds a match that begins at the next offset: none is least then. Fails only
     /// where an allocation does.
-    fn first_stop(&self, start: usize) -> Result<Option<usize>, AllocError>
-        requires { start ≤ char_len self.now }
-        ensures { IfOk result (λ stop. option_map (span start) stop
-            ≡ shortest_from (matches self.now) start start (char_len self.now - start)) };
+    fn least_stop(&self, start: usize, last: usize) -> Result<Option<usize>, AllocError>
+        requires ordered { start ≤ last }
+        requires within { last ≤ char_len self.now }
+        ensures { IfOk result (λ stop. TellsLeastStop (matches self.now) start last stop) };
 }

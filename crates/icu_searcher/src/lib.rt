@@ -7,5 +7,6 @@ mod leading;
 mod place_reader;
 mod places;
 
+pub use leading::begins_letter;
 pub use place_reader::PlaceReader;
 pub use places::place_marks;

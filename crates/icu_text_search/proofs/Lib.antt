@@ -5,3 +5,5 @@ pub mod PartWalks
 pub mod SureLemmas
 pub mod OverlappingLemmas
 pub mod AllowedLemmas
+pub mod FirstWeightLemmas
+pub mod TextCutLemmas

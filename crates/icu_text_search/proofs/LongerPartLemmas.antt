@@ -17,13 +17,13 @@ use Rattle.icu_text_order.specs.TextOrder.{reading_by, lists_by, text_order}
 use Rattle.icu_search.specs.SearchPlaces.{is_place, is_place_before}
 use Rattle.icu_search.proofs.SearchPartLemmas.{lists_begin, part_has_places}
 
-eq_is : (o : Ordering) → is_eq o ≡ true → o ≡ Equal
+pub eq_is : (o : Ordering) → is_eq o ≡ true → o ≡ Equal
 eq_is Less h = absurd (false≢true h)
 eq_is Equal h = refl
 eq_is Greater h = absurd (false≢true h)
 
 -- orders in turn are equal only if the first one is
-first_tied : (o next : Ordering) → ordering_then o next ≡ Equal → o ≡ Equal
+pub first_tied : (o next : Ordering) → ordering_then o next ≡ Equal → o ≡ Equal
 first_tied Less next h = h
 first_tied Equal next h = refl
 first_tied Greater next h = h

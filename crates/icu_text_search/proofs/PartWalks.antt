@@ -56,7 +56,7 @@ module _ (s : Search) (text : List ℕ) (start : ℕ) where
   abbrev matches : ℕ → ℕ → Bool
   matches = is_match s text
 
-  no_place : (stop : ℕ) → is_place (reading_by c) rest (stop - start) ≡ false → matches start stop ≡ false
+  pub no_place : (stop : ℕ) → is_place (reading_by c) rest (stop - start) ≡ false → matches start stop ≡ false
   no_place stop not =
       ap (λ b. s.allowed start && s.allowed stop && nat_le start stop && is_place (reading_by c) text start && b && equals_pattern s (slice_range text start stop)) not
       ∙ never (s.allowed start && s.allowed stop && nat_le start stop && is_place (reading_by c) text start) (equals_pattern s (slice_range text start stop))

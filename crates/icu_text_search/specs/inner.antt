@@ -2,3 +2,5 @@
 pub mod PrimaryCounts
 pub mod PartOutcomes
 pub mod OnePrimaries
+pub mod FirstWeights
+pub mod SearchCuts

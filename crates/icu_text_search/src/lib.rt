@@ -8,7 +8,9 @@
 mod allowed_offsets;
 mod boundary;
 mod encoded_searches;
+mod first_weights;
 mod found_matches;
+mod least_stops;
 mod overlapping_matches;
 mod part_match;
 mod part_outcome;
@@ -16,8 +18,7 @@ mod part_walk;
 mod search_calls;
 mod searched_text;
 mod searcher;
-#[cfg(test)]
-mod tests;
+mod text_cuts;
 
 pub use boundary::Boundary;
 pub use found_matches::FoundMatches;

@@ -108,10 +108,11 @@ impl<'s, 'c> SearchedText<'s, 'c> {
         ensures { IfOk result (λ stop. option_map (span start) stop
             ≡ shortest_from (matches_in self.now) start start (char_len_in self.now - start)) }
     {
-        if !self.starts[start] {
+        if !self.is_allowed(start) {
             return Ok(None);
         }
-        if !self.is_allowed(start) {
+        let here = self.is_place(start)?;
+        if !here {
             return Ok(None);
         }
         if self.searcher.equals_empty() {

@@ -1,6 +1,6 @@
 //! Texts that are searched.
 
-ghost use Rattle.std.specs.Prelude.{◌≡◌, ◌-◌, ◌<◌, ◌≤◌, IfOk, length, map, slice_index};
+ghost use Rattle.std.specs.Prelude.{◌≡◌, ◌-◌, ◌<◌, ◌≤◌, IfOk, IfSome, length, map, slice_index};
 ghost use Rattle.std.specs.Option.{ForSome, option_map};
 ghost use Rattle.icu_indexed_text.specs.IndexedTexts.{indexed_chars, indexed_offsets};
 ghost use Rattle.icu_indexed_text.specs.OffsetSets.{has_offset};
@@ -28,9 +28,10 @@ pub struct SearchedText<'s, 'c> {
     pub(crate) searcher: &'s Searcher<'c>,
     pub(crate) text: IndexedText,
     pub(crate) allowed: Option<AllowedOffsets>,
-    pub(crate) starts: Vec<bool>,
-    ghost marked: { MarksPlaces (reading_by (search_of searcher.now).collation)
-        (indexed_chars text) starts.items },
+    /// Marks of all places, where long parts of the text can't be cut.
+    pub(crate) places: Option<Vec<bool>>,
+    ghost marked: { ForSome places (λ marks. MarksPlaces
+        (reading_by (search_of searcher.now).collation) (indexed_chars text) marks.items) },
     ghost fits: { ForSome allowed (λ a. a.marks.items
         ≡ map (has_offset a.set.items) (indexed_offsets text)) },
 }
@@ -52,12 +53,43 @@ fn mark_of(allowed: &AllowedOffsets, offsets: &[usize], index: usize) -> bool
     allowed.marks[index]
 }
 
+/// So many characters make a part that is long to read again.
+const LONG: usize = 32;
+
+/// Whether there may be long parts of a text that can't be cut.
+fn has_long_parts(searcher: &Searcher<'_>, text: &[char]) -> bool {
+    let mut rest = text;
+    'parts: while rest.len() > LONG {
+        let (part, others) = rest.split_at(LONG);
+        if !part.iter().any(|c| searcher.cuts_before(*c)) {
+            return true;
+        }
+        rest = others;
+    }
+    false
+}
+
+/// Marks of all places of a text, where there may be long parts that can't be cut.
+fn marks_of_long_parts(
+    searcher: &Searcher<'_>,
+    text: &[char],
+) -> Result<Option<Vec<bool>>, AllocError>
+    ensures { IfOk result (λ places. IfSome places (λ marks. MarksPlaces
+        (reading_by (search_of searcher.now).collation) text.now marks.items)) }
+{
+    if !has_long_parts(searcher, text) {
+        return Ok(None);
+    }
+    let marks = place_marks(searcher.reading(), text)?;
+    Ok(Some(marks))
+}
+
 impl<'s, 'c> SearchedText<'s, 'c> {
     ghost use Rattle.icu_text_search.specs.MatchesLeft.{matches_left, overlapping_left};
     ghost use Rattle.icu_text_search.specs.SearchedTexts.{char_len_in, matches_in, offsets_searched, searched_in, text_searched};
     ghost use Rattle.icu_text_search.specs.TextOffsets.{match_in_units};
 
-    /// Finds where the parts of a text may begin.
+    /// A text that was read.
     pub(crate) fn new(
         searcher: &'s Searcher<'c>,
         text: IndexedText,
@@ -66,12 +98,12 @@ impl<'s, 'c> SearchedText<'s, 'c> {
         ensures text { IfOk result (λ t. text_searched t ≡ indexed_chars text) }
         ensures offsets { IfOk result (λ t. offsets_searched t ≡ indexed_offsets text) }
     {
-        let starts = place_marks(searcher.reading(), text.characters())?;
+        let places = marks_of_long_parts(searcher, text.characters())?;
         Ok(SearchedText {
             searcher,
             text,
             allowed: None,
-            starts,
+            places,
         })
     }
 
@@ -90,14 +122,14 @@ impl<'s, 'c> SearchedText<'s, 'c> {
         let SearchedText {
             searcher,
             text,
-            starts,
+            places,
             ..
         } = self;
         Ok(SearchedText {
             searcher,
             text,
             allowed: Some(AllowedOffsets { set, marks }),
-            starts,
+            places,
         })
     }
 
@@ -197,7 +229,7 @@ impl<'s, 'c> MatchEnds for SearchedText<'s, 'c> {
         self.text.char_count()
     }
 
-    fn first_stop(&self, start: usize) -> Result<Option<usize>, AllocError> {
-        self.shortest_stop(start)
+    fn least_stop(&self, start: usize, last: usize) -> Result<Option<usize>, AllocError> {
+        self.least_stop_to(start, last)
     }
 }

@@ -1,6 +1,6 @@
 //! Patterns that are searched for.
 
-ghost use Rattle.std.specs.Prelude.{◌≡◌, ◌<◌, ◌≤◌, ℕ, List, [], true, chars, length, string_bytes, IfOk, IfSome};
+ghost use Rattle.std.specs.Prelude.{◌≡◌, ◌<◌, ◌≤◌, ◌++◌, ℕ, List, [], true, false, chars, length, string_bytes, IfOk, IfSome, IsTrue};
 ghost use Rattle.std.specs.Option.{ForSome};
 ghost use Rattle.std.specs.Ordering.{is_eq};
 ghost use Rattle.icu_encodings.specs.DecodedTexts.{latin1_text, utf16_text, utf8_text};
@@ -11,16 +11,20 @@ ghost use Rattle.icu_text_order.specs.TextOrder.{reading_by, lists_by, text_orde
 ghost use Rattle.icu_text_order.specs.Forms.{last_variable_by};
 ghost use Rattle.icu_search.specs.Searches.{found};
 ghost use Rattle.unicode_normalization.specs.Forms.{nfd};
+ghost use Rattle.icu_search.specs.PieceLaws.{BeginsPieces};
+ghost use Rattle.icu_text_search.specs.inner.FirstWeights.{BeginsWith};
 ghost use Rattle.icu_text_search.specs.inner.OnePrimaries.{HasOnePrimary};
 ghost use Rattle.icu_text_search.specs.inner.PartOutcomes.{equals_pattern};
 ghost use Rattle.icu_text_search.specs.inner.PrimaryCounts.{primaries_from};
 
+use crate::first_weights::{KnownVariables, known_primaries, rules_out};
 use icu_collator::options::AlternateHandling;
 use icu_collator::{Collator, CollatorBorrowed};
 use icu_elements::{CollationElement, TextReading, all_elements};
 use icu_encodings::{Latin1Text, Utf8Text, Utf16Text};
 use icu_entries::element::MERGE_SEPARATOR_PRIMARY;
 use icu_indexed_text::utf8_copy;
+use icu_searcher::begins_letter;
 use std::alloc::{AllocError, Global};
 use std::cmp::Ordering;
 
@@ -129,6 +133,10 @@ pub struct Searcher<'c> {
     most: usize,
     /// The empty text is equal to the pattern.
     equals_empty: bool,
+    /// The primary weights with which it begins.
+    first: Vec<u32>,
+    ghost first_is: { BeginsWith first.items (lists_by (collation_borrowed collator)
+        (nfd (chars (string_bytes pattern)))).primaries },
     ghost sure_is: { ForSome sure (λ p. last_variable_by (collation_borrowed collator) < p) },
     ghost fewest_is: { fewest ≤ length (lists_by (collation_borrowed collator)
         (nfd (chars (string_bytes pattern)))).primaries },
@@ -143,6 +151,24 @@ fn is_empty_text(collator: &CollatorBorrowed<'_>, text: &str) -> bool
     ensures { result ≡ is_eq (text_order (collation_borrowed collator.now) [] (chars text.now)) }
 {
     collator.order("", text).is_eq()
+}
+
+/// The primary weights with which those of a pattern begin, as far as it is known which of them count.
+fn first_primaries(
+    alloc: Global,
+    collator: &CollatorBorrowed<'_>,
+    pattern: &str,
+    known: KnownVariables,
+) -> Result<Vec<u32>, AllocError>
+    requires sure { ForSome known.sure
+        (λ p. last_variable_by (collation_borrowed collator.now) < p) }
+    requires variable { known.variable ≤ last_variable_by (collation_borrowed collator.now) }
+    ensures { IfOk result (λ v. BeginsWith v.items (lists_by (collation_borrowed collator.now)
+        (nfd (chars pattern.now))).primaries) }
+{
+    let elements = all_elements(reading_of_collator(collator), pattern.chars())?;
+    let primaries = known_primaries(alloc, known, elements.as_slice())?;
+    Ok(primaries)
 }
 
 impl<'c> Searcher<'c> {
@@ -221,6 +247,8 @@ impl<'c> Searcher<'c> {
         let sure = first_sure(&collator.as_borrowed())?;
         let fewest = fewest_primaries(&collator.as_borrowed(), pattern.as_str(), sure)?;
         let equals_empty = is_empty_text(&collator.as_borrowed(), pattern.as_str());
+        let known = KnownVariables { sure, variable: 0 };
+        let first = first_primaries(alloc, &collator.as_borrowed(), pattern.as_str(), known)?;
         Ok(Searcher {
             alloc,
             collator: collator.as_borrowed(),
@@ -229,6 +257,7 @@ impl<'c> Searcher<'c> {
             fewest,
             most,
             equals_empty,
+            first,
         })
     }
 
@@ -264,6 +293,31 @@ impl<'c> Searcher<'c> {
         ensures { result ≡ equals_pattern (search_of self.now) [] }
     {
         self.equals_empty
+    }
+
+    /// Whether no part with which a text begins is equal to the pattern, up to a place: the first primary weights tell.
+    /// None may be equal where this returns false.
+    pub(crate) fn begins_otherwise(&self, text: &[char]) -> bool
+        ensures { let s = search_of self.now in let c = s.collation in result ≡ true
+            → (part rest : List ℕ) → (lists_by c (nfd text.now)).primaries
+            ≡ (lists_by c (nfd part)).primaries ++ rest → equals_pattern s part ≡ false }
+    {
+        let known = KnownVariables {
+            sure: self.sure,
+            variable: 0,
+        };
+        rules_out(&self.collator, known, self.first.as_slice(), text)
+    }
+
+    /// Whether each text may be searched in pieces that are cut before a character. False says nothing.
+    pub(crate) fn cuts_before(&self, c: char) -> bool
+        ensures { IsTrue result → BeginsPieces (reading_by (search_of self.now).collation) c }
+    {
+        self.collator
+            .cursor_tables()
+            .places()
+            .has_boundary_before(c)
+            && begins_letter(c)
     }
 
     /// Whether a part of a text with these elements has fewer primary weights than the pattern. It may have fewer where

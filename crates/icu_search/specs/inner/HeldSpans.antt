@@ -1,6 +1,6 @@
 -- The match that is held while the least one is looked for.
-use Rattle.std.specs.Prelude.{ℕ, ◌+◌, Bool, false, nat_le, nat_lt, List, Option, Some, None, if◌then◌else◌}
-use Rattle.icu_search.specs.LeastMatches.{Span}
+use Rattle.std.specs.Prelude.{ℕ, ◌≡◌, ◌+◌, Bool, false, nat_le, nat_lt, List, Option, Some, None, if◌then◌else◌}
+use Rattle.icu_search.specs.LeastMatches.{Span, TellsLeastStop}
 use Rattle.icu_search.specs.Selections.{found_from}
 
 -- of two matches, the second of which begins later, the one that is least: the later one, unless it ends later
@@ -13,6 +13,17 @@ joined_to_held (Some m) (Some l) = if nat_le l.stop m.stop then Some l else Some
 abbrev pub stops_before : Option Span → ℕ → Bool
 stops_before None offset = false
 stops_before (Some m) offset = nat_lt m.stop offset
+
+-- The first match from a start, of those that end at an offset or before. None is told where there is none, and may be
+-- told where each of them holds a match from the next start.
+abbrev pub TellsLeastSpan : (ℕ → ℕ → Bool) → ℕ → ℕ → Option Span → Type 0
+TellsLeastSpan matches start last (Some m) = (m.start ≡ start) × TellsLeastStop matches start last (Some m.stop)
+TellsLeastSpan matches start last None = TellsLeastStop matches start last None
+
+-- a later match takes the place of the one that is held only if it ends there or before
+abbrev pub last_to_try : Option Span → ℕ → ℕ
+last_to_try None n = n
+last_to_try (Some m) n = if nat_lt m.stop n then m.stop else n
 
 -- where the next match may begin: where the match ends, or behind its start where it is empty
 abbrev pub from_behind : Span → ℕ

@@ -1,8 +1,8 @@
-use Rattle.std.proofs.Common.{◌≡◌, ◌<◌, ◌≤◌, ◌+◌, ◌-◌, true, List, Option, sym, ap, ◌∙◌, arith, rules}
-use Rattle.icu_search.specs.LeastMatches.{Span, shortest_from}
+use Rattle.std.proofs.Common.{◌≡◌, ℕ, ◌<◌, ◌≤◌, ◌+◌, true, false, List, Option, sym, ap, ◌∙◌, subst, arith, rules}
+use Rattle.icu_search.specs.LeastMatches.{Span}
 use Rattle.icu_search.specs.Selections.{first_span}
-use Rattle.icu_search.specs.inner.HeldSpans.{joined_to_held, stops_before}
-use Rattle.icu_search.proofs.SelectionLemmas.{joined_to_held-none, joined_to_held-assoc, least_to, least_to-past, first_turn, first_found, held_stays, starts_below}
+use Rattle.icu_search.specs.inner.HeldSpans.{TellsLeastSpan, joined_to_held, last_to_try, stops_before}
+use Rattle.icu_search.proofs.SelectionLemmas.{joined_to_held-none, told, tries_there, least_to, least_to-past, first_found, held_stays, starts_below}
 use Rattle.icu_search.proofs.found_spans.first_least.Goals as goal
 
 pub loop-start-init : goal.loop-start-init
@@ -26,14 +26,17 @@ pub loop-start-preserved : goal.loop-start-preserved
 loop-start-preserved g c =
     let matches = g.M.MatchEnds.matches c.args.ends.now in
     let n = g.M.MatchEnds.char_len c.args.ends.now in
-    let start = c.loop-start.start in
     let held = c.loop-start.held in
-    let later = first_span (least_to matches n (start + 1)) in
-    let inside : start ≤ n = omega (arith, c.loop-start-test.true, c.char_count-count.ensures.count) in
-    let next : c.joined-held.result ≡ joined_to_held held (shortest_from matches start start (n - start)) = search rules in
-    ap (λ (o : Option Span). joined_to_held o later) next
-    ∙ joined_to_held-assoc held (shortest_from matches start start (n - start)) later
-    ∙ ap (joined_to_held held) (sym (first_turn matches n start inside))
+    let last : c.last_stop-last.result ≡ last_to_try held n = search rules in
+    let later = first_span (least_to matches n (c.loop-start.start + 1)) in
+    let goes_on : stops_before held c.loop-start.start ≡ false = search rules in
+    let inside : c.loop-start.start ≤ n = omega (arith, c.loop-start-test.true, c.char_count-count.ensures.count) in
+    let ordered = tries_there matches n held c.loop-start.start goes_on inside in
+    let tells : TellsLeastSpan matches c.loop-start.start (last_to_try held n) c.in_ok-least_at.field-0 =
+    subst (λ (l : ℕ). TellsLeastSpan matches c.loop-start.start l c.in_ok-least_at.field-0) last c.in_ok-least_at.ensures in
+    let joins : c.joined-held.result ≡ joined_to_held held c.in_ok-least_at.field-0 = search rules in
+    ap (λ (o : Option Span). joined_to_held o later) joins
+    ∙ told matches n held c.loop-start.start c.in_ok-least_at.field-0 ordered tells
     ∙ c.loop-start.invariant
 
 pub returns-clause-least : goal.returns-clause-least

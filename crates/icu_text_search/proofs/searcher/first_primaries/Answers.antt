@@ -1,0 +1,23 @@
+use Rattle.std.proofs.Common.{◌≡◌, List, length, take, sym, ap, ◌∙◌}
+use Rattle.std.specs.Prelude.{chars}
+use Rattle.unicode_normalization.specs.Forms.{nfd}
+use Rattle.unicode_normalization.proofs.IterLemmas.{Spells-chars}
+use Rattle.icu_entries.specs.Elements.{Element}
+use Rattle.icu_collator.specs.Collators.{collation_borrowed}
+use Rattle.icu_elements.specs.TextElements.{Reading, elements_of}
+use Rattle.icu_weighting.specs.Forms.{last_variable_by}
+use Rattle.icu_text_order.specs.TextOrder.{reading_by}
+use Rattle.icu_text_search.specs.inner.FirstWeights.{counted}
+use Rattle.icu_text_search.proofs.FirstWeightLemmas.{primaries_counted}
+use Rattle.icu_text_search.proofs.searcher.first_primaries.Goals as goal
+
+pub returns : goal.returns
+returns c =
+    let collation = collation_borrowed c.args.collator.now in
+    let last = last_variable_by collation in
+    let text = chars c.args.pattern.now in
+    let read = c.in_ok-elements.ensures text (Spells-chars _ _ c.utf8.pattern c.chars.ensures.rest) in
+    let is : c.as_slice.result.now ≡ elements_of (reading_by collation) (nfd text) =
+    c.as_slice.ensures.value ∙ read ∙ ap (λ (r : Reading). elements_of r (nfd text)) c.reading_of_collator.ensures in
+    ap (take (length c.in_ok-primaries.primaries.items)) (primaries_counted collation text ∙ ap (counted last) (sym is))
+    ∙ c.in_ok-primaries.ensures last c.requires.sure c.requires.variable

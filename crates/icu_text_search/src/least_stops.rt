@@ -1,0 +1,49 @@
+//! Where the least matches of a text end: starts are passed over where little tells that none begins there.
+
+ghost use Rattle.std.specs.Prelude.{◌≡◌, ◌≤◌, IfOk};
+ghost use Rattle.icu_search.specs.LeastMatches.{TellsLeastStop};
+
+use crate::searched_text::SearchedText;
+use std::alloc::AllocError;
+
+impl<'s, 'c> SearchedText<'s, 'c> {
+    ghost use Rattle.icu_text_search.specs.SearchedTexts.{char_len_in, matches_in};
+
+    /// Of the matches that begin at an offset, and end at `last` or before, where the one ends that ends first.
+    fn shortest_stop_to(&self, start: usize, last: usize) -> Result<Option<usize>, AllocError>
+        requires ordered { start ≤ last }
+        requires within { last ≤ char_len_in self.now }
+        ensures { IfOk result (λ stop. TellsLeastStop (matches_in self.now) start last stop) }
+    {
+        match self.shortest_stop(start)? {
+            Some(stop) => {
+                if stop <= last {
+                    Ok(Some(stop))
+                } else {
+                    Ok(None)
+                }
+            }
+            None => Ok(None),
+        }
+    }
+
+    /// Of the matches that begin at an offset, and end at `last` or before, where the one ends that ends first. Their
+    /// first weights may tell that there is none.
+    pub(crate) fn least_stop_to(
+        &self,
+        start: usize,
+        last: usize,
+    ) -> Result<Option<usize>, AllocError>
+        requires ordered { start ≤ last }
+        requires within { last ≤ char_len_in self.now }
+        ensures { IfOk result (λ stop. TellsLeastStop (matches_in self.now) start last stop) }
+    {
+        if self.searcher.equals_empty() {
+            return self.shortest_stop_to(start, last);
+        }
+        if self.searcher.begins_otherwise(self.piece_from(start, last)) {
+            return Ok(None);
+        }
+        self.shortest_stop_to(start, last)
+    }
+}
