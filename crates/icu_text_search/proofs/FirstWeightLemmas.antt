@@ -22,17 +22,17 @@ use Rattle.icu_provider.specs.Reorderings.{Reordering, lead_byte, with_lead, lie
 use Rattle.icu_provider.specs.CollatorTables.{reorder, reorder_by}
 use Rattle.icu_text_order.specs.TextOrder.{reading_by, handled_elements, lists_by, text_order}
 use Rattle.icu_text_search.proofs.LongerPartLemmas.{eq_is, first_tied}
-use Rattle.icu_text_search.specs.inner.FirstWeights.{BeginsOtherwise, BeginsWith, counts, counted, low}
+use Rattle.icu_text_search.specs.inner.FirstWeights.{BeginsOtherwise, BeginsWith, counts, counted_primaries, low}
 
 -- ---- the primary weights of a text are those of its elements that count
 
-taken : (last : ℕ) (x : Element) (xs : List Element) → counts last x.primary ≡ true → counted last (x ∷ xs) ≡ x.primary ∷ counted last xs
-unfolding counted
-taken last x xs is = ap (λ b. if b then x.primary ∷ counted last xs else counted last xs) is
+taken : (last : ℕ) (x : Element) (xs : List Element) → counts last x.primary ≡ true → counted_primaries last (x ∷ xs) ≡ x.primary ∷ counted_primaries last xs
+unfolding counted_primaries
+taken last x xs is = ap (λ b. if b then x.primary ∷ counted_primaries last xs else counted_primaries last xs) is
 
-passed : (last : ℕ) (x : Element) (xs : List Element) → counts last x.primary ≡ false → counted last (x ∷ xs) ≡ counted last xs
-unfolding counted
-passed last x xs not = ap (λ b. if b then x.primary ∷ counted last xs else counted last xs) not
+passed : (last : ℕ) (x : Element) (xs : List Element) → counts last x.primary ≡ false → counted_primaries last (x ∷ xs) ≡ counted_primaries last xs
+unfolding counted_primaries
+passed last x xs not = ap (λ b. if b then x.primary ∷ counted_primaries last xs else counted_primaries last xs) not
 
 primaries-none : (x : Element) (xs : List Element) → (x.primary == 0) ≡ true → primaries (x ∷ xs) ≡ primaries xs
 unfolding weights
@@ -76,8 +76,8 @@ module _ (handling : AlternateHandling) (last : ℕ) where
   counts_by : (x : Element) (none variable : Bool) → (x.primary == 0) ≡ none → is_variable last x ≡ variable → counts last x.primary ≡ not (none || variable)
   counts_by x none variable zero_is is = ap (λ b. not (b || is_variable last x)) zero_is ∙ ap (λ b. not (none || b)) is
 
-  pub handled_counted : (after : Bool) (es : List Element) → left after es ≡ counted last es
-  unfolding handled counted weights
+  pub handled_counted : (after : Bool) (es : List Element) → left after es ≡ counted_primaries last es
+  unfolding handled counted_primaries weights
   handled_counted after [] = refl
   handled_counted after (x ∷ xs) =
       elim (cases_Bool (is_variable last x)) [
@@ -104,32 +104,32 @@ module _ (handling : AlternateHandling) (last : ℕ) where
       never true = refl
       never false = refl
 
-pub primaries_counted : (c : Collation) (text : List ℕ) → (lists_by c (nfd text)).primaries ≡ counted (last_variable_by c) (elements_of (reading_by c) (nfd text))
+pub primaries_counted : (c : Collation) (text : List ℕ) → (lists_by c (nfd text)).primaries ≡ counted_primaries (last_variable_by c) (elements_of (reading_by c) (nfd text))
 unfolding lists_by
 primaries_counted c text = handled_counted c.settings.alternate_handling (last_variable_by c) false (elements_of (reading_by c) (nfd text))
 
 -- ---- some elements, and one more
 
-pub counted-append : (last : ℕ) (xs ys : List Element) → counted last (xs ++ ys) ≡ counted last xs ++ counted last ys
-unfolding counted
+pub counted-append : (last : ℕ) (xs ys : List Element) → counted_primaries last (xs ++ ys) ≡ counted_primaries last xs ++ counted_primaries last ys
+unfolding counted_primaries
 counted-append last [] ys = refl
 counted-append last (x ∷ xs) ys =
     elim (cases_Bool (counts last x.primary)) [
-      | inl is ↦ taken last x (xs ++ ys) is ∙ ap (λ (l : List ℕ). x.primary ∷ l) (counted-append last xs ys) ∙ ap (λ (l : List ℕ). l ++ counted last ys) (sym (taken last x xs is))
-      | inr not ↦ passed last x (xs ++ ys) not ∙ counted-append last xs ys ∙ ap (λ (l : List ℕ). l ++ counted last ys) (sym (passed last x xs not))
+      | inl is ↦ taken last x (xs ++ ys) is ∙ ap (λ (l : List ℕ). x.primary ∷ l) (counted-append last xs ys) ∙ ap (λ (l : List ℕ). l ++ counted_primaries last ys) (sym (taken last x xs is))
+      | inr not ↦ passed last x (xs ++ ys) not ∙ counted-append last xs ys ∙ ap (λ (l : List ℕ). l ++ counted_primaries last ys) (sym (passed last x xs not))
     ]
 
-nothing : (last : ℕ) → counted last [] ≡ []
-unfolding counted
+nothing : (last : ℕ) → counted_primaries last [] ≡ []
+unfolding counted_primaries
 nothing last = refl
 
-pub one_counts : (last : ℕ) (xs : List Element) (x : Element) → counts last x.primary ≡ true → counted last (xs ++ x ∷ []) ≡ counted last xs ++ x.primary ∷ []
+pub one_counts : (last : ℕ) (xs : List Element) (x : Element) → counts last x.primary ≡ true → counted_primaries last (xs ++ x ∷ []) ≡ counted_primaries last xs ++ x.primary ∷ []
 one_counts last xs x is =
-    counted-append last xs (x ∷ []) ∙ ap (λ (l : List ℕ). counted last xs ++ l) (taken last x [] is ∙ ap (λ (l : List ℕ). x.primary ∷ l) (nothing last))
+    counted-append last xs (x ∷ []) ∙ ap (λ (l : List ℕ). counted_primaries last xs ++ l) (taken last x [] is ∙ ap (λ (l : List ℕ). x.primary ∷ l) (nothing last))
 
-pub one_counts_not : (last : ℕ) (xs : List Element) (x : Element) → counts last x.primary ≡ false → counted last (xs ++ x ∷ []) ≡ counted last xs
+pub one_counts_not : (last : ℕ) (xs : List Element) (x : Element) → counts last x.primary ≡ false → counted_primaries last (xs ++ x ∷ []) ≡ counted_primaries last xs
 one_counts_not last xs x not =
-    counted-append last xs (x ∷ []) ∙ ap (λ (l : List ℕ). counted last xs ++ l) (passed last x [] not ∙ nothing last) ∙ append-nil (counted last xs)
+    counted-append last xs (x ∷ []) ∙ ap (λ (l : List ℕ). counted_primaries last xs ++ l) (passed last x [] not ∙ nothing last) ∙ append-nil (counted_primaries last xs)
 
 -- ---- weights that are known to count
 
@@ -169,17 +169,17 @@ pub record ReadFirst (c : Collation) (text front : List ℕ) (left : List ℕ �
   pub gone : List Element
   pub before : List ℕ
   pub elements : elements_of (reading_by c) (nfd text) ≡ gone ++ left before
-  pub same : map low (counted (last_variable_by c) gone) ≡ take met (map low front)
+  pub same : map low (counted_primaries (last_variable_by c) gone) ≡ take met (map low front)
 
 module _ (c : Collation) (text front : List ℕ) where
   abbrev last : ℕ
   last = last_variable_by c
 
   -- the weights of the whole, by what was read
-  whole : (gone more : List Element) → elements_of (reading_by c) (nfd text) ≡ gone ++ more → map low (lists_by c (nfd text)).primaries ≡ map low (counted last gone) ++ map low (counted last more)
+  whole : (gone more : List Element) → elements_of (reading_by c) (nfd text) ≡ gone ++ more → map low (lists_by c (nfd text)).primaries ≡ map low (counted_primaries last gone) ++ map low (counted_primaries last more)
   whole gone more is =
-      ap (map low) (primaries_counted c text ∙ ap (counted last) is ∙ counted-append last gone more)
-      ∙ map-append low (counted last gone) (counted last more)
+      ap (map low) (primaries_counted c text ∙ ap (counted_primaries last) is ∙ counted-append last gone more)
+      ∙ map-append low (counted_primaries last gone) (counted_primaries last more)
 
   -- and by a part that begins as the front does
   front_whole : (part rest more : List ℕ) → (lists_by c (nfd text)).primaries ≡ part ++ rest → map low part ≡ map low (front ++ more)
@@ -209,7 +209,7 @@ module _ (c : Collation) (text front : List ℕ) where
       before = (next r.before).0;
       elements = gone_on;
       same =
-          ap (map low) (one_counts last r.gone x is) ∙ map-append low (counted last r.gone) (x.primary ∷ [])
+          ap (map low) (one_counts last r.gone x is) ∙ map-append low (counted_primaries last r.gone) (x.primary ∷ [])
           ∙ ap (λ (l : List ℕ). l ++ low x.primary ∷ []) r.same
           ∙ ap (λ w. take met (map low front) ++ w ∷ []) (alike ∙ sym (get_or-map low front met 0 0 inside))
           ∙ sym (ap (λ n. take n (map low front)) after ∙ take-suc (map low front) met 0 fits);
@@ -225,13 +225,13 @@ module _ (c : Collation) (text front : List ℕ) where
     pub reads_other : counts last x.primary ≡ true → met < length front → (low x.primary ≡ low (get_or front met 0) → ⊥) → BeginsOtherwise c text front
     reads_other is inside unlike = λ part rest more parts same.
         let later = new (next r.before).0 in
-        let read : map low (lists_by c (nfd text)).primaries ≡ take met (map low front) ++ (low x.primary ∷ map low (counted last later)) =
+        let read : map low (lists_by c (nfd text)).primaries ≡ take met (map low front) ++ (low x.primary ∷ map low (counted_primaries last later)) =
         whole all_gone later gone_on
-        ∙ ap (λ (l : List ℕ). map low l ++ map low (counted last later)) (one_counts last r.gone x is)
-        ∙ ap (λ (l : List ℕ). l ++ map low (counted last later)) (map-append low (counted last r.gone) (x.primary ∷ []) ∙ ap (λ (l : List ℕ). l ++ low x.primary ∷ []) r.same)
-        ∙ append_assoc (take met (map low front)) (low x.primary ∷ []) (map low (counted last later)) in
+        ∙ ap (λ (l : List ℕ). map low l ++ map low (counted_primaries last later)) (one_counts last r.gone x is)
+        ∙ ap (λ (l : List ℕ). l ++ map low (counted_primaries last later)) (map-append low (counted_primaries last r.gone) (x.primary ∷ []) ∙ ap (λ (l : List ℕ). l ++ low x.primary ∷ []) r.same)
+        ∙ append_assoc (take met (map low front)) (low x.primary ∷ []) (map low (counted_primaries last later)) in
         unlike
-        (unlike_at (take met (map low front)) (map low front) (map low more ++ map low rest) (map low (counted last later)) (low x.primary) met refl (omega (arith, inside, length-map front low))
+        (unlike_at (take met (map low front)) (map low front) (map low more ++ map low rest) (map low (counted_primaries last later)) (low x.primary) met refl (omega (arith, inside, length-map front low))
         (sym read ∙ front_whole part rest more parts same)
         ∙ get_or-map low front met 0 0 inside)
 
@@ -240,7 +240,7 @@ module _ (c : Collation) (text front : List ℕ) where
   reads_few old met r none inside = λ part rest more parts same.
       let read : map low (lists_by c (nfd text)).primaries ≡ take met (map low front) =
       whole r.gone [] (r.elements ∙ ap (λ (l : List Element). r.gone ++ l) (none r.before))
-      ∙ ap (λ (l : List ℕ). map low (counted last r.gone) ++ map low l) (nothing last) ∙ append-nil (map low (counted last r.gone)) ∙ r.same in
+      ∙ ap (λ (l : List ℕ). map low (counted_primaries last r.gone) ++ map low l) (nothing last) ∙ append-nil (map low (counted_primaries last r.gone)) ∙ r.same in
       short_of (map low (lists_by c (nfd text)).primaries) (map low front) (map low more ++ map low rest) met read (omega (arith, inside, length-map front low)) (front_whole part rest more parts same)
 
 -- ---- reordering changes lead bytes alone

@@ -4,7 +4,7 @@ ghost use Rattle.std.specs.Prelude.{◌≡◌, ◌<◌, ◌≤◌, ℕ, true, If
 ghost use Rattle.std.specs.Option.{ForSome};
 ghost use Rattle.icu_collator.specs.Collators.{collation_borrowed};
 ghost use Rattle.icu_text_order.specs.Forms.{last_variable_by};
-ghost use Rattle.icu_text_search.specs.inner.FirstWeights.{BeginsOtherwise, BeginsWith, counted, counts, low};
+ghost use Rattle.icu_text_search.specs.inner.FirstWeights.{BeginsOtherwise, BeginsWith, counted_primaries, counts, low};
 
 use icu_collator::CollatorBorrowed;
 use icu_cursor::FactsCursor;
@@ -57,7 +57,7 @@ pub(crate) fn known_primaries(
     elements: &[CollationElement],
 ) -> Result<Vec<u32>, AllocError>
     ensures { (last : ℕ) → ForSome known.sure (λ p. last < p) → known.variable ≤ last
-        → IfOk result (λ v. BeginsWith v.items (counted last elements.now)) }
+        → IfOk result (λ v. BeginsWith v.items (counted_primaries last elements.now)) }
 {
     let mut primaries = Vec::new(alloc);
     for element in elements {

@@ -12,9 +12,9 @@ abbrev pub counts : ℕ → ℕ → Bool
 counts last p = not (p == 0 || (nat_lt separator_primary p && nat_le p last))
 
 -- those of elements that count
-unfoldable pub counted : ℕ → List Element → List ℕ
-counted last [] = []
-counted last (x ∷ xs) = if counts last x.primary then x.primary ∷ counted last xs else counted last xs
+unfoldable pub counted_primaries : ℕ → List Element → List ℕ
+counted_primaries last [] = []
+counted_primaries last (x ∷ xs) = if counts last x.primary then x.primary ∷ counted_primaries last xs else counted_primaries last xs
 
 -- what of a primary weight no reordering changes
 abbrev pub low : ℕ → ℕ

@@ -7,7 +7,7 @@ use Rattle.icu_collator.specs.Collators.{collation_borrowed}
 use Rattle.icu_elements.specs.TextElements.{Reading, elements_of}
 use Rattle.icu_weighting.specs.Forms.{last_variable_by}
 use Rattle.icu_text_order.specs.TextOrder.{reading_by}
-use Rattle.icu_text_search.specs.inner.FirstWeights.{counted}
+use Rattle.icu_text_search.specs.inner.FirstWeights.{counted_primaries}
 use Rattle.icu_text_search.proofs.FirstWeightLemmas.{primaries_counted}
 use Rattle.icu_text_search.proofs.searcher.first_primaries.Goals as goal
 
@@ -19,5 +19,5 @@ returns c =
     let read = c.in_ok-elements.ensures text (Spells-chars _ _ c.utf8.pattern c.chars.ensures.rest) in
     let is : c.as_slice.result.now ≡ elements_of (reading_by collation) (nfd text) =
     c.as_slice.ensures.value ∙ read ∙ ap (λ (r : Reading). elements_of r (nfd text)) c.reading_of_collator.ensures in
-    ap (take (length c.in_ok-primaries.primaries.items)) (primaries_counted collation text ∙ ap (counted last) (sym is))
+    ap (take (length c.in_ok-primaries.primaries.items)) (primaries_counted collation text ∙ ap (counted_primaries last) (sym is))
     ∙ c.in_ok-primaries.ensures last c.requires.sure c.requires.variable
