@@ -26,7 +26,7 @@ METHOD = re.compile(r"(?:<[^(]*>)?\(\s*(?:&(?:'\w+ )?)?(?:mut )?self\b")
 VALUES = {"CollatorBorrowed": "as_borrowed"}
 # Programs, and crates of tests: what the driver asks about are libraries.
 OTHERS = {"collate", "collate_cldr", "collate_commands", "sort_names", "test_checked_root", "test_contracts", "test_lists", "test_readers",
-          "test_rule_steps", "test_tailorings", "test_types", DRIVER}
+          "test_rule_steps", "test_tailorings", "test_text_search", "test_types", DRIVER}
 KEY, CHECK, FILE, READ, LINE, INDEX = "`key`", "`check`", "`root`", "`next` and `whole`", "`line`", "`names`"
 # Calls to which no question comes: each request of this program, or of this crate, is refused or tested by itself; some are run by
 # the tests of their own crates alone, without a refusal.
@@ -36,7 +36,7 @@ ROOTS = "`test_checked_root`, where no allocation is refused"
 TAILORINGS = "`test_tailorings`, where no allocation is refused"
 LISTS = "`test_lists`, where no allocation is refused"
 NAMES = "the program `sort_names`, each of whose requests is refused"
-SEARCHES = "the tests of `icu_text_search`, where no allocation is refused"
+SEARCHES = "`test_text_search`, where no allocation is refused"
 # Calls that nothing makes: those on which no program stands yet (searching, the reader of steps), and one that hands tables
 # which come one by one to `from_set`.
 NOTHING = "nothing"
@@ -103,39 +103,39 @@ LEFT_OUT = {
     ("icu_tailored_entries", "tailored_data"): TAILORINGS,
     ("icu_tailored_entries", "tailored_diacritics"): TAILORINGS,
     ("icu_tailoring_numbers", "TailoringNumbers::of_tree"): TAILORINGS,
-    ("icu_text_search", "FoundMatches::next"): TESTS,
-    ("icu_text_search", "OverlappingMatches::next"): TESTS,
-    ("icu_text_search", "SearchedText::find"): TESTS,
-    ("icu_text_search", "SearchedText::find_at"): TESTS,
-    ("icu_text_search", "SearchedText::prefix_match"): TESTS,
-    ("icu_text_search", "SearchedText::within"): TESTS,
-    ("icu_text_search", "Searcher::find"): TESTS,
-    ("icu_text_search", "Searcher::find_latin1"): TESTS,
-    ("icu_text_search", "Searcher::find_utf16"): TESTS,
-    ("icu_text_search", "Searcher::find_utf8"): TESTS,
-    ("icu_text_search", "Searcher::is_match"): TESTS,
-    ("icu_text_search", "Searcher::is_match_latin1"): TESTS,
-    ("icu_text_search", "Searcher::is_match_utf16"): TESTS,
-    ("icu_text_search", "Searcher::is_match_utf8"): TESTS,
-    ("icu_text_search", "Searcher::new"): TESTS,
-    ("icu_text_search", "Searcher::new_latin1"): TESTS,
-    ("icu_text_search", "Searcher::new_utf16"): TESTS,
-    ("icu_text_search", "Searcher::new_utf8"): TESTS,
-    ("icu_text_search", "Searcher::prefix_match"): TESTS,
-    ("icu_text_search", "Searcher::prefix_match_latin1"): TESTS,
-    ("icu_text_search", "Searcher::prefix_match_utf16"): TESTS,
-    ("icu_text_search", "Searcher::prefix_match_utf8"): TESTS,
-    ("icu_text_search", "Searcher::read"): TESTS,
+    ("icu_text_search", "FoundMatches::next"): SEARCHES,
+    ("icu_text_search", "OverlappingMatches::next"): SEARCHES,
+    ("icu_text_search", "SearchedText::find"): SEARCHES,
+    ("icu_text_search", "SearchedText::find_at"): SEARCHES,
+    ("icu_text_search", "SearchedText::prefix_match"): SEARCHES,
+    ("icu_text_search", "SearchedText::within"): SEARCHES,
+    ("icu_text_search", "Searcher::find"): SEARCHES,
+    ("icu_text_search", "Searcher::find_latin1"): SEARCHES,
+    ("icu_text_search", "Searcher::find_utf16"): SEARCHES,
+    ("icu_text_search", "Searcher::find_utf8"): SEARCHES,
+    ("icu_text_search", "Searcher::is_match"): SEARCHES,
+    ("icu_text_search", "Searcher::is_match_latin1"): SEARCHES,
+    ("icu_text_search", "Searcher::is_match_utf16"): SEARCHES,
+    ("icu_text_search", "Searcher::is_match_utf8"): SEARCHES,
+    ("icu_text_search", "Searcher::new"): SEARCHES,
+    ("icu_text_search", "Searcher::new_latin1"): SEARCHES,
+    ("icu_text_search", "Searcher::new_utf16"): SEARCHES,
+    ("icu_text_search", "Searcher::new_utf8"): SEARCHES,
+    ("icu_text_search", "Searcher::prefix_match"): SEARCHES,
+    ("icu_text_search", "Searcher::prefix_match_latin1"): SEARCHES,
+    ("icu_text_search", "Searcher::prefix_match_utf16"): SEARCHES,
+    ("icu_text_search", "Searcher::prefix_match_utf8"): SEARCHES,
+    ("icu_text_search", "Searcher::read"): SEARCHES,
     ("icu_weight_gaps", "weights_between"): RULES,
     ("icu_weight_numbers", "number_level"): RULES,
     ("icu_weight_numbers", "number_primaries"): RULES,
     ("icu_weight_numbers", "number_runs"): RULES,
     ("icu_weight_numbers", "primary_gaps_of_runs"): RULES,
     ("icu_weight_numbers", "sibling_runs"): RULES,
-    ("icu_text_search", "Searcher::read_by"): TESTS,
-    ("icu_text_search", "Searcher::read_latin1"): TESTS,
-    ("icu_text_search", "Searcher::read_utf16"): TESTS,
-    ("icu_text_search", "Searcher::read_utf8"): TESTS,
+    ("icu_text_search", "Searcher::read_by"): SEARCHES,
+    ("icu_text_search", "Searcher::read_latin1"): SEARCHES,
+    ("icu_text_search", "Searcher::read_utf16"): SEARCHES,
+    ("icu_text_search", "Searcher::read_utf8"): SEARCHES,
     ("icu_weight_tree", "RuleElements::differ_at"): RULES,
     ("icu_weight_tree", "RuleElements::differ_by"): RULES,
     ("icu_weight_tree", "RuleElements::go_before_at"): RULES,

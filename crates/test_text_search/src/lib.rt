@@ -1,0 +1,9 @@
+//! Worked searches over the test table Mini: what is found, as ranges of units.
+#![tactic(auto)]
+
+#[cfg(test)]
+mod calls;
+#[cfg(test)]
+mod search_rows;
+#[cfg(test)]
+mod searching;
