@@ -1,0 +1,3 @@
+mod LongestLemmas
+mod MappedMatchLemmas
+mod MappedTextLemmas

@@ -1,0 +1,12 @@
+//! Texts are read by tables as the mappings of their characters say: a law that joins what rules mean, as
+//! `icu_tailoring` defines it, with what tables give, as `icu_elements` does.
+#![tactic(auto)]
+
+ghost use Rattle.icu_mapped_texts.specs.MappedTexts.{TextsAreReadByMappings};
+
+/// Where the entry of each character comes to the elements of its mappings, behind each context and before each suffix,
+/// each text has by the tables the elements that it has by the mappings, but for elements without weights. Digits are
+/// read as letters are.
+pub fn texts_are_read_by_mappings()
+    ensures { TextsAreReadByMappings }
+{}
