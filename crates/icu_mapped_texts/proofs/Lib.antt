@@ -1,3 +1,7 @@
-mod LongestLemmas
+mod LongestBeginningLemmas
 mod MappedMatchLemmas
 mod MappedTextLemmas
+mod LongestPrefixLemmas
+mod DistinctLemmas
+mod RootMappingLemmas
+mod RootTextLemmas

@@ -15,10 +15,10 @@ use Rattle.icu_matches.proofs.CharacterOrderLemmas.{same_lists}
 use Rattle.icu_checked_root.specs.RootEntries.{entry_elements}
 use Rattle.icu_tailoring.specs.declared.symbolic.SymbolicElement.{SymbolicElement}
 use Rattle.icu_tailoring.specs.TailoredMappings.{SymbolicMapping, SymbolicMatch, longer_mapping, longest_suffix, mapping_with, is_blocked_by, joined_marks, match_by}
-use Rattle.icu_mapped_texts.specs.MappedTexts.{weighted, default_mapping, context_behind_prefix, entry_before, HaveSameElements}
-use Rattle.icu_mapped_texts.proofs.LongestLemmas.{first_with, bound, longest_by, better_by, IsFound, IsChosen, chosen_is}
+use Rattle.icu_mapped_texts.specs.MappedTexts.{weighted, default_mapping, context_behind_prefix, entry_of_suffix, HaveSameElements}
+use Rattle.icu_mapped_texts.proofs.LongestBeginningLemmas.{first_with, bound, longest_by, better_by, IsFound, IsChosen, chosen_is}
 
-abbrev chars_of : Mapping → List ℕ
+abbrev pub chars_of : Mapping → List ℕ
 chars_of m = m.chars
 
 abbrev suffix_of : SymbolicMapping → List ℕ
@@ -26,7 +26,7 @@ suffix_of m = m.suffix
 
 -- ---- look-ups and longest ones, as each side has them
 
-entry_first : (mappings : List Mapping) (chars : List ℕ)
+pub entry_first : (mappings : List Mapping) (chars : List ℕ)
     → mapping_entry mappings chars ≡ option_map (λ (m : Mapping). m.entry) (first_with chars_of mappings chars)
 unfolding mapping_entry first_with
 entry_first [] chars = refl
@@ -49,7 +49,7 @@ better_same : (best : Option Mapping) (m : Mapping) (text : List ℕ)
 better_same None m text = refl
 better_same (Some best) m text = refl
 
-longest_same : (best : Option Mapping) (mappings : List Mapping) (text : List ℕ)
+pub longest_same : (best : Option Mapping) (mappings : List Mapping) (text : List ℕ)
     → longest_from best mappings text ≡ longest_by chars_of best mappings text
 unfolding longest_from longest_by
 longest_same best [] text = refl
@@ -129,7 +129,7 @@ default_is_found (m ∷ mappings) e n = elim (cases_Bool (bytes_eq m.chars [])) 
   | inr b ↦ default_is_found mappings e (rw b at n)
 ]
 
-longer_than_default : (mappings : List Mapping) (e : ℕ) (chars : List ℕ) → bytes_eq [] chars ≡ false
+pub longer_than_default : (mappings : List Mapping) (e : ℕ) (chars : List ℕ) → bytes_eq [] chars ≡ false
     → mapping_entry (mappings ++ record { chars = []; entry = e } ∷ []) chars ≡ mapping_entry mappings chars
 unfolding mapping_entry
 longer_than_default [] e chars n = rw n refl
@@ -212,7 +212,7 @@ marks_same number home c mappings others alike e found h passed (m ∷ text) =
 -- before each suffix a context and mappings have the same elements
 abbrev pub AreAlikeBefore : (SymbolicElement → Element) → Data → ℕ → Context → List SymbolicMapping → Type 0
 AreAlikeBefore number home c context mappings = (suffix : List ℕ)
-    → HaveSameElements number home c (entry_before context suffix) (mapping_with mappings suffix)
+    → HaveSameElements number home c (entry_of_suffix context suffix) (mapping_with mappings suffix)
 
 not_nothing : (suffix : List ℕ) (m : ℕ) → bytes_eq [] (suffix ++ m ∷ []) ≡ false
 not_nothing [] m = refl
@@ -258,7 +258,7 @@ chosen_some key xs text o h some = elim h.found [
   | inr f ↦ f
 ]
 
-begins_is : (text chars : List ℕ) → starts_with nat_eq text chars ≡ true → chars ≡ take (length chars) text
+pub begins_is : (text chars : List ℕ) → starts_with nat_eq text chars ≡ true → chars ≡ take (length chars) text
 begins_is text chars e = same_lists chars (take (length chars) text) e
 
 same_length : (text one other : List ℕ) → starts_with nat_eq text one ≡ true → starts_with nat_eq text other ≡ true
@@ -279,7 +279,7 @@ found_same : (number : SymbolicElement → Element) (home : Data) (c : ℕ) (con
 found_same number home c context mappings text alike m n f a g b over under =
     let all = context.mappings ++ default_mapping context ∷ [] in
     let entry_is : (chars : List ℕ) (o : Option Mapping) → first_with chars_of all chars ≡ o
-    → entry_before context chars ≡ option_map (λ (x : Mapping). x.entry) o =
+    → entry_of_suffix context chars ≡ option_map (λ (x : Mapping). x.entry) o =
     λ chars o e. entry_first all chars ∙ ap (option_map (λ (x : Mapping). x.entry)) e in
     let mapping_is : (chars : List ℕ) (o : Option SymbolicMapping) → first_with suffix_of mappings chars ≡ o
     → mapping_with mappings chars ≡ o =
@@ -292,7 +292,7 @@ found_same number home c context mappings text alike m n f a g b over under =
     let is : m.chars ≡ n.suffix = same_length text m.chars n.suffix a b same in (
       is,
       both_some number home c _ _ m.entry n (alike n.suffix)
-          (subst (λ chars. entry_before context chars ≡ Some m.entry) is (entry_is m.chars (Some m) f))
+          (subst (λ chars. entry_of_suffix context chars ≡ Some m.entry) is (entry_is m.chars (Some m) f))
           (mapping_is n.suffix (Some n) g),
     )
   where

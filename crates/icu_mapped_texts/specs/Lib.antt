@@ -1,1 +1,2 @@
 pub mod MappedTexts
+pub mod RootTexts

@@ -32,8 +32,8 @@ context_behind_prefix home e =
     elim (kind_of e) [ Contraction ↦ context_of (homed home e) | _ ↦ alone ]
 
 -- the entry that a context has before a suffix, if it has one
-abbrev pub entry_before : Context → List ℕ → Option ℕ
-entry_before context suffix = mapping_entry (context.mappings ++ default_mapping context ∷ []) suffix
+abbrev pub entry_of_suffix : Context → List ℕ → Option ℕ
+entry_of_suffix context suffix = mapping_entry (context.mappings ++ default_mapping context ∷ []) suffix
 
 -- an entry and a mapping have the same elements with weights, or there is neither
 abbrev pub HaveSameElements : (SymbolicElement → Element) → Data → ℕ → Option ℕ → Option SymbolicMapping → Type 0
@@ -47,7 +47,7 @@ HaveSameElements number home c _ _ = ⊥
 abbrev pub SaysMappings : (SymbolicElement → Element) → Data → ℕ → ℕ → List SymbolicMapping → Type 0
 SaysMappings number home c e mappings = (before suffix : List ℕ)
     → HaveSameElements number home c
-    (entry_before (context_behind_prefix home (after_prefix (homed home e) before)) suffix)
+    (entry_of_suffix (context_behind_prefix home (after_prefix (homed home e) before)) suffix)
     (mapping_with (mappings_behind mappings (beginnings before)) suffix)
 
 -- a diacritic has its secondary weight, whatever stands around it

@@ -3,10 +3,17 @@
 #![tactic(auto)]
 
 ghost use Rattle.icu_mapped_texts.specs.MappedTexts.{TextsAreReadByMappings};
+ghost use Rattle.icu_mapped_texts.specs.RootTexts.{RootsAreReadByMappings};
 
 /// Where the entry of each character comes to the elements of its mappings, behind each context and before each suffix,
 /// each text has by the tables the elements that it has by the mappings, but for elements without weights. Digits are
 /// read as letters are.
 pub fn texts_are_read_by_mappings()
     ensures { TextsAreReadByMappings }
+{}
+
+/// By the tables of a root each text has the elements that it has by the root's mappings, which rules start from, but
+/// for elements without weights.
+pub fn roots_are_read_by_mappings()
+    ensures { RootsAreReadByMappings }
 {}
