@@ -1,5 +1,6 @@
 pub mod ReadCharacterLemmas
 pub mod StandLemmas
+pub mod UnjoinedLemmas
 pub mod PieceLemmas
 pub mod ReadyLemmas
 pub mod NumberLemmas

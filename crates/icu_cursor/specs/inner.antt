@@ -8,4 +8,5 @@ pub mod NumberElements
 pub mod Pieces
 pub mod MarkRuns
 pub mod Standing
+pub mod Unjoined
 pub mod Unread

@@ -10,6 +10,7 @@ use crate::digit_run::read_number;
 use crate::last_characters::LastCharacters;
 use crate::ready_elements::ReadyElements;
 use crate::stands::stands_before;
+use crate::unjoined::is_unjoined;
 use crate::{CharFacts, FactsKind, Kept};
 use icu_encodings::EncodedText;
 use icu_entries::CollationElement;
@@ -34,7 +35,7 @@ pub struct ElementCursor<'c, 'd, T> {
 
 impl<'c, 'd, T: EncodedText> ElementCursor<'c, 'd, T> {
     ghost use Rattle.icu_cursor.specs.Cursors.{cursor_reading, cursor_gives};
-    ghost use Rattle.icu_facts.specs.KeptFacts.{IsNumberDigit, char_elements};
+    ghost use Rattle.icu_facts.specs.KeptFacts.{IsNumberDigit, IsPair, char_elements};
     ghost use Rattle.icu_cursor.specs.inner.Unread.{HasNothingReady, HasReadNothing};
     ghost use Rattle.icu_cursor.specs.inner.Standing.{Serves, StandsAnywhere, StandsBefore};
 
@@ -169,29 +170,68 @@ impl<'c, 'd, T: EncodedText> ElementCursor<'c, 'd, T> {
             ≡ option_to_list result ++ cursor_gives T.text self.new }
     {
         if !stands_before(self.tables, facts, rest) {
-            return self.take_pair(c, facts.kind, rest);
+            return self.take_base(c, facts, rest);
         }
         self.read_facts(c, facts, rest)
     }
 
-    /// The first element of a character of this kind and the next one, where a contraction joins them. The others are
-    /// kept.
+    /// The first element of a character that begins contractions, by itself where none goes on, or with the next one
+    /// where a contraction joins them. The others are kept.
     #[inline(never)]
-    fn take_pair(&mut self, c: char, kind: FactsKind, rest: T) -> Option<CollationElement>
+    fn take_base(&mut self, c: char, facts: &CharFacts, rest: T) -> Option<CollationElement>
         requires nothing { HasNothingReady self.old }
         requires text { T.text self.old.text ≡ c ∷ T.text rest }
+        requires facts { Serves (cursor_reading self.old.tables.now) c facts.now }
         ensures next { cursor_gives T.text self.old
             ≡ option_to_list result ++ cursor_gives T.text self.new }
     {
-        if kind != FactsKind::Base {
+        if facts.kind != FactsKind::Base {
             return None;
         }
         let (x, after) = rest.split_first_char()?;
-        let few = self.tables.pair(c, x)?;
+        match self.tables.pair(c, x) {
+            Some(few) => self.take_pair((c, x), &few, rest, after),
+            None => self.take_unjoined(c, facts, rest),
+        }
+    }
+
+    /// The first element of two characters that a contraction joins. The others are kept.
+    #[inline(always)]
+    fn take_pair(
+        &mut self,
+        joined: (char, char),
+        few: &FewElements,
+        rest: T,
+        after: T,
+    ) -> Option<CollationElement>
+        requires nothing { HasNothingReady self.old }
+        requires text { T.text self.old.text ≡ joined.0 ∷ T.text rest }
+        requires next { T.text rest ≡ joined.1 ∷ T.text after }
+        requires pair { IsPair (cursor_reading self.old.tables.now) joined.0 joined.1
+            (few_elements few.now) }
+        ensures next { cursor_gives T.text self.old
+            ≡ option_to_list result ++ cursor_gives T.text self.new }
+    {
         self.text = after;
-        self.recent.push(c);
-        self.recent.push(x);
-        self.ready.begin_few(&few)
+        self.recent.push(joined.0);
+        self.recent.push(joined.1);
+        self.ready.begin_few(few)
+    }
+
+    /// The first element of a character that begins contractions, where none goes on. The others are kept.
+    #[inline(always)]
+    fn take_unjoined(&mut self, c: char, facts: &CharFacts, rest: T) -> Option<CollationElement>
+        requires nothing { HasNothingReady self.old }
+        requires text { T.text self.old.text ≡ c ∷ T.text rest }
+        requires facts { Serves (cursor_reading self.old.tables.now) c facts.now }
+        requires base { facts.now.kind ≡ FactsKind.Base }
+        ensures next { cursor_gives T.text self.old
+            ≡ option_to_list result ++ cursor_gives T.text self.new }
+    {
+        if !is_unjoined(self.tables, c, rest) {
+            return None;
+        }
+        self.read_facts(c, facts, rest)
     }
 
     /// The first element of a Hangul syllable, by its jamo. The others are kept.

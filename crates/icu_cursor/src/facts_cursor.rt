@@ -3,6 +3,8 @@
 ghost use Rattle.std.specs.Prelude.{◌≡◌, ◌∷◌, [], ℕ, List, IfSome};
 ghost use Rattle.unicode_normalization.specs.Forms.{nfd};
 ghost use Rattle.icu_elements.specs.TextElements.{elements_after};
+ghost use Rattle.icu_facts.specs.FewElements.{few_elements};
+ghost use Rattle.icu_facts.specs.KeptFacts.{IsPair};
 ghost use Rattle.icu_cursor.specs.Cursors.{cursor_reading};
 ghost use Rattle.icu_cursor.specs.inner.Ready.{elements_ready};
 ghost use Rattle.icu_cursor.specs.inner.Standing.{Serves, StandsAnywhere};
@@ -10,9 +12,11 @@ ghost use Rattle.icu_cursor.specs.inner.Standing.{Serves, StandsAnywhere};
 use crate::char_elements::CharElements;
 use crate::cursor_tables::CursorTables;
 use crate::stands::stands_before;
+use crate::unjoined::is_unjoined;
 use crate::{CharFacts, FactsKind, Kept};
 use icu_encodings::EncodedText;
 use icu_entries::CollationElement;
+use icu_facts::FewElements;
 
 /// Gives the elements of the characters that a text begins with, as long as each may be read by itself: less than an
 /// `ElementCursor`, but at little cost. It never allocates.
@@ -144,26 +148,64 @@ impl<'c, 'd, T: EncodedText> FactsCursor<'c, 'd, T> {
         ensures { IfSome result (λ e. GoesOn T.text self.old e self.new) }
     {
         if !stands_before(self.tables, facts, rest) {
-            return self.begin_pair(c, facts.kind, rest);
+            return self.begin_base(c, facts, rest);
         }
         self.text = rest;
         self.ready.begin(facts)
     }
 
-    /// The first element of a character of this kind and the next one, where a contraction joins them. The others are
-    /// kept.
+    /// The first element of a character that begins contractions, by itself where none goes on, or with the next one
+    /// where a contraction joins them. The others are kept.
     #[inline(never)]
-    fn begin_pair(&mut self, c: char, kind: FactsKind, rest: T) -> Option<CollationElement>
+    fn begin_base(&mut self, c: char, facts: &CharFacts, rest: T) -> Option<CollationElement>
         requires nothing { elements_ready self.old.ready ≡ [] }
         requires text { T.text self.old.text ≡ c ∷ T.text rest }
+        requires facts { Serves (cursor_reading self.old.tables.now) c facts.now }
         ensures { IfSome result (λ e. GoesOn T.text self.old e self.new) }
     {
-        if kind != FactsKind::Base {
+        if facts.kind != FactsKind::Base {
             return None;
         }
         let (x, after) = rest.split_first_char()?;
-        let few = self.tables.pair(c, x)?;
+        match self.tables.pair(c, x) {
+            Some(few) => self.begin_pair((c, x), &few, rest, after),
+            None => self.begin_unjoined(c, facts, rest),
+        }
+    }
+
+    /// The first element of two characters that a contraction joins. The others are kept.
+    #[inline(always)]
+    fn begin_pair(
+        &mut self,
+        joined: (char, char),
+        few: &FewElements,
+        rest: T,
+        after: T,
+    ) -> Option<CollationElement>
+        requires nothing { elements_ready self.old.ready ≡ [] }
+        requires text { T.text self.old.text ≡ joined.0 ∷ T.text rest }
+        requires next { T.text rest ≡ joined.1 ∷ T.text after }
+        requires pair { IsPair (cursor_reading self.old.tables.now) joined.0 joined.1
+            (few_elements few.now) }
+        ensures { IfSome result (λ e. GoesOn T.text self.old e self.new) }
+    {
         self.text = after;
-        self.ready.begin_few(&few)
+        self.ready.begin_few(few)
+    }
+
+    /// The first element of a character that begins contractions, where none goes on. The others are kept.
+    #[inline(always)]
+    fn begin_unjoined(&mut self, c: char, facts: &CharFacts, rest: T) -> Option<CollationElement>
+        requires nothing { elements_ready self.old.ready ≡ [] }
+        requires text { T.text self.old.text ≡ c ∷ T.text rest }
+        requires facts { Serves (cursor_reading self.old.tables.now) c facts.now }
+        requires base { facts.now.kind ≡ FactsKind.Base }
+        ensures { IfSome result (λ e. GoesOn T.text self.old e self.new) }
+    {
+        if !is_unjoined(self.tables, c, rest) {
+            return None;
+        }
+        self.text = rest;
+        self.ready.begin(facts)
     }
 }

@@ -15,6 +15,7 @@ mod ready_elements;
 mod short_piece;
 mod stands;
 pub mod steady_cursor;
+mod unjoined;
 
 pub use cursor::{ElementCursor, LongPiece};
 pub use cursor_tables::CursorTables;

@@ -127,14 +127,15 @@ fn are_two(first: u8, second: u8) -> bool
     first >= 0xC2 && first <= 0xDF && second >= 0x80 && second <= 0xBF
 }
 
-/// Whether a byte may stand after one from E1 to ED in a well-formed character. False says nothing.
+/// Whether a byte may stand after one from E0 to ED in a well-formed character. False says nothing.
 #[inline(always)]
 fn is_second(first: u8, byte: u8) -> bool
     ensures lead { IsTrue result → (0xE0 ≤ first) × (first ≤ 0xEF) × (0x80 ≤ byte) }
     ensures second { IsTrue result → second first byte ≡ true }
 {
     let most = first >= 0xE1 && first <= 0xEC && byte <= 0xBF;
-    byte >= 0x80 && (most || (first == 0xED && byte <= 0x9F))
+    let lowest = first == 0xE0 && byte >= 0xA0 && byte <= 0xBF;
+    byte >= 0x80 && (most || lowest || (first == 0xED && byte <= 0x9F))
 }
 
 /// The first character of UTF-8 that begins with a well-formed one of two bytes.
@@ -152,7 +153,7 @@ fn split_first_two(bytes: &[u8]) -> Option<(char, &[u8])>
     Some((c, rest))
 }
 
-/// The first character of UTF-8 that begins with a well-formed one of three bytes, of which the first is one from E1 to
+/// The first character of UTF-8 that begins with a well-formed one of three bytes, of which the first is one from E0 to
 /// ED, as it is in most letters.
 #[inline(always)]
 fn split_first_three(bytes: &[u8]) -> Option<(char, &[u8])>

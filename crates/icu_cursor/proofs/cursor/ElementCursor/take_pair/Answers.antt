@@ -7,6 +7,6 @@ pub returns : goal.returns
 unfolding cursor_gives
 returns g c =
     let text = g.T.EncodedText.text in record {
-      next = pair_begun (cursor_reading c.args.self.now.tables.now) _ _ c.requires.nothing c.args.c c.in_ok-x.x _ _ (text c.args.rest) (text c.in_ok-x.after) _ _
-          (option_to_list c.begin_few.result) _ c.requires.text c.in_ok-x.ensures c.in_ok-few.ensures c.begin_few.ensures c.push.ensures c.push-2.ensures;
+      next = pair_begun (cursor_reading c.args.self.now.tables.now) _ _ c.requires.nothing c.args.joined.0 c.args.joined.1 _ _ (text c.args.rest) (text c.args.after) _ _
+          (option_to_list c.begin_few.result) _ c.requires.text c.requires.next c.requires.pair c.begin_few.ensures c.push.ensures c.push-2.ensures;
     }
