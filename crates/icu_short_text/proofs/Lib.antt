@@ -1,2 +1,3 @@
 pub mod OrderPlaceLemmas
 pub mod CharRoomLemmas
+pub mod PartOrderLemmas

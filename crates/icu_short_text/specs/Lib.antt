@@ -1,2 +1,3 @@
+pub mod LongTexts
 pub mod ShortTexts
 pub mod inner

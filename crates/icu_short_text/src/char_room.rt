@@ -16,7 +16,7 @@ fn move_last(chars: &mut [char], at: usize)
 }
 
 /// Moves the character at an index to the front.
-fn move_to_front(chars: &mut [char], index: usize)
+pub(crate) fn move_to_front(chars: &mut [char], index: usize)
     requires { index < length chars.old }
     ensures rest { drop 1 chars.new ≡ take index chars.old ++ drop (index + 1) chars.old }
     ensures len { length chars.new ≡ length chars.old }

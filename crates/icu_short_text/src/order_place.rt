@@ -9,7 +9,7 @@ use unicode_normalization::char::canonical_combining_class;
 /// Whether a character of this class goes before another that stands before it (Unicode Standard, D108).
 #[inline]
 #[tactic(auto, unfolding(unicode_normalization::specs::Order::is_reorderable))]
-fn is_reorderable(a: char, b: char) -> bool
+pub(crate) fn is_reorderable(a: char, b: char) -> bool
     ensures { result ≡ is_reorderable a b }
 {
     let class = canonical_combining_class(b);

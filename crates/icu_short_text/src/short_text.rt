@@ -169,7 +169,7 @@ fn is_mark_up_to(c: char, class: u8) -> bool
 }
 
 /// How many marks come first that have this class or a lower one.
-fn count_marks(chars: &[char], class: u8) -> usize
+pub(crate) fn count_marks(chars: &[char], class: u8) -> usize
     ensures { result ≡ length (marks_up_to class chars.now) }
 {
     let mut count = 0;
