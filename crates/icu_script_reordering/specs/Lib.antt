@@ -1,0 +1,4 @@
+pub mod ReorderCodes
+pub mod ScriptOrders
+pub mod ReorderedSpans
+pub mod inner
