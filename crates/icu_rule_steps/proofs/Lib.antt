@@ -1,4 +1,5 @@
 mod StateLemmas
+mod TouchedRuleLemmas
 mod RuleLoopLemmas
 mod ContractionEnds
 mod WeightMakerLemmas

@@ -5,6 +5,7 @@ use Rattle.icu_tailoring.specs.TailoredRoots.{RootMapping, Root}
 use Rattle.icu_tailoring.specs.Steps.{TailoringState}
 use Rattle.icu_weight_tree.specs.RuleStates.{state_with}
 use Rattle.icu_symbolic_mappings.specs.KeptMappings.{mappings_in}
+use Rattle.icu_symbolic_mappings.specs.declared.kept_mappings.Mappings.{Mappings}
 use Rattle.icu_rule_steps.specs.declared.symbolic_tailoring.SymbolicTailoring.{SymbolicTailoring}
 
 -- the root of which weights and mappings are asked
@@ -18,3 +19,7 @@ settings_in t = reverse (map (λ s. s.now) t.settings.items)
 -- the state
 abbrev pub state_in : {R : Type 0} → (R → ℕ → List RootMapping) → SymbolicTailoring R → TailoringState
 state_in mappings_of t = state_with (mappings_in mappings_of t.mappings) (settings_in t) t.rule
+
+-- the mappings, as they are kept
+abbrev pub kept_mappings : {R : Type 0} → SymbolicTailoring R → Mappings R
+kept_mappings t = t.mappings

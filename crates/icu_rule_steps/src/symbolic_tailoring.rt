@@ -25,23 +25,26 @@ pub struct SymbolicTailoring<'r, R> {
 }
 
 impl<'r, R: RootWeights + RootMappings> SymbolicTailoring<'r, R> {
-    ghost use Rattle.std.specs.Prelude.{◌≡◌, ◌++◌, ◌⊎◌, [], ◌∷◌, nat_lt, None, Some, map, reverse, IfOk, IfErr, OnOk};
+    ghost use Rattle.std.specs.Prelude.{◌≡◌, ◌++◌, ◌⊎◌, [], ◌∷◌, false, nat_lt, None, Some, map, reverse, IfOk, IfErr, OnOk};
     ghost use Rattle.icu_tailoring.specs.Rules.{at_position, at_string, characters_of, lone_relation, place_of_anchor, relation, reset, rules_of, setting_rules, starred_rules, statement_rules};
     ghost use Rattle.icu_tailoring.specs.Steps.{before_level, before_step, case_step, first_state, mapping_step, place_elements, strength_step, suppression_step, tailoring_of};
     ghost use Rattle.icu_weight_tree.specs.RuleStates.{with_elements};
     ghost use Rattle.icu_weight_tree.specs.TreeBuilders.{tree_of};
     ghost use Rattle.icu_symbolic_mappings.specs.KeptMappings.{mappings_in};
+    ghost use Rattle.icu_symbolic_mappings.specs.TouchedCharacters.{HasTouched, TouchesByRule, TouchesByRules, TouchesMore};
+    ghost use Rattle.icu_tailoring.specs.RootLaws.{string_begins};
     ghost use Rattle.icu_tailoring.specs.TailoredRoots.{Root};
     ghost use Rattle.icu_tailoring.specs.TailoredMappings.{symbolic_elements};
     ghost use Rattle.unicode_normalization.specs.Forms.{nfd};
     ghost use Rattle.icu_rule_steps.specs.ReadRules.{IsError, IsReason, ReadsRule, ReadsRules, decomposed_step, maybe_before, rule_of_relation};
     ghost use Rattle.icu_rule_steps.specs.RuleFaults.{decomposed_fault, first_error, first_fault, maybe_before_fault, place_fault, rule_fault};
-    ghost use Rattle.icu_rule_steps.specs.SymbolicTailorings.{root_in, state_in};
+    ghost use Rattle.icu_rule_steps.specs.SymbolicTailorings.{kept_mappings, root_in, state_in};
 
     /// What no rules say: nothing but the root.
     pub(crate) fn new(alloc: Global, root: &'r R) -> Self
-        ensures { state_in R.mappings_of result
+        ensures state { state_in R.mappings_of result
             ≡ first_state (root_in R.root R.mappings_of root.now) }
+        ensures touched { HasTouched root.now [] (kept_mappings result) }
     {
         SymbolicTailoring {
             rule: RuleElements::new(alloc),
@@ -117,8 +120,9 @@ impl<'r, R: RootWeights + RootMappings> SymbolicTailoring<'r, R> {
 
     /// Takes elements, as those of the place of a reset.
     fn set_elements(&mut self, elements: Vec<SymbolicElement>)
-        ensures { state_in R.mappings_of self.new
+        ensures state { state_in R.mappings_of self.new
             ≡ with_elements (state_in R.mappings_of self.old) elements.items }
+        ensures kept { kept_mappings self.new ≡ kept_mappings self.old }
     {
         self.rule.set_elements(elements);
     }
@@ -134,6 +138,7 @@ impl<'r, R: RootWeights + RootMappings> SymbolicTailoring<'r, R> {
         ensures err { IfErr result (IsReason (maybe_before_fault
             (root_in R.root R.mappings_of root.now) before
             (state_in R.mappings_of self.old).elements)) }
+        ensures kept { kept_mappings self.new ≡ kept_mappings self.old }
     {
         let Some(strength) = before else {
             return Ok(());
@@ -153,6 +158,9 @@ impl<'r, R: RootWeights + RootMappings> SymbolicTailoring<'r, R> {
         ensures err { IfErr result (IsReason (rule_fault (root_in R.root R.mappings_of root.now)
             (state_in R.mappings_of self.old)
             (reset said.now.before (place_of_anchor said.now.anchor)))) }
+        ensures touched { OnOk result
+            (TouchesByRule (reset said.now.before (place_of_anchor said.now.anchor))
+            (kept_mappings self.old) (kept_mappings self.new)) }
     {
         let elements = self.anchor_elements(alloc, root, &said.anchor)?;
         self.set_elements(elements);
@@ -162,17 +170,19 @@ impl<'r, R: RootWeights + RootMappings> SymbolicTailoring<'r, R> {
 
     /// Makes a difference.
     fn differ(&mut self, strength: Strength) -> Result<(), AllocError>
-        ensures { OnOk result (state_in R.mappings_of self.new
+        ensures state { OnOk result (state_in R.mappings_of self.new
             ≡ strength_step strength (state_in R.mappings_of self.old)) }
+        ensures kept { kept_mappings self.new ≡ kept_mappings self.old }
     {
         self.rule.differ_by(strength)
     }
 
     /// Gives the elements the case of a decomposed string.
     fn take_case(&mut self, alloc: Global, root: &'r R, string: &[char]) -> Result<(), AllocError>
-        ensures { OnOk result (state_in R.mappings_of self.new
+        ensures state { OnOk result (state_in R.mappings_of self.new
             ≡ case_step (root_in R.root R.mappings_of root.now) string.now
             (state_in R.mappings_of self.old)) }
+        ensures kept { kept_mappings self.new ≡ kept_mappings self.old }
     {
         let in_root = Mappings::new(alloc, root);
         let string = Vec::from_slice(alloc, string)?;
@@ -191,10 +201,12 @@ impl<'r, R: RootWeights + RootMappings> SymbolicTailoring<'r, R> {
         string: &[char],
         extension: &[SymbolicElement],
     ) -> Result<(), AllocError>
-        ensures { OnOk result (state_in R.mappings_of self.new
+        ensures state { OnOk result (state_in R.mappings_of self.new
             ≡ mapping_step prefix.now string.now
             ((state_in R.mappings_of self.old).elements ++ extension.now)
             (state_in R.mappings_of self.old)) }
+        ensures touched { OnOk result (TouchesMore (λ c. string_begins c string.now) []
+            (kept_mappings self.old) (kept_mappings self.new)) }
     {
         let mut whole = Vec::from_slice(alloc, self.rule.elements())?;
         whole.extend_from_slice(extension)?;
@@ -219,6 +231,8 @@ impl<'r, R: RootWeights + RootMappings> SymbolicTailoring<'r, R> {
             (state_in R.mappings_of self.old) ≡ None) }
         ensures err { IfErr result (IsReason (decomposed_fault strength prefix.now string.now
             extension.items (state_in R.mappings_of self.old))) }
+        ensures touched { OnOk result (TouchesMore (λ c. string_begins c string.now) []
+            (kept_mappings self.old) (kept_mappings self.new)) }
     {
         if let Some(kind) = string_fault(prefix, string) {
             return Err(RuleStepError::Refused(kind));
@@ -252,6 +266,9 @@ impl<'r, R: RootWeights + RootMappings> SymbolicTailoring<'r, R> {
         ensures err { IfErr result (IsReason (rule_fault (root_in R.root R.mappings_of root.now)
             (state_in R.mappings_of self.old)
             (relation strength prefix.now string.now extension.now))) }
+        ensures touched { OnOk result
+            (TouchesByRule (relation strength prefix.now string.now extension.now)
+            (kept_mappings self.old) (kept_mappings self.new)) }
     {
         let prefix = decomposed(alloc, prefix)?;
         let string = decomposed(alloc, string)?;
@@ -279,6 +296,8 @@ impl<'r, R: RootWeights + RootMappings> SymbolicTailoring<'r, R> {
             (state_in R.mappings_of self.old) (state_in R.mappings_of self.new)) }
         ensures err { IfErr result (IsReason (rule_fault (root_in R.root R.mappings_of root.now)
             (state_in R.mappings_of self.old) (rule_of_relation said.now))) }
+        ensures touched { OnOk result (TouchesByRule (rule_of_relation said.now)
+            (kept_mappings self.old) (kept_mappings self.new)) }
     {
         self.relate(
             alloc,
@@ -304,6 +323,9 @@ impl<'r, R: RootWeights + RootMappings> SymbolicTailoring<'r, R> {
         ensures err { IfErr result (IsReason (first_fault (root_in R.root R.mappings_of root.now)
             (state_in R.mappings_of self.old)
             (map (lone_relation strength) (characters_of range)))) }
+        ensures touched { OnOk result
+            (TouchesByRules (map (lone_relation strength) (characters_of range))
+            (kept_mappings self.old) (kept_mappings self.new)) }
     {
         for code in u32::from(range.first)..u32::from(range.last) + 1 {
             if let Some(c) = scalar_of(code) {
@@ -325,6 +347,8 @@ impl<'r, R: RootWeights + RootMappings> SymbolicTailoring<'r, R> {
             (state_in R.mappings_of self.old) (state_in R.mappings_of self.new)) }
         ensures err { IfErr result (IsReason (first_fault (root_in R.root R.mappings_of root.now)
             (state_in R.mappings_of self.old) (starred_rules said.now))) }
+        ensures touched { OnOk result (TouchesByRules (starred_rules said.now)
+            (kept_mappings self.old) (kept_mappings self.new)) }
     {
         for range in &said.ranges {
             self.relate_range(alloc, root, said.strength, *range)?;
@@ -334,8 +358,10 @@ impl<'r, R: RootWeights + RootMappings> SymbolicTailoring<'r, R> {
 
     /// Characters of the ranges keep their mappings without a context alone.
     fn suppress(&mut self, ranges: &[CharacterRange]) -> Result<(), AllocError>
-        ensures { OnOk result (state_in R.mappings_of self.new
+        ensures state { OnOk result (state_in R.mappings_of self.new
             ≡ suppression_step ranges.now (state_in R.mappings_of self.old)) }
+        ensures touched { OnOk result (TouchesMore (λ _. false) ranges.now
+            (kept_mappings self.old) (kept_mappings self.new)) }
     {
         self.mappings.suppression_step(ranges)?;
         Ok(())
@@ -343,8 +369,10 @@ impl<'r, R: RootWeights + RootMappings> SymbolicTailoring<'r, R> {
 
     /// Reads a setting.
     fn read_setting(&mut self, said: &'r RuleSetting) -> Result<(), AllocError>
-        ensures { (root : Root) → OnOk result (ReadsRules root (setting_rules said.now)
+        ensures ok { (root : Root) → OnOk result (ReadsRules root (setting_rules said.now)
             (state_in R.mappings_of self.old) (state_in R.mappings_of self.new)) }
+        ensures touched { OnOk result (TouchesByRules (setting_rules said.now)
+            (kept_mappings self.old) (kept_mappings self.new)) }
     {
         match said {
             RuleSetting::SuppressContractions(ranges) => self.suppress(ranges.as_slice()),
@@ -371,6 +399,8 @@ impl<'r, R: RootWeights + RootMappings> SymbolicTailoring<'r, R> {
             (state_in R.mappings_of self.old) (state_in R.mappings_of self.new)) }
         ensures err { IfErr result (IsReason (first_fault (root_in R.root R.mappings_of root.now)
             (state_in R.mappings_of self.old) (statement_rules said.now))) }
+        ensures touched { OnOk result (TouchesByRules (statement_rules said.now)
+            (kept_mappings self.old) (kept_mappings self.new)) }
     {
         match said {
             Statement::Reset(reset) => self.read_reset(alloc, root, reset),
@@ -401,6 +431,8 @@ impl<'r, R: RootWeights + RootMappings> SymbolicTailoring<'r, R> {
         ensures err { IfErr result (
             let root = root_in R.root R.mappings_of root.now in
             IsError (first_error root (first_state root) rules.now.statements.items)) }
+        ensures touched { IfOk result (λ t.
+            HasTouched root.now (rules_of rules.now.statements.items) (kept_mappings t)) }
     {
         let mut tailoring = SymbolicTailoring::new(alloc, root);
         for placed in &rules.statements {

@@ -59,7 +59,7 @@ suppressed_more ranges more c ms =
 abbrev pub Own : Type 0
 Own = Vec (CharacterMapping SymbolicElement)
 
-same_key : (q k : ℕ) → is_at (nat_cmp q) k ≡ true → q ≡ k
+pub same_key : (q k : ℕ) → is_at (nat_cmp q) k ≡ true → q ≡ k
 same_key q k h = (Decides-eqb q k).0 (sym (unsigned_tied q k) ∙ h)
 
 -- what a suppression leaves of what a character has of its own
@@ -88,7 +88,7 @@ own_at : (b : Bool) (own : Own) (o : Option Own) (d : List SymbolicMapping) → 
 own_at true own o d = refl
 own_at false own o d = refl
 
-turned : (c q : ℕ) → (c == q) ≡ (q == c)
+pub turned : (c q : ℕ) → (c == q) ≡ (q == c)
 turned c q = grind (arith, nat_tests)
 
 -- what a character has of its own, where that was taken out and put in again

@@ -3,5 +3,6 @@ pub mod SuffixLemmas
 pub mod JoinLemmas
 pub mod AlongLemmas
 pub mod KeptMappingLemmas
+pub mod TouchedLemmas
 pub mod ReadLemmas
 pub mod StringCaseLemmas

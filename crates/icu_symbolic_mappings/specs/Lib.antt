@@ -1,3 +1,4 @@
 pub mod StoredMappings
 pub mod KeptMappings
+pub mod TouchedCharacters
 pub mod inner

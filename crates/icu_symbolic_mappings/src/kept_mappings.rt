@@ -1,6 +1,6 @@
 //! The mappings of characters as they are while rules are read.
 
-ghost use Rattle.std.specs.Prelude.{◌≡◌, All, IfOk, IfSome, OnOk, filter, true};
+ghost use Rattle.std.specs.Prelude.{◌≡◌, ◌==◌, ◌||◌, ◌++◌, ℕ, [], All, IfOk, IfSome, OnOk, filter, true, false};
 ghost use Rattle.icu_tailoring.specs.Rules.{have_character};
 ghost use Rattle.icu_tailoring.specs.Steps.{mapping_step, suppression_step};
 ghost use Rattle.icu_tailoring.specs.TailoredMappings.{has_no_context, is_mapping_of, with_mapping};
@@ -10,7 +10,7 @@ ghost use Rattle.icu_symbolic_mappings.specs.inner.ReadByMappings.{ReadsCharacte
 
 use crate::character_mapping::{CharacterMapping, SymbolicMapping, TouchedCharacter};
 use crate::reading::read_character;
-use crate::roots::{RootMappings, mappings_of_root};
+use crate::roots::{RootMappings, have_context, mappings_of_root};
 use icu_matches::Text;
 use icu_rules::CharacterRange;
 use icu_tailoring::SymbolicElement;
@@ -97,13 +97,17 @@ fn new_mapping(
 impl<'r, R: RootMappings> Mappings<'r, R> {
     ghost use Rattle.icu_tailoring.specs.TailoredMappings.{root_mappings, symbolic_elements, with_mappings};
     ghost use Rattle.icu_tailoring.specs.TailoredRoots.{Root};
+    ghost use Rattle.std.specs.Option.{is_some};
+    ghost use Rattle.icu_tailoring.specs.RootLaws.{string_begins};
     ghost use Rattle.icu_symbolic_mappings.specs.KeptMappings.{MakesMappings, mappings_in, untouched_mappings};
+    ghost use Rattle.icu_symbolic_mappings.specs.TouchedCharacters.{HasTouched, TouchesMore, has_root_context, have_touched, suppressed_in, touched_in};
 
     /// The mappings of a root.
-    #[tactic(auto, unfolding(crate::specs::KeptMappings::mappings_in))]
+    #[tactic(auto, unfolding(crate::specs::KeptMappings::mappings_in, crate::specs::TouchedCharacters::touched_in))]
     pub fn new(alloc: Global, root: &'r R) -> Self
-        ensures { (r : Root) → r.mappings ≡ R.mappings_of root.now
+        ensures mappings { (r : Root) → r.mappings ≡ R.mappings_of root.now
             → mappings_in R.mappings_of result ≡ root_mappings r }
+        ensures touched { HasTouched root.now [] result }
     {
         Mappings {
             root,
@@ -113,8 +117,11 @@ impl<'r, R: RootMappings> Mappings<'r, R> {
     }
 
     /// A character with its mappings, if a relation touched it.
+    #[tactic(auto, unfolding(crate::specs::TouchedCharacters::touched_in))]
     fn touched_character(&self, c: char) -> Option<TouchedCharacter<'_>>
-        ensures { IfSome result (λ t. mappings_in R.mappings_of self.now t.character
+        ensures found { is_some result ≡ touched_in self.now c }
+        ensures character { IfSome result (λ t. t.character ≡ c) }
+        ensures mappings { IfSome result (λ t. mappings_in R.mappings_of self.now t.character
             ≡ symbolic_mappings t.mappings.now) }
     {
         match self.touched.get(&c) {
@@ -128,8 +135,11 @@ impl<'r, R: RootMappings> Mappings<'r, R> {
 
     /// The characters that relations touched, ascending, each with its mappings.
     pub fn touched_characters(&self, alloc: Global) -> Result<Vec<TouchedCharacter<'_>>, AllocError>
-        ensures { IfOk result (λ found. All (λ t. mappings_in R.mappings_of self.now t.character
+        ensures mappings { IfOk result (λ found. All (λ t.
+            mappings_in R.mappings_of self.now t.character
             ≡ symbolic_mappings t.mappings.now) found.items) }
+        ensures all { IfOk result (λ found.
+            (c : ℕ) → touched_in self.now c ≡ have_touched found.items c) }
     {
         let mut found = Vec::new(alloc);
         for c in self.touched.keys() {
@@ -141,13 +151,26 @@ impl<'r, R: RootMappings> Mappings<'r, R> {
     }
 
     /// Whether a relation touched the character.
-    pub fn is_touched(&self, c: char) -> bool {
+    #[tactic(auto, unfolding(crate::specs::TouchedCharacters::touched_in))]
+    pub fn is_touched(&self, c: char) -> bool
+        ensures { result ≡ touched_in self.now c }
+    {
         self.touched.contains_key(&c)
     }
 
     /// The ranges of characters that were to keep their mappings without a context alone.
-    pub fn suppressed(&self) -> &[CharacterRange] {
+    pub fn suppressed(&self) -> &[CharacterRange]
+        ensures { result.now ≡ suppressed_in self.now }
+    {
         self.suppressed.as_slice()
+    }
+
+    /// Whether the root has mappings of the character that depend on what stands around it.
+    pub fn has_root_context(&self, alloc: Global, c: char) -> Result<bool, AllocError>
+        ensures { IfOk result (λ b. b ≡ has_root_context R.mappings_of self.now c) }
+    {
+        let mappings = self.root.mappings(alloc, c)?;
+        Ok(have_context(mappings.as_slice()))
     }
 
     /// The mappings of a character that no relation touched: those of the root, without those that have a context where
@@ -165,9 +188,11 @@ impl<'r, R: RootMappings> Mappings<'r, R> {
 
     /// Puts a mapping of a character in the place of that of its prefix and suffix.
     fn put(&mut self, alloc: Global, c: char, new: SymbolicMapping) -> Result<(), AllocError>
-        ensures { OnOk result (mappings_in R.mappings_of self.new
+        ensures mappings { OnOk result (mappings_in R.mappings_of self.new
             ≡ with_mappings (mappings_in R.mappings_of self.old) c
             (with_mapping (symbolic_mapping new) (mappings_in R.mappings_of self.old c))) }
+        ensures touched { OnOk result
+            (TouchesMore (λ other. other == c) [] self.old self.new) }
     {
         let mut own = match self.touched.remove(&c) {
             Some(own) => own,
@@ -187,8 +212,11 @@ impl<'r, R: RootMappings> Mappings<'r, R> {
         string: &[char],
         elements: Vec<SymbolicElement>,
     ) -> Result<(), AllocError>
-        ensures { OnOk result (MakesMappings (mapping_step prefix.now string.now elements.items)
+        ensures mappings { OnOk result (MakesMappings
+            (mapping_step prefix.now string.now elements.items)
             (mappings_in R.mappings_of self.old) (mappings_in R.mappings_of self.new)) }
+        ensures touched { OnOk result
+            (TouchesMore (λ c. string_begins c string.now) [] self.old self.new) }
     {
         match string.split_first() {
             Some((first, suffix)) => {
@@ -202,8 +230,9 @@ impl<'r, R: RootMappings> Mappings<'r, R> {
     /// Characters of the ranges keep their mappings without a context alone. If an allocation fails, nothing is said of
     /// the mappings.
     pub fn suppression_step(&mut self, ranges: &[CharacterRange]) -> Result<(), AllocError>
-        ensures { OnOk result (MakesMappings (suppression_step ranges.now)
+        ensures mappings { OnOk result (MakesMappings (suppression_step ranges.now)
             (mappings_in R.mappings_of self.old) (mappings_in R.mappings_of self.new)) }
+        ensures touched { OnOk result (TouchesMore (λ _. false) ranges.now self.old self.new) }
     {
         self.suppressed.extend_from_slice(ranges)?;
         self.touched.retain(|c, own| suppress(ranges, *c, own));

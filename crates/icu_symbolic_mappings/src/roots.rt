@@ -1,9 +1,10 @@
 //! The root's mappings of characters.
 
-ghost use Rattle.std.specs.Prelude.{◌≡◌, ◌∷◌, [], ℕ, List, IfOk, map};
+ghost use Rattle.std.specs.Prelude.{◌≡◌, ◌∷◌, [], ℕ, List, IfOk, map, not};
 ghost use Rattle.icu_tailoring.specs.SymbolicElements.{first_level, of_root};
-ghost use Rattle.icu_tailoring.specs.TailoredMappings.{mapping_of_root};
+ghost use Rattle.icu_tailoring.specs.TailoredMappings.{has_no_context, mapping_of_root};
 ghost use Rattle.icu_tailoring.specs.TailoredRoots.{RootMapping};
+ghost use Rattle.icu_symbolic_mappings.specs.TouchedCharacters.{have_context};
 ghost use Rattle.icu_symbolic_mappings.specs.StoredMappings.{root_mapping, symbolic_mapping, symbolic_mappings};
 
 use crate::character_mapping::{CharacterMapping, SymbolicMapping};
@@ -23,6 +24,25 @@ pub trait RootMappings {
         c: char,
     ) -> Result<Vec<CharacterMapping<CollationElement>>, AllocError>
         ensures { IfOk result (λ found. map root_mapping found.items ≡ mappings_of self.now c) };
+}
+
+/// Whether the mapping depends on what stands around its character.
+fn has_context(mapping: &CharacterMapping<CollationElement>) -> bool
+    ensures { result ≡ not (has_no_context (mapping_of_root (root_mapping mapping.now))) }
+{
+    !mapping.prefix.is_empty() || !mapping.suffix.is_empty()
+}
+
+/// Whether one of the mappings depends on what stands around the character.
+pub(crate) fn have_context(mappings: &[CharacterMapping<CollationElement>]) -> bool
+    ensures { result ≡ have_context (map root_mapping mappings.now) }
+{
+    for mapping in mappings {
+        if has_context(mapping) {
+            return true;
+        }
+    }
+    false
 }
 
 /// The first level at which one of the weights isn't 0; 5 where there is none.

@@ -1,9 +1,17 @@
 use Rattle.std.proofs.Common.{drop}
-use Rattle.icu_rule_steps.specs.SymbolicTailorings.{root_in, state_in}
+use Rattle.icu_rule_steps.specs.SymbolicTailorings.{kept_mappings, root_in, state_in}
+use Rattle.icu_tailoring.specs.Rules.{rules_of}
+use Rattle.icu_symbolic_mappings.specs.TouchedCharacters.{is_related, suppressed_by}
 use Rattle.icu_rule_steps.proofs.RuleLoopLemmas.{IsPlacedTo}
+use Rattle.icu_rule_steps.proofs.TouchedRuleLemmas.{IsTouchedTo}
 use Rattle.icu_rule_steps.proofs.symbolic_tailoring.SymbolicTailoring.of_rules.Given as goal
 
 abbrev pub invariant-loop-placed : goal.invariant-loop-placed
-invariant-loop-placed g l =
+invariant-loop-placed g l = record {
+  read :
     IsPlacedTo (root_in g.R.RootWeights.root g.R.RootMappings.mappings_of l.root) l.placed-items
-    (state_in g.R.RootMappings.mappings_of l.tailoring) (drop l.placed-index l.placed-items)
+    (state_in g.R.RootMappings.mappings_of l.tailoring) (drop l.placed-index l.placed-items);
+  touched :
+    IsTouchedTo (is_related (rules_of l.placed-items)) (suppressed_by (rules_of l.placed-items)) l.root (kept_mappings l.tailoring)
+    (rules_of (drop l.placed-index l.placed-items));
+}

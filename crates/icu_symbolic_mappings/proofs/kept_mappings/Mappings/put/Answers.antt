@@ -1,17 +1,21 @@
-use Rattle.std.proofs.Common.{◌≡◌, ◌==◌, ℕ, List, Option, Some, None, cond, if◌then◌else◌, rules, sym, ap, ◌∙◌}
+use Rattle.std.proofs.Common.{◌≡◌, ◌==◌, ℕ, List, Option, Some, None, cond, if◌then◌else◌, rules, refl, sym, ap, ◌∙◌}
 use mathlib.Core.Path.{fun_ext}
+use Rattle.std.specs.Option.{is_some}
 use Rattle.std.specs.Ordering.{nat_cmp}
+use Rattle.std.proofs.lemmas.List.{append-nil}
 use Rattle.std.specs.BTreeMap.{get, is_at}
 use Rattle.icu_tailoring.specs.TailoredMappings.{SymbolicMapping, with_mapping}
 use Rattle.icu_symbolic_mappings.specs.StoredMappings.{symbolic_mapping, symbolic_mappings}
 use Rattle.icu_symbolic_mappings.specs.KeptMappings.{mappings_in, own_or, untouched_mappings}
+use Rattle.icu_symbolic_mappings.specs.TouchedCharacters.{touched_in}
 use Rattle.icu_symbolic_mappings.proofs.KeptMappingLemmas.{Own, put_at, own_there, own_absent}
+use Rattle.icu_symbolic_mappings.proofs.TouchedLemmas.{touched_put}
 use Rattle.icu_symbolic_mappings.proofs.kept_mappings.Mappings.put.Goals as goal
 use Rattle.icu_symbolic_mappings.proofs.kept_mappings.Mappings.put.Goals.{in-Some, in-None+in_ok-own-in-None}
 
-pub returns : goal.returns
+pub returns-clause-mappings : goal.returns-clause-mappings
 unfolding mappings_in
-returns g c =
+returns-clause-mappings g c =
     let held = c.args.self.now in
     let root = g.R.RootMappings.mappings_of in
     let was : symbolic_mappings c.match-remove.own.items ≡ mappings_in root held c.args.c = elim c.match-remove.branch [
@@ -34,3 +38,15 @@ returns g c =
     ap (λ o. own_or o d) (now_at ∙ ap (λ o. cond (is_at (nat_cmp c.args.c) q) (Some own) o) gone_at)
     ∙ put_at c.args.c q own before d
     ∙ ap (λ (ms : List SymbolicMapping). if q == c.args.c then ms else own_or before d) stored)
+
+pub returns-clause-touched : goal.returns-clause-touched
+unfolding touched_in
+returns-clause-touched g c = record {
+  touched = λ q.
+      let now_at : get nat_cmp c.insert.new.self q ≡ cond (is_at (nat_cmp c.args.c) q) (Some c.put_mapping.new.mappings) (get nat_cmp c.remove.new.self q) = c.in_ok-insert.ensures.updates.0 q in
+      let gone_at : get nat_cmp c.remove.new.self q ≡ cond (is_at (nat_cmp c.args.c) q) None (get nat_cmp c.args.self.now.touched q) = c.remove.ensures.updates.0 q in
+      ap is_some (now_at ∙ ap (λ o. cond (is_at (nat_cmp c.args.c) q) (Some c.put_mapping.new.mappings) o) gone_at)
+      ∙ touched_put c.args.c q c.put_mapping.new.mappings (get nat_cmp c.args.self.now.touched q);
+  suppressed = sym (append-nil c.args.self.now.suppressed.items);
+  over = refl;
+}

@@ -1,6 +1,7 @@
-use Rattle.std.proofs.Common.{◌≡◌, ◌++◌, ℕ, List, rules, sym, ap, ◌∙◌}
+use Rattle.std.proofs.Common.{◌≡◌, ◌++◌, ℕ, List, rules, refl, sym, ap, ◌∙◌}
 use mathlib.Core.Path.{fun_ext}
 use Rattle.std.specs.Prelude.{map}
+use Rattle.std.specs.Option.{is_some}
 use Rattle.std.specs.Ordering.{nat_cmp}
 use Rattle.std.specs.BTreeMap.{get}
 use Rattle.icu_rules.specs.declared.statement.CharacterRange.{CharacterRange}
@@ -8,12 +9,14 @@ use Rattle.icu_tailoring.specs.Steps.{suppression_step}
 use Rattle.icu_tailoring.specs.TailoredMappings.{SymbolicMapping, SymbolicMappings, mapping_of_root}
 use Rattle.icu_symbolic_mappings.specs.StoredMappings.{suppressed_at}
 use Rattle.icu_symbolic_mappings.specs.KeptMappings.{mappings_in, own_or, untouched_mappings}
+use Rattle.icu_symbolic_mappings.specs.TouchedCharacters.{touched_in}
 use Rattle.icu_symbolic_mappings.proofs.KeptMappingLemmas.{retained_at, suppressed_more}
+use Rattle.icu_symbolic_mappings.proofs.TouchedLemmas.{or_false, retained_touched}
 use Rattle.icu_symbolic_mappings.proofs.kept_mappings.Mappings.suppression_step.Goals as goal
 
-pub returns : goal.returns
+pub returns-clause-mappings : goal.returns-clause-mappings
 unfolding mappings_in suppression_step
-returns g c = λ state same.
+returns-clause-mappings g c = λ state same.
     let held = c.args.self.now in
     let root = g.R.RootMappings.mappings_of in
     let ranges : List CharacterRange = c.args.ranges.now in
@@ -23,3 +26,13 @@ returns g c = λ state same.
     sym (retained_at _ _ ranges (λ k v b w h t. search rules) held.touched.entries c.retain.new.self.entries c.retain.ensures.filtered q (untouched_mappings root held q))
     ∙ ap (own_or (get nat_cmp c.retain.new.self q)) (suppressed_more held.suppressed.items ranges q all ∙ ap (λ rs. suppressed_at rs q all) (sym more)) in
     ap (λ (ms : SymbolicMappings). λ (q : ℕ). suppressed_at ranges q (ms q)) same ∙ fun_ext each
+
+pub returns-clause-touched : goal.returns-clause-touched
+unfolding touched_in
+returns-clause-touched g c = record {
+  touched = λ q.
+      retained_touched _ _ c.args.ranges.now (λ k v b w h t. search rules) c.args.self.now.touched.entries c.retain.new.self.entries c.retain.ensures.filtered q
+      ∙ sym (or_false (is_some (get nat_cmp c.args.self.now.touched q)));
+  suppressed = c.in_ok-extend_from_slice.ensures.items;
+  over = refl;
+}

@@ -6,8 +6,8 @@ use Rattle.icu_symbolic_mappings.specs.StoredMappings.{symbolic_mappings}
 use Rattle.icu_symbolic_mappings.proofs.KeptMappingLemmas.{own_there}
 use Rattle.icu_symbolic_mappings.proofs.kept_mappings.Mappings.touched_character.Goals as goal
 
-pub returns-in-Some : goal.returns-in-Some
-returns-in-Some g c =
+pub returns-in-Some-clause-mappings : goal.returns-in-Some-clause-mappings
+returns-in-Some-clause-mappings g c =
     let held = c.args.self.now in
     let root = g.R.RootMappings.mappings_of in
     let there : get nat_cmp held.touched c.args.c ≡ Some c.in-Some.own.now = search rules in

@@ -1,0 +1,216 @@
+#!/usr/bin/env python3
+"""Makes random small lists of rules, and compares the order of texts by them with that of ICU4C, over the root of CLDR.
+
+    tests/random_rules.py [--sets N] [--seed N] [--root FILE] [--folder FOLDER]
+
+It is no part of the gate. It wants g++, libicu-dev and pkg-config. The library is built as it stands, with no proof, in a copy of the
+crates; both programs print sort keys (tests/rule_keys), whose order and level of difference are compared for all pairs of the texts
+of a set. ICU4C is asked for keys, since the order of its comparisons isn't always theirs. It prints how many sets were compared, how
+many were refused by both, by ICU4C alone, and by the library alone with the reasons, and each pair that is ordered otherwise. Status
+1: some are, or ICU4C alone refuses some.
+"""
+import argparse
+import collections
+import itertools
+import os
+import random
+import shutil
+import subprocess
+import sys
+
+HERE = os.path.dirname(os.path.realpath(__file__))
+TOP = os.path.dirname(HERE)
+NAME = "rule_keys"
+ROOT = "/usr/share/unicode/cldr/common/uca/FractionalUCA.txt"
+LETTERS = "aAbBcdeEfæÆßäáàǎåéœhzʒαβиѝй"
+MARKS = "\u0300\u0301\u0308\u030a\u0323"
+OTHERS = "12-_+ あア一"
+POSITIONS = (
+    "first tertiary ignorable", "last tertiary ignorable", "first secondary ignorable", "last secondary ignorable",
+    "first primary ignorable", "last primary ignorable", "first variable", "last variable", "first regular", "last regular",
+    "first implicit", "top", "variable top",
+)
+SETTINGS = (
+    "alternate shifted", "alternate non-ignorable", "maxVariable space", "maxVariable punct", "maxVariable symbol", "maxVariable currency",
+    "caseFirst upper", "caseFirst lower", "caseFirst off", "backwards 2", "suppressContractions [и]", "suppressContractions [a-c и]",
+    "optimize [a]", "hiraganaQ off",
+)
+RELATIONS = ("<", "<<", "<<<", "<<<<", "=")
+CHANCES = (8, 6, 6, 1, 1)
+TEXTS = 12
+
+
+def quoted(text):
+    """The text as rules have it: what isn't a letter or a digit of ASCII is quoted."""
+    return "".join(f"'{c}'" if ord(c) < 0x80 and not c.isalnum() else c for c in text)
+
+
+class Maker:
+    """Makes lists of rules, and texts that they order."""
+
+    def __init__(self, seed):
+        self.random = random.Random(seed)
+        self.strings = []
+
+    def character(self):
+        kind = self.random.random()
+        return self.random.choice(LETTERS if kind < 0.85 else MARKS if kind < 0.92 else OTHERS)
+
+    def string(self, most=3):
+        """A new string, or one that the list had before."""
+        if self.strings and self.random.random() < 0.4:
+            return self.random.choice(self.strings)
+        length = self.random.choice([1] * 6 + [2] * 3 + [most])
+        text = "".join(self.character() for _ in range(length))
+        self.strings.append(text)
+        return text
+
+    def reset(self):
+        before = self.random.choice([0] * 5 + [1, 2, 3])
+        where = f"[before {before}]" if before else ""
+        if self.random.random() < 0.12:
+            return f"&{where}[{self.random.choice(POSITIONS)}]", before
+        return f"&{where}{quoted(self.string())}", before
+
+    def starred(self):
+        first = self.random.choice("abcdefα")
+        return f"{first}-{chr(ord(first) + self.random.randint(1, 3))}" + self.random.choice(["", "z", "x"])
+
+    def relation(self, strength):
+        if self.random.random() < 0.06 and strength != "<<<<":
+            return f"{strength}*{self.starred()}"
+        text = quoted(self.string())
+        if self.random.random() < 0.12:
+            text = f"{quoted(self.string(2))}|{text}"
+        if self.random.random() < 0.12:
+            text += f"/{quoted(self.string())}"
+        return strength + text
+
+    def statement(self):
+        if self.random.random() < 0.1:
+            return f"[{self.random.choice(SETTINGS)}]"
+        parts = []
+        text, before = self.reset()
+        for at in range(self.random.choice([1, 1, 1, 2, 2, 3, 4])):
+            strength = self.random.choices(RELATIONS, CHANCES)[0]
+            if before and at == 0:
+                strength = RELATIONS[before - 1]
+            parts.append(self.relation(strength))
+        return text + "".join(parts)
+
+    def line(self):
+        """A list of rules, and texts of its strings and of some other characters."""
+        self.strings = []
+        rules = "".join(self.statement() for _ in range(self.random.randint(1, 5)))
+        return "\t".join([rules, *(self.text() for _ in range(TEXTS))])
+
+    def text(self):
+        parts = (self.random.choice(self.strings) if self.strings and self.random.random() < 0.6 else self.character()
+                 for _ in range(self.random.randint(1, 3)))
+        return "".join(parts)
+
+
+def difference(first, second):
+    """The level at which two keys differ first, with a sign, or 0."""
+    levels = itertools.zip_longest(bytes.fromhex(first).split(b"\1"), bytes.fromhex(second).split(b"\1"), fillvalue=b"")
+    for number, (one, other) in enumerate(levels, 1):
+        if one != other:
+            return number if one > other else -number
+    return 0
+
+
+def unlike_pairs(texts, ours, peers):
+    """The pairs of texts that are ordered otherwise, or at another level."""
+    for i, j in itertools.combinations(range(len(texts)), 2):
+        here, there = difference(ours[i], ours[j]), difference(peers[i], peers[j])
+        if here != there:
+            yield texts[i], texts[j], here, there
+
+
+def copied(folder):
+    """A copy of the crates with the program of keys among them."""
+    for name in sorted(os.listdir(os.path.join(TOP, "crates"))):
+        for part in ("src", "specs", "proofs"):
+            source, target = (os.path.join(it, "crates", name, part) for it in (TOP, folder))
+            shutil.rmtree(target, ignore_errors=True)
+            if os.path.isdir(source):
+                shutil.copytree(source, target)
+    with open(os.path.join(TOP, "crates.txt"), encoding="utf-8") as it:
+        listed = it.read()
+    libraries = next(line.partition(":")[2] for line in listed.splitlines() if line.startswith("test_tailorings:"))
+    with open(os.path.join(folder, "crates.txt"), "w", encoding="utf-8") as it:
+        it.write(f"{listed}\n{NAME}: anyhow icu_cldr icu_keys {libraries}\n")
+    shutil.copy(os.path.join(TOP, "HANDLES"), folder)
+    crate = os.path.join(folder, "crates", NAME)
+    for part in ("src", "specs", "proofs"):
+        os.makedirs(os.path.join(crate, part), exist_ok=True)
+    for part in ("specs", "proofs"):
+        with open(os.path.join(crate, part, "Lib.antt"), "w", encoding="utf-8"):
+            pass
+    shutil.copy(os.path.join(HERE, NAME, "main.rt.txt"), os.path.join(crate, "src", "main.rt"))
+    return crate
+
+
+def keys_here(crate, root, lines, seconds):
+    """What the library prints, unproved."""
+    asked = os.path.join(crate, "asked.txt")
+    with open(asked, "w", encoding="utf-8") as it:
+        it.writelines(f"{line}\n" for line in lines)
+    words = ["rt", "try", "--seconds", str(seconds), "--data", f"FractionalUCA.txt={root}", "--data", f"rules.txt={asked}"]
+    done = subprocess.run(words, cwd=crate, capture_output=True, text=True, check=False)
+    answers = [line for line in done.stdout.split("\n") if line.startswith(("ok", "refused", "no collator"))]
+    if len(answers) != len(lines):
+        sys.exit(f"random_rules: {len(answers)} answers to {len(lines)} lists\n{done.stdout[-2000:]}{done.stderr[-2000:]}")
+    return answers
+
+
+def keys_there(folder, lines):
+    """What ICU4C prints."""
+    program = os.path.join(folder, "icu_rule_keys")
+    flags = subprocess.run(["pkg-config", "--cflags", "--libs", "icu-i18n", "icu-uc"], capture_output=True, text=True, check=True)
+    source = os.path.join(HERE, NAME, "icu_rule_keys.cpp")
+    subprocess.run(["g++", "-O1", "-o", program, source, *flags.stdout.split()], check=True)
+    done = subprocess.run([program], input="".join(f"{line}\n" for line in lines), capture_output=True, text=True, check=True)
+    return done.stdout.splitlines()
+
+
+def compare(lines, ours, peers):
+    """Prints what differs. Returns whether nothing does that should not."""
+    counts, reasons, unlike = collections.Counter(), collections.Counter(), 0
+    for line, here, there in zip(lines, ours, peers):
+        rules, *texts = line.split("\t")
+        accepted = here.startswith("ok"), there.startswith("ok")
+        counts[accepted] += 1
+        if accepted == (False, True):
+            reasons[here] += 1
+            print(f"refused here alone: {rules}: {here}")
+        if accepted == (True, False):
+            print(f"refused by ICU4C alone: {rules}: {there}")
+        if accepted != (True, True):
+            continue
+        for first, second, level, other in unlike_pairs(texts, here.split("\t")[1:], there.split("\t")[1:]):
+            unlike += 1
+            print(f"unlike: {rules}: {first!r} {second!r}: {level}, by ICU4C {other}")
+    print(f"{counts[True, True]} sets compared, {counts[True, True] * TEXTS * (TEXTS - 1) // 2} pairs, {unlike} unlike; refused by both "
+          f"{counts[False, False]}, here alone {counts[False, True]}, by ICU4C alone {counts[True, False]}")
+    return unlike == 0 and counts[True, False] == 0
+
+
+def main():
+    words = argparse.ArgumentParser()
+    words.add_argument("--sets", type=int, default=1000)
+    words.add_argument("--seed", type=int, default=1)
+    words.add_argument("--root", default=ROOT)
+    words.add_argument("--folder", default="/tmp/random-rules")
+    words.add_argument("--seconds", type=int, default=3600)
+    chosen = words.parse_args()
+    os.makedirs(chosen.folder, exist_ok=True)
+    maker = Maker(chosen.seed)
+    lines = [maker.line() for _ in range(chosen.sets)]
+    peers = keys_there(chosen.folder, lines)
+    ours = keys_here(copied(chosen.folder), chosen.root, lines, chosen.seconds)
+    sys.exit(0 if compare(lines, ours, peers) else 1)
+
+
+if __name__ == "__main__":
+    main()
