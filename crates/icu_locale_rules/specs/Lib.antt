@@ -1,0 +1,3 @@
+pub mod CollationNames
+pub mod LocaleRules
+pub mod TagRules
