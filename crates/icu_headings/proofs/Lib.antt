@@ -1,2 +1,3 @@
 pub mod StartKeyLemmas
 pub mod HeadingRuns
+pub mod HeadingBounds

@@ -4,12 +4,19 @@ use Rattle.std.specs.List.Sorted.{IsSorted}
 use Rattle.icu_checks.specs.WellFormedTables.{IsWellFormedTables}
 use Rattle.icu_encodings.specs.DecodedTexts.{utf8_text}
 use Rattle.icu_text_order.specs.Collations.{Collation}
-use Rattle.icu_text_order.specs.TextOrder.{text_order}
+use Rattle.icu_text_order.specs.TextOrder.{text_key, text_order}
+use Rattle.icu_keyed_starts.specs.Starts.{stands_within}
+use Rattle.icu_keyed_starts.specs.declared.starts.KeyBounds.{KeyBounds}
 use Rattle.icu_headings.specs.HeadingLists.{NamedStart, heading_number}
 
 -- the names under the heading of a number
 abbrev pub names_under : Collation → List NamedStart → ℕ → List (List ℕ) → List (List ℕ)
 names_under c starts n names = filter (λ x. nat_eq (heading_number c starts x) n) names
+
+-- the names under the heading of a number are those whose keys stand between these bounds
+abbrev pub KeysStandUnder : Collation → List NamedStart → ℕ → KeyBounds → Type 0
+KeysStandUnder c starts n bounds =
+    (name : List ℕ) → stands_within bounds (text_key c (utf8_text name)) ≡ nat_eq (heading_number c starts name) n
 
 -- the names under each heading up to a number, one heading after another
 abbrev pub names_up_to : Collation → List NamedStart → ℕ → List (List ℕ) → List (List ℕ)

@@ -3,6 +3,7 @@
 ghost use Rattle.std.specs.Prelude.{◌≡◌, ◌+◌, [], fold, length, map, IfOk, OnErr, OnOk};
 ghost use Rattle.std.proofs.Props.{props};
 ghost use Rattle.icu_collator.specs.Collators.{collation_borrowed, collation_kept};
+ghost use Rattle.icu_headings.specs.HeadingLaws.{KeysStandUnder};
 ghost use Rattle.icu_headings.specs.HeadingLists.{heading_at, heading_is, heading_number, heading_of, start_placed, start_given, starts_kept};
 ghost use Rattle.icu_headings.specs.inner.StartKeys.{AreStartKeys, bound_of};
 ghost use Rattle.icu_keyed_starts.specs.Starts.{starts_in};
@@ -10,7 +11,7 @@ ghost use Rattle.icu_keyed_starts.specs.Starts.{starts_in};
 use crate::heading::{Heading, HeadingStart};
 use icu_collator::{Collator, CollatorBorrowed};
 use icu_key_bounds::lower_bound_key;
-use icu_keyed_starts::{KeyedStarts, Start};
+use icu_keyed_starts::{KeyBounds, KeyedStarts, Start};
 use std::alloc::{AllocError, Global};
 
 /// What a start begins with, and whether that is its label.
@@ -109,6 +110,18 @@ impl<'c> Headings<'c> {
         self.collator.has_well_formed_tables();
         let key = lower_bound_key(self.alloc, &self.collator, name)?;
         Ok(self.starts.up_to(key.as_slice()))
+    }
+
+    /// Between which keys the names under the heading of a number stand: exactly those names whose sort keys, as the
+    /// collator makes them at its strength, are not less than the lower bound, and less than the upper one. So the
+    /// names under a heading are one range of an index, or of a database that keeps keys. Behind the last number there
+    /// are none.
+    pub fn key_bounds(&self, number: usize) -> KeyBounds<'_>
+        ensures { KeysStandUnder
+            (headings_collation self.now) (heading_starts self.now) number result }
+    {
+        self.collator.has_well_formed_tables();
+        self.starts.bounds(number)
     }
 
     /// The heading of a number. Behind the last one it is `Overflow`.

@@ -8,3 +8,4 @@ pub mod laws;
 
 pub use heading::{Heading, HeadingStart};
 pub use headings::Headings;
+pub use icu_keyed_starts::KeyBounds;

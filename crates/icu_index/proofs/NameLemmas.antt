@@ -1,5 +1,5 @@
 -- The order of names is that of their keys.
-use Rattle.std.proofs.Common.{◌≡◌, ℕ, ◌&&◌, Bool, true, false, not, List, [], ◌∷◌, Result, Ok, Err, OnOk, OnErr, if◌then◌else◌, refl, sym, ap, ◌∙◌, subst}
+use Rattle.std.proofs.Common.{◌≡◌, ℕ, nat_eq, ◌&&◌, Bool, true, false, not, List, [], ◌∷◌, Some, None, Result, Ok, Err, OnOk, OnErr, if◌then◌else◌, refl, sym, ap, ◌∙◌, subst}
 use Rattle.std.specs.Ordering.{is_eq, is_gt, is_le, is_lt}
 use Rattle.std.specs.declared.cmp.Ordering.{Ordering}
 use Rattle.std.specs.declared.cmp.Ordering.TheVariants.{Less, Equal, Greater}
@@ -11,13 +11,17 @@ use Rattle.icu_encodings.specs.DecodedTexts.{utf8_text}
 use Rattle.icu_levels.specs.ListOrder.{list_order}
 use Rattle.icu_text_order.proofs.TextOrders.{keys_keep}
 use Rattle.icu_beginnings.specs.KeyBeginnings.{begins}
-use Rattle.icu_keyed_names.specs.KeyedLists.{Keyed, beginning_with, between, names_in, placed}
+use Rattle.icu_keyed_names.specs.KeyedLists.{Keyed, beginning_with, behind_border, between, names_in, placed}
 use Rattle.icu_keyed_names.specs.declared.borders.Border.TheVariants.{Before, Behind}
 use Rattle.icu_index.specs.Listings.{name_begins, name_order, inserted, equal_names, names_beginning, names_between}
 use Rattle.icu_text_beginnings.specs.TextBeginnings.{lower_bound}
 use Rattle.icu_text_beginnings.proofs.TextBeginningLemmas.{key_begins}
 use Rattle.icu_text_order.specs.Collations.{Collation}
-use Rattle.icu_index.specs.inner.NameKeys.{AreKeyed, key_of}
+use Rattle.icu_index.specs.inner.NameKeys.{AreKeyed, key_of, keyed_within}
+use Rattle.icu_headings.specs.HeadingLaws.{KeysStandUnder, names_under}
+use Rattle.icu_headings.specs.HeadingLists.{NamedStart, heading_number}
+use Rattle.icu_keyed_starts.specs.Starts.{stands_within}
+use Rattle.icu_keyed_starts.specs.declared.starts.KeyBounds.{KeyBounds}
 use Rattle.std.specs.Borrow.{Bor}
 
 pub names_keep : (c : CollatorBorrowed) → IsWellFormedTables (tables_borrowed c) → (x y : List ℕ)
@@ -94,6 +98,15 @@ kept_alike : (a b : Bool) (x : Keyed) (xs : List Keyed) (ys : List (List ℕ)) �
 kept_alike true b x xs ys e h = subst (λ c. x.1 ∷ names_in xs ≡ (if c then x.1 ∷ ys else ys)) e (ap (λ zs. x.1 ∷ zs) h)
 kept_alike false b x xs ys e h = subst (λ c. names_in xs ≡ (if c then x.1 ∷ ys else ys)) e h
 
+kept_both : (a b : Bool) (x : Keyed) (xs ys : List Keyed) → a ≡ b → names_in xs ≡ names_in ys
+    → names_in (if a then x ∷ xs else xs) ≡ names_in (if b then x ∷ ys else ys)
+kept_both true b x xs ys e h = subst (λ c. x.1 ∷ names_in xs ≡ names_in (if c then x ∷ ys else ys)) e (ap (λ zs. x.1 ∷ zs) h)
+kept_both false b x xs ys e h = subst (λ c. names_in xs ≡ names_in (if c then x ∷ ys else ys)) e h
+
+and_true : (b : Bool) → b ≡ (b && true)
+and_true true = refl
+and_true false = refl
+
 pub names_begun : (c : Collation) → IsWellFormedTables c.tables → (beginning k : List ℕ) → k ≡ lower_bound c (utf8_text beginning) → (xs : List Keyed) → AreKeyed (key_of c) xs
     → names_in (beginning_with k xs) ≡ names_beginning c beginning (names_in xs)
 names_begun c well_formed beginning k is [] keyed = refl
@@ -103,3 +116,28 @@ names_begun c well_formed beginning k is (x ∷ xs) keyed =
     ∙ (ap (begins (lower_bound c (utf8_text beginning))) keyed.0
     ∙ key_begins c well_formed (utf8_text beginning) (utf8_text x.1) (utf8_scalars beginning) (utf8_scalars x.1)))
     (names_begun c well_formed beginning k is xs keyed.1)
+
+pub names_stand_under : (c : Collation) (starts : List NamedStart) (n : ℕ) (bounds : KeyBounds) → KeysStandUnder c starts n bounds → (xs : List Keyed) → AreKeyed (key_of c) xs
+    → names_in (keyed_within bounds xs) ≡ names_under c starts n (names_in xs)
+names_stand_under c starts n bounds h [] keyed = refl
+names_stand_under c starts n bounds h (x ∷ xs) keyed =
+    kept_alike (stands_within bounds x.0) (nat_eq (heading_number c starts x.1) n) x (keyed_within bounds xs) (names_under c starts n (names_in xs))
+    (ap (stands_within bounds) keyed.0 ∙ h x.1)
+    (names_stand_under c starts n bounds h xs keyed.1)
+
+-- without an upper bound
+pub stand_behind : (lower : Bor (List ℕ)) (bounds : KeyBounds) → bounds.lower ≡ lower → bounds.upper ≡ None → (xs : List Keyed)
+    → names_in (behind_border (Before lower) xs) ≡ names_in (keyed_within bounds xs)
+stand_behind lower bounds is none [] = refl
+stand_behind lower bounds is none (x ∷ xs) =
+    kept_both (not (is_lt (list_order x.0 lower.now))) (stands_within bounds x.0) x (behind_border (Before lower) xs) (keyed_within bounds xs)
+    (rw (is, none) (and_true (not (is_lt (list_order x.0 lower.now)))))
+    (stand_behind lower bounds is none xs)
+
+pub stand_between : (lower upper : Bor (List ℕ)) (bounds : KeyBounds) → bounds.lower ≡ lower → bounds.upper ≡ Some upper → (xs : List Keyed)
+    → names_in (between (Before lower) (Before upper) xs) ≡ names_in (keyed_within bounds xs)
+stand_between lower upper bounds is some [] = refl
+stand_between lower upper bounds is some (x ∷ xs) =
+    kept_both (not (is_lt (list_order x.0 lower.now)) && is_lt (list_order x.0 upper.now)) (stands_within bounds x.0) x (between (Before lower) (Before upper) xs)
+    (keyed_within bounds xs) (rw (is, some) refl)
+    (stand_between lower upper bounds is some xs)

@@ -3,14 +3,17 @@
 ghost use Rattle.std.specs.Prelude.{◌≡◌, [], ◌++◌, length, IfOk, IsErr, IsTrue, OnOk, OnErr, ◌↔◌};
 ghost use Rattle.std.proofs.Props.{props};
 ghost use Rattle.icu_collator.specs.Collators.{collation_borrowed, collation_kept};
-ghost use Rattle.icu_keyed_names.specs.KeyedLists.{keyed_names};
+ghost use Rattle.icu_headings.specs.Headed.{heading_starts, headings_collation};
+ghost use Rattle.icu_headings.specs.HeadingLaws.{names_under};
+ghost use Rattle.icu_keyed_names.specs.KeyedLists.{keyed_names, names_in, names_to_come};
 ghost use Rattle.icu_index.specs.Listings.{equal_names, inserted, names_beginning, names_between};
-ghost use Rattle.icu_index.specs.inner.NameKeys.{key_of, AreKeyed};
+ghost use Rattle.icu_index.specs.inner.NameKeys.{key_of, keyed_within, AreKeyed};
 
 use crate::names::NameIter;
 use icu_collator::{Collator, CollatorBorrowed};
+use icu_headings::{Headings, KeyBounds};
 use icu_key_bounds::lower_bound_key;
-use icu_keyed_names::{Border, KeyedNames};
+use icu_keyed_names::{Border, KeyedNames, Names};
 use std::alloc::{AllocError, Global};
 
 /// Writes the sort key of a name behind other bytes.
@@ -39,6 +42,17 @@ fn name_key(
     let mut key = Vec::new(alloc);
     write_key(collator, name, &mut key)?;
     Ok(key)
+}
+
+/// The names whose keys stand between two bounds.
+fn names_within<'i>(names: &'i KeyedNames, bounds: KeyBounds<'_>) -> Names<'i>
+    ensures { names_to_come result ≡ names_in (keyed_within bounds (keyed_names names.now)) }
+{
+    let from = Border::Before(bounds.lower);
+    match bounds.upper {
+        Some(upper) => names.between(from, Border::Before(upper)),
+        None => names.behind(from),
+    }
 }
 
 /// Names in the order of a collator (UTS #10), those that compare equal in the order of insertion. A name is bytes in
@@ -157,5 +171,17 @@ impl<'a> NameIndex<'a> {
         let key = lower_bound_key(self.alloc, &self.collator, beginning)?;
         let names = self.names.beginning_with(key.as_slice())?;
         Ok(NameIter { names })
+    }
+
+    /// The names under the heading of a number, in order. The headings are by a collator of the same tables and
+    /// settings. Costs two look-ups and what is given; does not allocate.
+    pub fn under(&self, headings: &Headings<'_>, number: usize) -> NameIter<'_>
+        requires { headings_collation headings.now ≡ index_collation self.now }
+        ensures { names_left result ≡ names_under (index_collation self.now)
+            (heading_starts headings.now) number (listing self.now) }
+    {
+        let bounds = headings.key_bounds(number);
+        let names = names_within(&self.names, bounds);
+        NameIter { names }
     }
 }

@@ -1,9 +1,11 @@
 -- Starts of headings under keys, in the order of the keys (UTS #10, "Compare Sort Keys").
-use Rattle.std.specs.Prelude.{ℕ, Bool, false, ◌||◌, List, [], ◌∷◌, filter, length, map}
+use Rattle.std.specs.Prelude.{ℕ, Bool, false, ◌||◌, List, [], ◌∷◌, filter, length, map, option_map}
 use Rattle.std.specs.Ordering.{is_le}
 use Rattle.std.specs.declared.cmp.Ordering.{Ordering}
 use Rattle.std.specs.declared.cmp.Ordering.TheVariants.{Less, Equal, Greater}
+use Rattle.icu_beginnings.specs.KeyBeginnings.{stands_between}
 use Rattle.icu_levels.specs.ListOrder.{list_order}
+use Rattle.icu_keyed_starts.specs.declared.starts.KeyBounds.{KeyBounds}
 use Rattle.icu_keyed_starts.specs.declared.starts.Start.{Start}
 use Rattle.icu_keyed_starts.specs.declared.keyed_starts.KeyedStarts.{KeyedStarts}
 
@@ -38,3 +40,7 @@ has_label (x ∷ xs) = x.2 || has_label xs
 -- the starts, in order
 abbrev pub starts_in : KeyedStarts → List KeyedStart
 starts_in k = map start_of k.starts.items
+
+-- whether a key stands between two bounds
+abbrev pub stands_within : KeyBounds → List ℕ → Bool
+stands_within b key = stands_between b.lower.now (option_map (λ u. u.now) b.upper) key

@@ -1,11 +1,11 @@
 //! Starts in the order of their keys.
 
-ghost use Rattle.std.specs.Prelude.{◌≡◌, ◌≤◌, [], true, false, drop, length, OnErr, OnOk, option_map, slice_get};
+ghost use Rattle.std.specs.Prelude.{◌≡◌, ◌≤◌, ℕ, List, [], true, false, drop, length, nat_eq, OnErr, OnOk, option_map, slice_get};
 ghost use Rattle.std.specs.List.Sorted.{IsPartitionPoint};
 ghost use Rattle.std.specs.Ordering.{is_le, is_lt};
 ghost use Rattle.icu_keyed_starts.specs.KeyOrders.{Ascend, Ascend-prop, key_order, keys_of, ties_at};
 
-use crate::starts::Start;
+use crate::starts::{KeyBounds, Start};
 use std::alloc::{AllocError, Global};
 
 /// Starts of headings, no two of one key, in the order of the keys. Keys are bytes, compared byte by byte, as sort keys
@@ -17,7 +17,7 @@ pub struct KeyedStarts {
 }
 
 impl KeyedStarts {
-    ghost use Rattle.icu_keyed_starts.specs.Starts.{has_label, placed_start, start_of, starts_in, starts_up_to};
+    ghost use Rattle.icu_keyed_starts.specs.Starts.{has_label, placed_start, stands_within, start_of, starts_in, starts_up_to};
 
     /// No starts. Does not allocate.
     pub fn new(alloc: Global) -> KeyedStarts
@@ -93,6 +93,36 @@ impl KeyedStarts {
         ensures { option_map (λ s. start_of s.now) result ≡ slice_get (starts_in self.now) index }
     {
         self.starts.get(index)
+    }
+
+    /// The key of the start at an index, if there is one.
+    fn key_at(&self, index: usize) -> Option<&[u8]>
+        ensures { option_map (λ k. k.now) result
+            ≡ slice_get (keys_of self.now.starts.items) index }
+    {
+        match self.starts.get(index) {
+            Some(start) => Some(start.key.as_slice()),
+            None => None,
+        }
+    }
+
+    /// Between which keys those stand that have come to exactly so many starts. Where there are fewer starts, no key
+    /// stands there.
+    pub fn bounds(&self, number: usize) -> KeyBounds<'_>
+        ensures { (key : List ℕ) → stands_within result key
+            ≡ nat_eq (starts_up_to key (starts_in self.now)) number }
+    {
+        let upper = self.key_at(number);
+        if number == 0 {
+            return KeyBounds { lower: &[], upper };
+        }
+        match self.key_at(number - 1) {
+            Some(lower) => KeyBounds { lower, upper },
+            None => KeyBounds {
+                lower: &[],
+                upper: Some(&[]),
+            },
+        }
     }
 
     /// Whether one of the starts from an index on is a label.

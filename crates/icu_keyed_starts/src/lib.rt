@@ -5,4 +5,4 @@ pub mod keyed_starts;
 pub mod starts;
 
 pub use keyed_starts::KeyedStarts;
-pub use starts::Start;
+pub use starts::{KeyBounds, Start};

@@ -25,3 +25,13 @@ impl Start {
         self.key.as_slice().cmp(key)
     }
 }
+
+/// Between which keys the names under a heading stand: those that are not less than the lower bound, and less than the
+/// upper one. Keys are compared byte by byte, and one that begins another is less.
+#[derive(Debug, Clone, Copy)]
+pub struct KeyBounds<'k> {
+    /// The least key under the heading; no bytes where none is less.
+    pub lower: &'k [u8],
+    /// The least key that is above all of them, if there is one.
+    pub upper: Option<&'k [u8]>,
+}

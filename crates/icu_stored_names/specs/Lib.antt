@@ -1,0 +1,2 @@
+pub mod StatementTexts
+pub mod StoredNames
