@@ -12,7 +12,7 @@ import random
 from damage import damage
 from driver import Driver, DriverFault, written
 from long_texts import check_long_texts, slow_texts_missed
-from random_texts import DECODED, any_text, pair_agrees, pair_questions, two_texts, wrong_decoders
+from random_texts import DECODED, any_text, of_bytes, pair_agrees, pair_questions, two_texts, wrong_decoders
 from tables import BASES, bases
 from timed_tables import check_times, dear_checks_missed
 
@@ -22,6 +22,10 @@ SETS, TEXTS, PART = 2_000, 2_000, 100
 READ, READ_PART = 100_000, 10_000
 # One in so many of these is repeated so often.
 LONG, REPEATED = 1024, 2000
+# One in so many is a run of random marks behind one of these characters. A run has about as many characters as the arrays have
+# room for in which pieces are put in order, or other numbers of them.
+RUN, BEFORE_MARKS, MARKS = 255, "a1\u0301\u1100", "\u0301\u0302\u0307\u030A\u0323"
+RUNS = [40, 62, 63, 64, 65, 66, 100, 700, 1_022, 1_023, 1_024, 1_025, 1_026, 1_500]
 # How many pairs of texts a collator of accepted tables orders.
 PAIRS = 3
 # What random damage must be refused for at least once: all kinds but `NoMemory`, which must not occur.
@@ -204,12 +208,20 @@ def wrong_texts(driver, count):
 # ---- random texts that are read in several ways
 
 
+def run_of_marks(dice):
+    """A character and random marks, most of which don't stand in order."""
+    return of_bytes((dice.choice(BEFORE_MARKS) + "".join(dice.choices(MARKS, k=dice.choice(RUNS) - 1))).encode())
+
+
 def texts_of(number):
-    """The text of a number, of which one in `LONG` is long, and the two parts into which it falls at a byte of its UTF-8."""
+    """The text of a number, of which one in `LONG` is long and one in `RUN` is a run of marks, and the two parts into which it
+    falls at a byte of its UTF-8."""
     dice = random.Random(number)
     text = any_text(dice)
     if number % LONG == 0:
         text = text.repeated(REPEATED)
+    elif number % RUN == 0:
+        text = run_of_marks(dice)
     cut = dice.randrange(len(text.utf8)) if text.utf8 else 0
     return [text, *text.parts(cut)]
 

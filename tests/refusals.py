@@ -130,6 +130,25 @@ def of_pieces():
     ]
 
 
+# How many characters runs have: about as many as there is room for in an array, and more.
+RUNS = [64, 65, 66, 1_023, 1_024, 1_025, 1_026, 1_500]
+# Two marks, of which the second comes first in order, by the encodings of a text.
+ACUTE_AND_DOT = {"c": ("301", "323"), "16": ("301", "323"), "8": ("CC 81", "CC A3")}
+
+
+def of_runs():
+    """Calls on texts that are a letter and marks: such as don't stand in order beside the same in order, and one mark less."""
+    found = []
+    for size in RUNS:
+        for encoding, (acute, dot) in ACUTE_AND_DOT.items():
+            above, below = [" ".join([it] * ((size - 1) // 2)) for it in (acute, dot)]
+            last = f" {dot}" * (1 - size % 2)
+            falling, rising = f"{encoding} 61 {above} {below}{last}", f"{encoding} 61 {below}{last} {above}"
+            found += [(f"compare {falling} , {rising}", "Equal"), (f"compare {rising} {acute} , {falling}", "Greater")]
+            found += [(f"compare {falling} , {rising} {dot}", "Less"), (f"compare {falling} 62 , {rising} 61", "Greater")]
+    return found
+
+
 def of_rows():
     """For each collator of the rows on comparisons without memory: the base, what makes it, and the questions with their answers."""
     found = []
@@ -159,7 +178,7 @@ def allocated(shim, program, made, calls, base="base Mini"):
 def faults_of_allocations(shim, program):
     """What is wrong with how much is allocated: no comparison allocates, and no key of these."""
     found = []
-    of_all = [*NOTHING_FOR, ("pieces", TERTIARY, of_pieces())]
+    of_all = [*NOTHING_FOR, ("pieces", TERTIARY, of_pieces()), ("runs of marks", TERTIARY, of_runs())]
     asked = [(what, "base Mini", made, calls) for what, made, calls in of_all]
     asked += [(f"rows of {base}, {made}", base, made, calls) for base, made, calls in of_rows()]
     for what, base, made, calls in asked:

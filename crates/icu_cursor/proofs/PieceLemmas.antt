@@ -1,11 +1,11 @@
 -- Texts that are read piece by piece.
-use Rattle.std.proofs.Common.{◌≡◌, ℕ, ◌+◌, true, List, [], ◌∷◌, ◌++◌, drop, flat_map, refl, sym, ap, ◌∙◌, append-nil, append_assoc}
+use Rattle.std.proofs.Common.{◌≡◌, ℕ, ◌+◌, true, List, [], ◌∷◌, ◌++◌, drop, flat_map, refl, sym, ap, subst, ◌∙◌, append-nil, append_assoc}
 use Rattle.std.proofs.lemmas.List.{drop-drop}
 use Rattle.ucd_normal.specs.declared.forms.Form.TheVariants.{Nfd}
 use Rattle.unicode_normalization.specs.Decompose.{decompose}
 use Rattle.unicode_normalization.specs.Forms.{nfd, normalize, decomposed}
 use Rattle.unicode_normalization.specs.Order.{is_ordered, canonical_order}
-use Rattle.unicode_normalization.proofs.OrderLemmas.{canonical_order-front, is_ordered-canonical_order}
+use Rattle.unicode_normalization.proofs.OrderLemmas.{canonical_order-front, canonical_order-nil, is_ordered-canonical_order}
 use Rattle.std.proofs.lemmas.Grind.{flat_map-append}
 use Rattle.icu_entries.specs.Elements.{Element}
 use Rattle.icu_elements.specs.TextElements.{Reading, elements_after}
@@ -72,6 +72,22 @@ more_decomposed text done rest new after c h next is = record {
   parts = h.parts ∙ ap (λ l. h.chars ++ l) next ∙ sym (append_assoc h.chars (c ∷ []) after);
   value = is ∙ ap (λ l. canonical_order (l ++ decompose Nfd c)) h.value ∙ one_more h.chars c;
 }
+
+-- one more, whose parts stand behind those of the others and aren't put in order
+pub more_parts : (text done rest new after : List ℕ) (c : ℕ) → AreDecomposed text (canonical_order done) rest → rest ≡ c ∷ after → new ≡ done ++ decompose Nfd c
+    → AreDecomposed text (canonical_order new) after
+more_parts text done rest new after c h next is =
+    more_decomposed text (canonical_order done) rest (canonical_order new) after c h next (ap canonical_order is ∙ sym (canonical_order-front done (decompose Nfd c)))
+
+-- no part so far
+pub no_parts : (text done : List ℕ) → done ≡ [] → AreDecomposed text (canonical_order done) text
+no_parts text done none = none_decomposed text (canonical_order done) (ap canonical_order none ∙ canonical_order-nil)
+
+-- parts are put in order
+pub parts_in_order : (reading : Reading) (text done rest new after : List ℕ) → AreDecomposed text (canonical_order done) rest → BeginsAtBoundary reading rest → new ≡ canonical_order done → after ≡ rest
+    → IsShortPiece reading text new after
+parts_in_order reading text done rest new after h boundary is same =
+    record { piece = h.chars; is = record { parts = h.parts ∙ ap (λ l. h.chars ++ l) (sym same); boundary = subst (BeginsAtBoundary reading) (sym same) boundary }; value = is ∙ h.value }
 
 -- up to a boundary
 pub short_piece : (reading : Reading) (text done rest : List ℕ) → AreDecomposed text done rest → BeginsAtBoundary reading rest → IsShortPiece reading text done rest

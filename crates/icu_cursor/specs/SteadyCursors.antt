@@ -1,20 +1,22 @@
 -- What a cursor that never stops still gives.
-use Rattle.std.specs.Prelude.{ℕ, List, [], ◌++◌, Option, Some, None}
+use Rattle.std.specs.Prelude.{ℕ, List, [], ◌++◌}
 use Rattle.icu_entries.specs.Elements.{Element}
 use Rattle.icu_encodings.specs.declared.encoded_text.EncodedText.{Ghosts}
-use Rattle.icu_decomposed_text.specs.declared.matchable_text.MatchableText.{MatchableText}
+use Rattle.icu_short_text.specs.LongTexts.{long_unread}
 use Rattle.icu_decomposed_text.specs.MatchableTexts.{unread_text}
-use Rattle.icu_steady_elements.specs.declared.steady_elements.SteadyElements.{SteadyElements}
 use Rattle.icu_steady_elements.specs.SteadyElements.{elements_left}
 use Rattle.icu_cursor.specs.declared.first_chars.FirstChars.{FirstChars}
+use Rattle.icu_cursor.specs.declared.long_piece.BegunPiece.{BegunPiece}
+use Rattle.icu_cursor.specs.declared.long_piece.BegunPiece.TheVariants.{Ended, Long, Steady}
 use Rattle.icu_cursor.specs.declared.steady_cursor.SteadyCursor.{SteadyCursor}
 use Rattle.icu_cursor.specs.Cursors.{cursor_gives}
 use Rattle.icu_cursor.specs.inner.FirstChars.{first_chars}
 
 -- the elements that a piece still gives, where one was begun
-abbrev pub piece_gives : {T : Type 0} {encoded : Ghosts (FirstChars T)} → (T → List ℕ) → Option (SteadyElements (MatchableText (FirstChars T) encoded)) → List Element
-piece_gives text None = []
-piece_gives text (Some s) = elements_left (unread_text (first_chars text)) s
+abbrev pub piece_gives : {T : Type 0} {encoded : Ghosts (FirstChars T)} → (T → List ℕ) → BegunPiece T encoded → List Element
+piece_gives text Ended = []
+piece_gives text (Long s) = elements_left long_unread s
+piece_gives text (Steady s) = elements_left (unread_text (first_chars text)) s
 
 -- the elements that a steady cursor still gives: those of the piece that was begun, and those that come after it
 abbrev pub steady_gives : {T : Type 0} {encoded : Ghosts (FirstChars T)} → (T → List ℕ) → SteadyCursor T encoded → List Element

@@ -10,6 +10,7 @@ pub mod facts_cursor;
 mod few_digits;
 pub mod first_chars;
 mod last_characters;
+mod long_piece;
 mod piece;
 mod ready_elements;
 mod short_piece;

@@ -17,7 +17,7 @@ use icu_steady_elements::SteadyElements;
 
 /// Takes the next character of a text, where the text may not be cut before it.
 #[inline]
-fn take_inside<T: EncodedText>(tables: &CursorTables<'_>, text: &mut T) -> Option<char>
+pub(crate) fn take_inside<T: EncodedText>(tables: &CursorTables<'_>, text: &mut T) -> Option<char>
     ensures char { IfSome result (λ c. T.text text.old ≡ c ∷ T.text text.new) }
     ensures none { result ≡ None → T.text text.new ≡ T.text text.old }
     ensures boundary { result ≡ None

@@ -6,20 +6,19 @@ ghost use Rattle.icu_cursor.specs.SteadyCursors.{piece_gives};
 
 use crate::cursor::{ElementCursor, LongPiece};
 use crate::first_chars::FirstChars;
-use crate::piece::{read_piece, split_piece};
-use icu_decomposed_text::{CountedText, MatchableText};
+use crate::long_piece::{BegunPiece, begin_piece, end_piece, next_of_piece};
+use icu_decomposed_text::CountedText;
 use icu_entries::CollationElement;
-use icu_steady_elements::SteadyElements;
 
 /// Goes on where an `ElementCursor` stands, and gives all elements that are still to come (UTS #10, "Produce Collation
-/// Element Arrays"). No call allocates or fails. It is large, 4 kB: begin with an `ElementCursor`.
+/// Element Arrays"). No call allocates or fails. It is large, 5 kB: begin with an `ElementCursor`.
 #[derive(Clone, Copy)]
 pub struct SteadyCursor<'c, 'd, T: Copy>
 where
     FirstChars<T>: CountedText,
 {
     pub(crate) plain: ElementCursor<'c, 'd, T>,
-    pub(crate) piece: Option<SteadyElements<'d, MatchableText<FirstChars<T>>>>,
+    pub(crate) piece: BegunPiece<'d, T>,
 }
 
 impl<'c, 'd, T: CountedText> SteadyCursor<'c, 'd, T> {
@@ -32,7 +31,7 @@ impl<'c, 'd, T: CountedText> SteadyCursor<'c, 'd, T> {
     {
         SteadyCursor {
             plain: cursor,
-            piece: None,
+            piece: BegunPiece::Ended,
         }
     }
 
@@ -68,29 +67,13 @@ impl<'c, 'd, T: CountedText> SteadyCursor<'c, 'd, T> {
             (length (T.text self.new.plain.text) < length (T.text self.old.plain.text))
             (steady_gives T.text self.old ≡ []) }
     {
-        let Some((piece, left)) = split_piece(self.plain.tables, self.plain.text) else {
+        let plain = &self.plain;
+        let begun = begin_piece(plain.tables, plain.recent, plain.text, &mut self.piece);
+        let Some(left) = begun else {
+            end_piece(&mut self.piece);
             return false;
         };
-        self.piece = Some(read_piece(self.plain.tables, self.plain.recent, piece));
         self.plain.text = left;
         true
     }
-}
-
-/// The next element of a piece. After its last one there is no piece any more.
-fn next_of_piece<T: CountedText>(
-    piece: &mut Option<SteadyElements<'_, MatchableText<FirstChars<T>>>>,
-) -> Option<CollationElement>
-    ensures next { piece_gives T.text piece.old
-        ≡ option_to_list result ++ piece_gives T.text piece.new }
-    ensures end { result ≡ None → piece_gives T.text piece.new ≡ [] }
-{
-    if let Some(begun) = piece {
-        let given = begun.next();
-        if given.is_some() {
-            return given;
-        }
-    }
-    *piece = None;
-    None
 }

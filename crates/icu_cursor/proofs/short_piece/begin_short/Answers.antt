@@ -2,7 +2,6 @@ use Rattle.std.proofs.Common.{ap, ◌∙◌}
 use Rattle.icu_elements.specs.LastChars.{recent_chars}
 use Rattle.icu_elements.specs.TextElements.{elements_after}
 use Rattle.icu_elements.proofs.StepLemmas.{elements_after_nil}
-use Rattle.icu_cursor.specs.Cursors.{cursor_reading}
 use Rattle.icu_cursor.proofs.short_piece.begin_short.Goals as goal
 
 pub returns-in-None-clause-none : goal.returns-in-None-clause-none

@@ -1,4 +1,4 @@
-use Rattle.std.proofs.Common.{◌≡◌, ◌≤◌, ◌∷◌, length}
+use Rattle.std.proofs.Common.{◌≤◌, ◌∷◌, length}
 use Rattle.icu_short_text.specs.ShortTexts.{short_unread}
 use Rattle.icu_cursor.specs.inner.Pieces.{AreDecomposed}
 use Rattle.icu_cursor.proofs.short_piece.split_short.Given as goal

@@ -1,7 +1,6 @@
-use Rattle.std.proofs.Common.{◌++◌, List, refl, ap₂}
+use Rattle.std.proofs.Common.{◌++◌, ◌∙◌, List, refl, sym, ap, ap₂}
 use Rattle.icu_entries.specs.Elements.{Element}
 use Rattle.icu_cursor.specs.Cursors.{cursor_reading, cursor_gives}
-use Rattle.icu_cursor.specs.inner.FirstChars.{first_chars}
 use Rattle.icu_cursor.specs.inner.ReadCharacters.{context_read}
 use Rattle.icu_cursor.proofs.CursorLemmas.{all_read, next_piece_begun}
 use Rattle.icu_cursor.proofs.steady_cursor.SteadyCursor.begin_piece.Goals as goal
@@ -13,10 +12,15 @@ returns-in_default-clause-shorter g c =
     ap₂ (λ (es fs : List Element). es ++ fs) c.requires.piece
     (all_read (cursor_reading plain.tables.now) _ (context_read plain.recent) c.requires.nothing _ (c.in_default.ensures.none refl))
 
+pub returns-in_default-clause-same : goal.returns-in_default-clause-same
+returns-in_default-clause-same g c =
+    ap (λ (es : List Element). es ++ cursor_gives g.T.EncodedText.text c.args.self.now.plain) (c.end_piece.ensures ∙ sym c.requires.piece)
+
 pub returns-clause-same : goal.returns-clause-same
 unfolding cursor_gives
 returns-clause-same g c =
     let text = g.T.EncodedText.text in
     let plain = c.args.self.now.plain in
-    next_piece_begun (cursor_reading plain.tables.now) _ (context_read plain.recent) c.requires.nothing (text plain.text) (first_chars text c.in-Some.piece) (text c.in-Some.left) _ _
-    c.requires.piece c.in-Some.ensures.piece c.read_piece.ensures
+    let begun = c.in-Some.ensures.begun in
+    next_piece_begun (cursor_reading plain.tables.now) _ (context_read plain.recent) c.requires.nothing (text plain.text) begun.piece (text c.in-Some.left) _ _
+    c.requires.piece begun.is begun.elements
