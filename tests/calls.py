@@ -83,6 +83,8 @@ LEFT_OUT = {
     ("icu_rules", "Rules::parse"): READERS,
     ("icu_rules", "Rules::resolve"): READERS,
     ("icu_small_tables", "checked_small_tables"): TYPES,
+    ("icu_script_reordering", "script_order"): TAILORINGS,
+    ("icu_script_reordering", "script_reordering"): TAILORINGS,
     ("icu_search", "FoundSpans::next"): NOTHING,
     ("icu_search", "first_least"): SEARCHES,
     ("icu_searcher", "PlaceReader::next"): SEARCHES,

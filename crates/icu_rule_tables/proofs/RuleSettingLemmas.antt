@@ -1,9 +1,10 @@
 -- Settings that are gone through in turn, of which the last one stands first.
-use Rattle.std.proofs.Common.{◌≡◌, ℕ, ◌+◌, ◌<◌, Bool, ◌||◌, List, [], ◌∷◌, length, get_or, take, map, reverse, ap, sym, ◌∙◌, Bor}
+use Rattle.std.proofs.Common.{◌≡◌, ℕ, ◌+◌, ◌<◌, List, Option, String, [], ◌∷◌, length, get_or, take, map, reverse, ap, sym, ◌∙◌, Bor}
+use Rattle.std.specs.declared.alloc.Global.{Global}
 use Rattle.std.proofs.lemmas.List.{take_more, map-append, reverse-append}
 use Rattle.icu_options.specs.declared.metadata.MetadataSettings.{MetadataSettings}
 use Rattle.icu_rules.specs.declared.statement.RuleSetting.{RuleSetting}
-use Rattle.icu_rule_tables.specs.RuleSettings.{settings_after, with_setting, is_reordering, names_reordering}
+use Rattle.icu_rule_tables.specs.RuleSettings.{settings_after, with_setting, reorder_words, words_with}
 
 -- the settings up to one, the last one first
 abbrev pub said_to : ℕ → List (Bor RuleSetting) → List RuleSetting
@@ -26,11 +27,11 @@ one_setting root s next said i x less at is step =
     ∙ ap (λ (y : Bor RuleSetting). with_setting (settings_after root (said_to i said)) y.now) at
     ∙ sym (ap (settings_after root) (one_more said i x less))
 
-pub one_name : (found next : Bool) (said : List (Bor RuleSetting)) (i : ℕ) (x : Bor RuleSetting) → i < length said
-    → x ≡ get_or said i x → found ≡ names_reordering (said_to i said) → next ≡ (is_reordering x.now || found)
-    → next ≡ names_reordering (said_to (i + 1) said)
-unfolding names_reordering
-one_name found next said i x less at is step =
-    step ∙ ap (λ b. is_reordering x.now || b) is
-    ∙ ap (λ (y : Bor RuleSetting). is_reordering y.now || names_reordering (said_to i said)) at
-    ∙ sym (ap names_reordering (one_more said i x less))
+pub one_words : (words next : Option (List (String Global))) (said : List (Bor RuleSetting)) (i : ℕ) (x : Bor RuleSetting) → i < length said
+    → x ≡ get_or said i x → words ≡ reorder_words (said_to i said) → next ≡ words_with x.now words
+    → next ≡ reorder_words (said_to (i + 1) said)
+unfolding reorder_words
+one_words words next said i x less at is step =
+    step ∙ ap (λ w. words_with x.now w) is
+    ∙ ap (λ (y : Bor RuleSetting). words_with y.now (reorder_words (said_to i said))) at
+    ∙ sym (ap reorder_words (one_more said i x less))

@@ -1,3 +1,5 @@
+pub mod RootGroups
+pub mod RuleReorderings
 pub mod RuleErrors
 pub mod RuleSettings
 pub mod StatesByRules

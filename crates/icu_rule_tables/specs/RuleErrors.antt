@@ -1,6 +1,10 @@
 -- What an error of tables by rules says.
-use Rattle.std.specs.Prelude.{ℕ, ◌≡◌, List, Option, Some}
+use Rattle.std.specs.Prelude.{ℕ, ◌≡◌, Bool, true, false, List, Option, Some}
+use Rattle.std.specs.List.{Contains}
 use Rattle.icu_rules.specs.declared.rules.PlacedStatement.{PlacedStatement}
+use Rattle.icu_rules.specs.declared.statement.Statement.{Statement}
+use Rattle.icu_rules.specs.declared.statement.Statement.TheVariants.{Setting}
+use Rattle.icu_rules.specs.declared.statement.RuleSetting.TheVariants.{Reorder}
 use Rattle.icu_rules.specs.declared.rules_error.RulesError.{RulesError}
 use Rattle.icu_rules.specs.declared.rules_error.RulesError.TheVariants as reading
 use Rattle.icu_tailoring.specs.TailoredRoots.{Root}
@@ -12,7 +16,7 @@ use Rattle.icu_rule_steps.specs.WeightMakers.{maker_of}
 use Rattle.icu_tailored_entries.specs.declared.error.TailoredEntriesError.{TailoredEntriesError}
 use Rattle.icu_tailored_entries.specs.declared.error.TailoredEntriesError.TheVariants as entries
 use Rattle.icu_rule_tables.specs.declared.rule_tables_error.RuleRefusal.{RuleRefusal}
-use Rattle.icu_rule_tables.specs.declared.rule_tables_error.RuleRefusal.TheVariants.{Unread, Unsaid, NoRoom}
+use Rattle.icu_rule_tables.specs.declared.rule_tables_error.RuleRefusal.TheVariants.{Unread, Unsaid, NoRoom, Unreordered}
 use Rattle.icu_rule_tables.specs.declared.rule_tables_error.RuleTablesError.{RuleTablesError}
 use Rattle.icu_rule_tables.specs.declared.rule_tables_error.RuleTablesError.TheVariants.{NoMemory, Refused, Unordered, Entries, Table}
 
@@ -36,15 +40,29 @@ abbrev pub MakesWeightAt : Root → List PlacedStatement → ℕ → Option ℕ 
 MakesWeightAt root statements place led = (weight : ℕ)
     × (maker_of root weight (first_state root) statements ≡ Some (record { place = place; import = led }))
 
+-- the statement is a reordering
+abbrev pub is_reordering : Statement → Bool
+is_reordering (Setting (Reorder groups)) = true
+is_reordering _ = false
+
+-- a statement that is a reordering stands there
+pub record StatesReordering (statements : List PlacedStatement) (place : ℕ) (led : Option ℕ) : Type 0 where
+  pub placed : PlacedStatement
+  pub among : Contains statements placed
+  pub is_one : is_reordering placed.statement ≡ true
+  pub at_place : placed.place ≡ place
+  pub led_by : placed.import ≡ led
+
 -- what is wrong with the statement at a place
 abbrev pub RefusesStatement : Root → List PlacedStatement → ℕ → Option ℕ → RuleRefusal → Type 0
 RefusesStatement root statements place led (Unread kind) = ⊥
 RefusesStatement root statements place led (Unsaid kind) =
     first_error root (first_state root) statements ≡ Some (saying.Refused place led kind)
 RefusesStatement root statements place led (NoRoom level) = MakesWeightAt root statements place led
+RefusesStatement root statements place led (Unreordered error) = StatesReordering statements place led
 
--- The error of rules that were read: of those that are refused the first one, and for want of room one that makes a
--- weight. Which other errors there are is left open.
+-- The error of rules that were read: of those that are refused the first one, for want of room one that makes a
+-- weight, and for groups that can't be reordered a reordering. Which other errors there are is left open.
 abbrev pub IsErrorOfRules : Root → List PlacedStatement → RuleTablesError → Type 0
 IsErrorOfRules root statements (Refused place led kind) = RefusesStatement root statements place led kind
 IsErrorOfRules root statements NoMemory = Unit {0}

@@ -1,5 +1,7 @@
 -- What the settings of rules make of those of the root (UTS #35 part 5, "Setting Options").
-use Rattle.std.specs.Prelude.{ℕ, Bool, true, false, not, ◌||◌, bytes_eq, List, [], ◌∷◌}
+use Rattle.std.specs.Prelude.{ℕ, Bool, true, false, not, ◌||◌, bytes_eq, List, [], ◌∷◌, Option, Some, None, String}
+use Rattle.std.specs.Option.{is_some}
+use Rattle.std.specs.declared.alloc.Global.{Global}
 use Rattle.icu_options.specs.Metadata.{metadata_settings}
 use Rattle.icu_options.specs.declared.metadata.MetadataSettings.{MetadataSettings}
 use Rattle.icu_options.specs.declared.settings.AlternateHandling.{AlternateHandling}
@@ -24,15 +26,19 @@ unfoldable pub settings_after : MetadataSettings → List RuleSetting → Metada
 settings_after s [] = s
 settings_after s (said ∷ before) = with_setting (settings_after s before) said
 
--- the setting is a reordering
-abbrev pub is_reordering : RuleSetting → Bool
-is_reordering (Reorder groups) = true
-is_reordering _ = false
+-- the words of a setting, if it is a reordering, or else other ones
+abbrev pub words_with : RuleSetting → Option (List (String Global)) → Option (List (String Global))
+words_with (Reorder groups) before = Some groups.items
+words_with _ before = before
+
+-- the words of a reordering among settings, of which the last one stands first: the last one counts
+unfoldable pub reorder_words : List RuleSetting → Option (List (String Global))
+reorder_words [] = None
+reorder_words (said ∷ before) = words_with said (reorder_words before)
 
 -- one of the settings is a reordering
-unfoldable pub names_reordering : List RuleSetting → Bool
-names_reordering [] = false
-names_reordering (said ∷ before) = is_reordering said || names_reordering before
+abbrev pub names_reordering : List RuleSetting → Bool
+names_reordering said = is_some (reorder_words said)
 
 -- variable elements are shifted
 abbrev pub shifts : AlternateHandling → Bool
@@ -49,7 +55,7 @@ tailored_fields root said diacritics =
       max_variable = s.max_variable;
       tailored = true;
       tailored_diacritics = has_tailored_diacritics root.bits || not (bytes_eq diacritics root.tables.diacritics);
-      reordering = false;
+      reordering = names_reordering said;
       lithuanian_dot_above = is_lithuanian root.bits;
       backward_second_level = s.backward_second_level;
       alternate_shifted = shifts s.alternate_handling;

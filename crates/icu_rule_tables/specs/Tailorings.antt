@@ -1,10 +1,11 @@
 -- The tables of a collation by rules.
-use Rattle.std.specs.Prelude.{ℕ, ◌≡◌, ◌<◌, false, List, Some, None, map}
+use Rattle.std.specs.Prelude.{ℕ, ◌≡◌, ◌<◌, List, Option, Some, None, map, option_map}
 use Rattle.icu_collation_data.specs.Data.{Data}
 use Rattle.icu_collation_data.specs.CodePointTables.{code_point_count}
 use Rattle.icu_table_builder.specs.OwnedData.{owned_data}
 use Rattle.icu_provider.specs.CollatorTables.{CollatorTables}
-use Rattle.icu_provider.specs.OwnedTables.{owned_diacritics}
+use Rattle.icu_provider.specs.OwnedTables.{owned_diacritics, owned_reordering}
+use Rattle.icu_provider.specs.Reorderings.{Reordering}
 use Rattle.icu_checks.specs.Checked.{checked_tables}
 use Rattle.icu_rules.specs.declared.rules.PlacedStatement.{PlacedStatement}
 use Rattle.icu_rules.specs.declared.statement.RuleSetting.{RuleSetting}
@@ -17,17 +18,19 @@ use Rattle.icu_tailoring_numbers.specs.declared.tailoring_numbers.TailoringNumbe
 use Rattle.icu_rule_steps.specs.RuleFaults.{first_error}
 use Rattle.icu_checked_root.specs.declared.checked_root.CheckedRoot.{CheckedRoot}
 use Rattle.icu_checked_root.specs.StoredRoots.{stored_root, tables_beside}
-use Rattle.icu_rule_tables.specs.RuleSettings.{names_reordering, tailored_bits}
+use Rattle.icu_rule_tables.specs.RuleReorderings.{IsReorderingOf}
+use Rattle.icu_rule_tables.specs.RuleSettings.{tailored_bits}
 use Rattle.icu_rule_tables.specs.StatesByRules.{NumbersState, mappings_beside, state_over}
 use Rattle.icu_rule_tables.specs.declared.tailoring.Tailoring.{Tailoring}
 
--- the tables of a root with a tailoring, its settings, the last one first, and its secondary weights of diacritics
-abbrev pub tables_by_rules : CollatorTables → List RuleSetting → Data → List ℕ → CollatorTables
-tables_by_rules root said own diacritics = record {
+-- the tables of a root with a tailoring, its settings, the last one first, its secondary weights of diacritics, and a
+-- reordering, if there is one
+abbrev pub tables_by_rules : CollatorTables → List RuleSetting → Data → List ℕ → Option Reordering → CollatorTables
+tables_by_rules root said own diacritics reordering = record {
   tables = record { root = root.tables.root; tailoring = Some own; jamo = root.tables.jamo; diacritics = diacritics };
   special = root.special;
   bits = tailored_bits root said diacritics;
-  reordering = None;
+  reordering = reordering;
 }
 
 -- all tables of a collation by rules
@@ -41,7 +44,7 @@ tailored_tables t = record {
   };
   special = (checked_tables t.root.now).special;
   bits = t.metadata.bits;
-  reordering = None;
+  reordering = option_map owned_reordering t.reordering;
 }
 
 -- The mappings of a state, as they are kept, by which a tailoring gives each character its entry.
@@ -50,14 +53,15 @@ pub record GivesState (numbers : TailoringNumbers) (state : TailoringState) (own
   pub same : mappings_in mappings_beside kept ≡ state.mappings
   pub gives : (c : ℕ) → c < code_point_count → TailorsCharacter mappings_beside numbers kept own c
 
--- The tables of a root with a tailoring that gives what a state says, by these numbers, and with its settings. None of
--- them is a reordering.
+-- the tables of a root with a tailoring that gives what a state says, by these numbers, with its settings, and with the
+-- reordering that it says
 pub record HasTablesOf (root : CheckedRoot) (numbers : TailoringNumbers) (state : TailoringState) (t : Tailoring) : Type 0 where
-  pub in_order : names_reordering state.settings ≡ false
   pub own : Data
   pub given : GivesState numbers state own
   pub diacritics : List ℕ
-  pub are : tailored_tables t ≡ tables_by_rules (checked_tables (tables_beside root)) state.settings own diacritics
+  pub reordering : Option Reordering
+  pub reordered : IsReorderingOf root numbers state reordering
+  pub are : tailored_tables t ≡ tables_by_rules (checked_tables (tables_beside root)) state.settings own diacritics reordering
 
 -- tables of rules, none of which is refused, by some numbers
 pub record SaysRules (root : CheckedRoot) (statements : List PlacedStatement) (t : Tailoring) : Type 0 where

@@ -3,8 +3,11 @@
 
 mod jamo_changes;
 mod rule_numbers;
+mod rule_reordering;
 mod rule_settings;
 pub mod rule_tables_error;
+mod script_spans;
+mod script_starts;
 mod tailored_metadata;
 pub mod tailoring;
 mod text_rules;

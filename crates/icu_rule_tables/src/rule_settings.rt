@@ -1,6 +1,6 @@
 //! Settings of rules.
-ghost use Rattle.std.specs.Prelude.{◌≡◌, ◌||◌, map, reverse};
-ghost use Rattle.icu_rule_tables.specs.RuleSettings.{is_reordering, names_reordering, settings_after, with_setting};
+ghost use Rattle.std.specs.Prelude.{◌≡◌, map, option_map, reverse};
+ghost use Rattle.icu_rule_tables.specs.RuleSettings.{names_reordering, reorder_words, settings_after, with_setting, words_with};
 
 use icu_options::MetadataSettings;
 use icu_rules::RuleSetting;
@@ -41,20 +41,32 @@ pub(crate) fn settings_after(root: MetadataSettings, said: &[&RuleSetting]) -> M
     settings
 }
 
-/// Whether a setting is a reordering.
-fn is_reordering(said: &RuleSetting) -> bool
-    ensures { result ≡ is_reordering said.now }
+/// The words of a setting, if it is a reordering, or else other ones.
+fn words_with<'r>(said: &'r RuleSetting, before: Option<&'r [String]>) -> Option<&'r [String]>
+    ensures { option_map (λ w. w.now) result
+        ≡ words_with said.now (option_map (λ w. w.now) before.entry) }
 {
-    matches!(said, RuleSetting::Reorder(_))
+    match said {
+        RuleSetting::Reorder(words) => Some(words.as_slice()),
+        _ => before,
+    }
 }
 
-/// Whether one of settings is a reordering.
+/// The words of the last reordering among settings, in turn, if there is one.
+pub(crate) fn reorder_words<'r>(said: &[&'r RuleSetting]) -> Option<&'r [String]>
+    ensures { option_map (λ w. w.now) result
+        ≡ reorder_words (reverse (map (λ s. s.now) said.now)) }
+{
+    let mut words = None;
+    for setting in said {
+        words = words_with(setting, words);
+    }
+    words
+}
+
+/// Whether one of settings, in turn, is a reordering.
 pub(crate) fn names_reordering(said: &[&RuleSetting]) -> bool
     ensures { result ≡ names_reordering (reverse (map (λ s. s.now) said.now)) }
 {
-    let mut found = false;
-    for setting in said {
-        found = is_reordering(setting) || found;
-    }
-    found
+    reorder_words(said).is_some()
 }

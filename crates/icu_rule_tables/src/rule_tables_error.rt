@@ -4,6 +4,7 @@ ghost use Rattle.std.specs.Prelude.{◌≡◌};
 use icu_entries::{DataError, DataErrorKind, DataTable};
 use icu_rule_steps::{TailoringError, TailoringErrorKind};
 use icu_rules::{RulesError, RulesErrorKind};
+use icu_script_reordering::ReorderingError;
 use icu_tailored_entries::TailoredEntriesError;
 use std::alloc::{AllocError, AllocFailed};
 use thiserror::Error;
@@ -24,6 +25,9 @@ pub enum RuleRefusal {
         /// The level, from 1 for primary weights to 4 for quaternary ones.
         level: u8,
     },
+    /// Groups can't be reordered as it says.
+    #[error("{0}")]
+    Unreordered(ReorderingError),
 }
 
 /// Why rules make no tables.

@@ -3,7 +3,7 @@ ghost use Rattle.std.specs.Prelude.{◌≡◌, map, reverse};
 ghost use Rattle.icu_checks.specs.Checked.{checked_tables};
 ghost use Rattle.icu_rule_tables.specs.RuleSettings.{shifts, tailored_bits};
 
-use crate::rule_settings::settings_after;
+use crate::rule_settings::{names_reordering, settings_after};
 use icu_checks::CheckedTables;
 use icu_options::AlternateHandling;
 use icu_provider::{CollationMetadata, MetadataFields};
@@ -35,7 +35,7 @@ pub(crate) fn tailored_metadata(
         max_variable: settings.max_variable,
         tailored: true,
         tailored_diacritics: metadata.tailored_diacritics() || changed,
-        reordering: false,
+        reordering: names_reordering(said),
         lithuanian_dot_above: metadata.lithuanian_dot_above(),
         backward_second_level: settings.backward_second_level,
         alternate_shifted: shifts(settings.alternate_handling),

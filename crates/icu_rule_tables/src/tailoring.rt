@@ -1,22 +1,29 @@
 //! The tables of a collation by rules.
-ghost use Rattle.std.specs.Prelude.{◌≡◌, List, IfErr, IfOk};
+ghost use Rattle.std.specs.Prelude.{◌≡◌, List, IfErr, IfOk, option_map};
 ghost use Rattle.icu_rules.specs.declared.rules.PlacedStatement.{PlacedStatement};
 ghost use Rattle.icu_tailoring.specs.TailoredRoots.{Root};
 ghost use Rattle.icu_table_builder.specs.OwnedData.{owned_data, vectors_data};
-ghost use Rattle.icu_provider.specs.OwnedTables.{owned_diacritics};
+ghost use Rattle.icu_provider.specs.OwnedTables.{owned_diacritics, owned_reordering};
+ghost use Rattle.icu_provider.specs.StoredTables.{reordering_of};
+ghost use Rattle.icu_provider.specs.Loads.{answer};
+ghost use Rattle.icu_provider.specs.TableSets.{or_absent};
+ghost use Rattle.icu_entries.specs.declared.error.DataTable.TheVariants.{Reordering};
 ghost use Rattle.icu_checked_root.specs.StoredRoots.{stored_root};
 ghost use Rattle.icu_rule_tables.specs.RuleErrors.{IsErrorOfRules};
 
 use crate::jamo_changes::change_jamo;
 use crate::rule_numbers::numbers_of;
-use crate::rule_settings::names_reordering;
+use crate::rule_reordering::rule_reordering;
 use crate::rule_tables_error::{RuleTablesError, table_error};
 use crate::tailored_metadata::tailored_metadata;
 use crate::text_rules::rules_of_text;
 use icu_checked_root::CheckedRoot;
 use icu_checks::CheckedTables;
 use icu_entries::{DataError, DataErrorKind, DataTable};
-use icu_provider::{CollationMetadata, FixedLoads, FixedProvider, OwnedDiacritics};
+use icu_provider::{
+    CollationMetadata, CollationReordering, FixedLoads, FixedProvider, OwnedDiacritics,
+    OwnedReordering,
+};
 use icu_rule_steps::SymbolicTailoring;
 use icu_rules::Rules;
 use icu_table_builder::{DataVectors, OwnedData};
@@ -33,6 +40,7 @@ pub struct Tailoring<'t> {
     metadata: CollationMetadata,
     lists: OwnedData,
     diacritics: OwnedDiacritics,
+    reordering: Option<OwnedReordering>,
 }
 
 /// The lists of a tailoring, checked.
@@ -59,7 +67,24 @@ fn checked_diacritics(secondaries: Vec<u16>) -> Result<OwnedDiacritics, RuleTabl
     }
 }
 
+/// A reordering, or that there is none.
+fn lent_reordering(
+    reordering: &Option<OwnedReordering>,
+) -> Result<CollationReordering<'_>, DataError>
+    ensures { answer reordering_of result
+        ≡ or_absent Reordering (option_map owned_reordering reordering.now) }
+{
+    match reordering {
+        Some(reordering) => Ok(reordering.as_reordering()),
+        None => Err(DataError {
+            table: DataTable::Reordering,
+            kind: DataErrorKind::Absent,
+        }),
+    }
+}
+
 impl<'t> Tailoring<'t> {
+    ghost use Rattle.icu_rule_tables.specs.RuleReorderings.{IsReorderingOf};
     ghost use Rattle.std.specs.Prelude.{chars};
     ghost use Rattle.icu_rule_tables.specs.StatesByRules.{said_by};
     ghost use Rattle.icu_rule_tables.specs.Tailorings.{HasTablesOf, SaysRules, SaysText};
@@ -70,14 +95,14 @@ impl<'t> Tailoring<'t> {
         root: &CheckedRoot<'t>,
         said: &SymbolicTailoring<'_, CheckedRoot<'t>>,
         numbers: &TailoringNumbers,
+        reordering: Option<OwnedReordering>,
     ) -> Result<Tailoring<'t>, RuleTablesError>
+        requires { IsReorderingOf root.now numbers.now (said_by said.now)
+            (option_map owned_reordering reordering) }
         ensures ok { IfOk result (HasTablesOf root.now numbers.now (said_by said.now)) }
         ensures err { (statements : List PlacedStatement)
             → IfErr result (IsErrorOfRules (stored_root root.now) statements) }
     {
-        if names_reordering(said.settings()) {
-            return Err(table_error(DataTable::Reordering, DataErrorKind::Absent));
-        }
         if change_jamo(alloc, root, said.mappings())? {
             return Err(table_error(DataTable::Jamo, DataErrorKind::Absent));
         }
@@ -91,6 +116,7 @@ impl<'t> Tailoring<'t> {
             metadata,
             lists: checked_data(vectors)?,
             diacritics: checked_diacritics(diacritics)?,
+            reordering,
         })
     }
 
@@ -106,7 +132,8 @@ impl<'t> Tailoring<'t> {
     {
         let said = SymbolicTailoring::of_rules(alloc, root, rules)?;
         let numbers = numbers_of(alloc, root, rules, &said)?;
-        Tailoring::of_numbers(alloc, root, &said, &numbers)
+        let reordering = rule_reordering(alloc, root, rules, &said, &numbers)?;
+        Tailoring::of_numbers(alloc, root, &said, &numbers, reordering)
     }
 
     /// The tables of a text of rules over a root. An import is refused, since no other rules are known.
@@ -135,10 +162,7 @@ impl<'t> FixedProvider for Tailoring<'t> {
             special: Ok(self.root.special_primaries()),
             metadata: Ok(self.metadata),
             tailoring: Ok(self.lists.as_data()),
-            reordering: Err(DataError {
-                table: DataTable::Reordering,
-                kind: DataErrorKind::Absent,
-            }),
+            reordering: lent_reordering(&self.reordering),
             diacritics: Ok(self.diacritics.as_diacritics()),
         }
     }

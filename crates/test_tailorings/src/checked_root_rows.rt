@@ -51,7 +51,7 @@ fn checked_mini(alloc: Global) -> Result<CheckedTables, Fail> {
 }
 
 /// A collator by a text of rules.
-fn collator_by_text(alloc: Global, root: &CheckedRoot<'_>, text: &str) -> Result<Collator, Fail> {
+pub(crate) fn collator_by_text(alloc: Global, root: &CheckedRoot<'_>, text: &str) -> Result<Collator, Fail> {
     let tailoring = Tailoring::from_text(alloc, root, text)?;
     Ok(Collator::try_new_unstable(
         alloc,
@@ -73,7 +73,7 @@ fn orders_over_mini(rt: HostRuntime) -> Result<(), Fail> {
 }
 
 /// A statement that is refused at this place.
-fn refused(place: usize, kind: RuleRefusal) -> RuleTablesError {
+pub(crate) fn refused(place: usize, kind: RuleRefusal) -> RuleTablesError {
     RuleTablesError::Refused {
         place,
         import: None,
@@ -111,7 +111,6 @@ fn refused_over_mini(rt: HostRuntime) -> Result<(), Fail> {
             "&a<<<<b<<<<c<<<<d<<<<e",
             refused(17, RuleRefusal::NoRoom { level: 4 }),
         ),
-        ("&a<b [reorder Grek]", absent(DataTable::Reordering)),
         ("&a<\u{1100}", absent(DataTable::Jamo)),
     ] {
         let found = Tailoring::from_text(rt.alloc(), &root, text).err();

@@ -1,14 +1,13 @@
 -- The tables are those of the root, with what was made.
-use Rattle.std.proofs.Common.{sym, ap, subst, ◌∙◌}
+use Rattle.std.proofs.Common.{sym, subst, option_map, ◌∙◌}
 use Rattle.icu_collation_data.specs.Data.{Data}
 use Rattle.icu_tailored_entries.specs.GivenMappings.{TailorsCharacter}
 use Rattle.icu_rule_tables.specs.StatesByRules.{mappings_beside}
 use Rattle.icu_table_builder.specs.OwnedData.{owned_data}
-use Rattle.icu_provider.specs.OwnedTables.{owned_diacritics}
+use Rattle.icu_provider.specs.OwnedTables.{owned_diacritics, owned_reordering}
 use Rattle.icu_checked_root.specs.StoredRoots.{stored_root, tables_beside}
 use Rattle.icu_rule_steps.specs.SymbolicTailorings.{settings_in}
 use Rattle.icu_rule_tables.specs.RuleErrors.{IsErrorOfRules}
-use Rattle.icu_rule_tables.specs.RuleSettings.{names_reordering}
 use Rattle.icu_rule_tables.proofs.TailoringLemmas.{handed_on, tables_are}
 use Rattle.icu_rule_tables.proofs.tailoring.Tailoring.of_numbers.Goals as goal
 
@@ -17,7 +16,6 @@ returns-clause-ok c =
     let lists = c.in_ok-checked_data.field-0 in
     let diacritics = owned_diacritics c.in_ok-checked_diacritics.field-0 in
     record {
-      in_order = ap names_reordering (sym c.settings.ensures) ∙ sym c.names_reordering.ensures ∙ c.if-names_reordering.false;
       own = owned_data lists;
       given = record {
         kept = c.mappings-2.result.now;
@@ -27,9 +25,12 @@ returns-clause-ok c =
             (sym c.in_ok-checked_data.ensures.ok) (c.in_ok-vectors.ensures x small);
       };
       diacritics = diacritics;
+      reordering = option_map owned_reordering c.args.reordering;
+      reordered = c.requires;
       are = tables_are c.tables-tables.result.now (tables_beside c.args.root.now) c.tailored_metadata-metadata.result.bits lists
-          diacritics c.as_slice.result.now (settings_in c.args.said.now) _ c.tables-tables.ensures c.tailored_metadata-metadata.ensures
-          c.settings-2.ensures (c.as_slice.ensures.value ∙ sym c.in_ok-checked_diacritics.ensures.ok);
+          diacritics c.as_slice.result.now (settings_in c.args.said.now) _
+          (option_map owned_reordering c.args.reordering) c.tables-tables.ensures c.tailored_metadata-metadata.ensures
+          c.settings.ensures (c.as_slice.ensures.value ∙ sym c.in_ok-checked_diacritics.ensures.ok);
     }
 
 pub returns-in_err-checked_data-clause-err : goal.returns-in_err-checked_data-clause-err
