@@ -46,7 +46,7 @@ fn name_key(
 
 /// The names whose keys stand between two bounds.
 fn names_within<'i>(names: &'i KeyedNames, bounds: KeyBounds<'_>) -> Names<'i>
-    ensures { names_to_come result ≡ names_in (keyed_within bounds (keyed_names names.now)) }
+    ensures { names_to_come result ≡ names_in (keyed_within bounds.entry (keyed_names names.now)) }
 {
     let from = Border::Before(bounds.lower);
     match bounds.upper {
