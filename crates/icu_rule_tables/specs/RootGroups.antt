@@ -8,8 +8,8 @@ use Rattle.icu_tailoring.specs.TailoredRoots.{RootMapping}
 use Rattle.icu_symbolic_mappings.specs.StoredMappings.{root_mapping}
 use Rattle.icu_symbolic_mappings.specs.declared.character_mapping.CharacterMapping.{CharacterMapping}
 use Rattle.icu_checked_root.specs.CheckedRoots.{leading_primary}
-use Rattle.icu_script_reordering.specs.declared.spans.ScriptSpan.{ScriptSpan}
-use Rattle.icu_script_reordering.specs.declared.spans.ScriptStart.{ScriptStart}
+use Rattle.icu_script_reordering.specs.declared.script_groups.ScriptSpan.{ScriptSpan}
+use Rattle.icu_script_reordering.specs.declared.script_groups.ScriptStart.{ScriptStart}
 
 -- where a group begins, by a sample character and a primary weight above the separator's and below implicit ones
 abbrev pub script_start : ℕ → ℕ → Option ScriptStart
@@ -27,10 +27,11 @@ pub record HaveStarts (mappings : ℕ → List RootMapping) (starts : List Scrip
   pub same : map root_mapping kept ≡ mappings 0xFDD1
   pub starts_are : starts ≡ filter_map start_mapped kept
 
--- the two highest bytes of the first weight that may be a character's, and of the first implicit one
+-- the two highest bytes of the first weight that may be a character's
 abbrev pub first_block : ℕ
 first_block = 0x300
 
+-- those of the first implicit weight
 abbrev pub implicit_block : ℕ
 implicit_block = 0xFE00
 

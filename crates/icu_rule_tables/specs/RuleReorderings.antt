@@ -6,8 +6,8 @@ use Rattle.icu_tailoring.specs.Steps.{TailoringState}
 use Rattle.icu_tailoring_numbers.specs.Numberings.{number_of}
 use Rattle.icu_tailoring_numbers.specs.declared.tailoring_numbers.TailoringNumbers.{TailoringNumbers}
 use Rattle.icu_checked_root.specs.declared.checked_root.CheckedRoot.{CheckedRoot}
-use Rattle.icu_script_reordering.specs.declared.spans.ScriptSpan.{ScriptSpan}
-use Rattle.icu_script_reordering.specs.declared.spans.ScriptStart.{ScriptStart}
+use Rattle.icu_script_reordering.specs.declared.script_groups.ScriptSpan.{ScriptSpan}
+use Rattle.icu_script_reordering.specs.declared.script_groups.ScriptStart.{ScriptStart}
 use Rattle.icu_script_reordering.specs.ScriptOrders.{OrdersScripts}
 use Rattle.icu_script_reordering.specs.ReorderedSpans.{IsReorderedBy}
 use Rattle.icu_rule_tables.specs.RootGroups.{HaveStarts, are_groups, covers_all}

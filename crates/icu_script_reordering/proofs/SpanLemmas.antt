@@ -4,8 +4,8 @@ use Rattle.std.proofs.lemmas.List.{get_or_default}
 use Rattle.icu_provider.specs.Reorderings.{Reordering, reordered}
 use Rattle.icu_weights.specs.Leads.{TakesBlock}
 use Rattle.icu_weights.proofs.LeadLemmas.{reordered-rest}
-use Rattle.icu_script_reordering.specs.declared.spans.ScriptSpan.{ScriptSpan}
-use Rattle.icu_script_reordering.specs.ReorderedSpans.{IsInSpan, KeepsOrder, PutsBefore, IsReorderedBy}
+use Rattle.icu_script_reordering.specs.declared.script_groups.ScriptSpan.{ScriptSpan}
+use Rattle.icu_script_reordering.specs.ReorderedSpans.{IsInSpan, KeepsWeightOrder, PutsBefore, IsReorderedBy}
 use Rattle.icu_script_reordering.specs.inner.CarriedSpans.{CarriesUpTo, CarriesTo, IsCarried, IsReorderedTo}
 
 pub carries_one_more : (r : Reordering) (s : ScriptSpan) (to limit : ℕ) → CarriesUpTo r s to limit
@@ -22,7 +22,7 @@ carried_weight r s to p small carries inside =
     let lead : reordered r p / 0x1000000 ≡ to + p / 65536 / 256 - s.start / 256 = carries (p / 65536) (omega arith) (omega arith) p (omega arith) refl in
     omega (arith, reordered-rest r p)
 
-keeps_order : (r : Reordering) (s : ScriptSpan) (to : ℕ) → s.end ≤ 0xFF00 → CarriesTo r s to → KeepsOrder r s
+keeps_order : (r : Reordering) (s : ScriptSpan) (to : ℕ) → s.end ≤ 0xFF00 → CarriesTo r s to → KeepsWeightOrder r s
 keeps_order r s to small carries = λ p q in_p in_q less.
     let from : s.start * 65536 ≤ p = in_p.0 in
     omega (arith, carried_weight r s to p small carries in_p, carried_weight r s to q small carries in_q)
@@ -88,7 +88,7 @@ pub one_more_span : (order : List ScriptSpan) (r : Reordering) (s : ScriptSpan) 
 one_more_span order r s count above next small before new is =
     let at : (d : ScriptSpan) → s ≡ get_or order count d = λ d. is ∙ get_or_default order count s d small in
     record {
-      kept = below_more (λ i. (d : ScriptSpan) → KeepsOrder r (get_or order i d)) count before.kept (λ d. subst (λ t. KeepsOrder r t) (at d) new.kept);
+      kept = below_more (λ i. (d : ScriptSpan) → KeepsWeightOrder r (get_or order i d)) count before.kept (λ d. subst (λ t. KeepsWeightOrder r t) (at d) new.kept);
       from = below_more (λ i. (d : ScriptSpan) → (p : ℕ) → IsInSpan (get_or order i d) p → 0x3000000 ≤ reordered r p) count before.from
           (λ d. subst (λ (t : ScriptSpan). (p : ℕ) → IsInSpan t p → 0x3000000 ≤ reordered r p) (at d)
           (λ p inside. let up : above ≤ reordered r p = new.from p inside in omega (arith, before.least)));

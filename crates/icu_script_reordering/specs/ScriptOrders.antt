@@ -6,8 +6,8 @@ use Rattle.icu_script_reordering.specs.declared.reorder_codes.ReorderCode.{Reord
 use Rattle.icu_script_reordering.specs.declared.reorder_codes.ReorderCode.TheVariants.{Others}
 use Rattle.icu_script_reordering.specs.declared.reordering_error.ReorderingError.{ReorderingError}
 use Rattle.icu_script_reordering.specs.declared.reordering_error.ReorderingError.TheVariants.{NoMemory, UnknownGroup, RepeatedGroup, NoLeads}
-use Rattle.icu_script_reordering.specs.declared.spans.ScriptSpan.{ScriptSpan}
-use Rattle.icu_script_reordering.specs.declared.spans.ScriptStart.{ScriptStart}
+use Rattle.icu_script_reordering.specs.declared.script_groups.ScriptSpan.{ScriptSpan}
+use Rattle.icu_script_reordering.specs.declared.script_groups.ScriptStart.{ScriptStart}
 use Rattle.icu_script_reordering.specs.ReorderCodes.{AreCodes, names_nothing, is_special_sample, names_sample}
 
 -- the code stands for all scripts that no code names
@@ -24,16 +24,16 @@ unfoldable pub names_span : List ScriptStart → ReorderCode → ScriptSpan → 
 names_span starts code s = list_any (λ (at : ScriptStart). (at.start == s.start) && names_sample code at.sample) starts
 
 -- one of the codes names it
-unfoldable pub is_named : List ScriptStart → List ReorderCode → ScriptSpan → Bool
-is_named starts named s = list_any (λ code. names_span starts code s) named
+unfoldable pub is_named_group : List ScriptStart → List ReorderCode → ScriptSpan → Bool
+is_named_group starts named s = list_any (λ code. names_span starts code s) named
 
 -- it is a special group that no code names: these stay in front
 abbrev pub stays_in_front : List ScriptStart → List ReorderCode → ScriptSpan → Bool
-stays_in_front starts named s = is_special starts s && not (is_named starts named s)
+stays_in_front starts named s = is_special starts s && not (is_named_group starts named s)
 
 -- it is one of the others
 abbrev pub is_other : List ScriptStart → List ReorderCode → ScriptSpan → Bool
-is_other starts named s = not (is_special starts s) && not (is_named starts named s)
+is_other starts named s = not (is_special starts s) && not (is_named_group starts named s)
 
 -- the groups that a code puts where it stands
 unfoldable pub spans_of_code : List ScriptStart → List ReorderCode → List ScriptSpan → ReorderCode → List ScriptSpan

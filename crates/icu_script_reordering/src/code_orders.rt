@@ -1,11 +1,11 @@
 //! The order of groups that the codes of `[reorder ..]` say.
 ghost use Rattle.std.specs.Prelude.{◌≡◌, ◌++◌, IfErr, IfOk, OnOk, count_by, filter, nat_lt};
 ghost use Rattle.std.specs.List.{list_any, flat_map};
-ghost use Rattle.icu_script_reordering.specs.ScriptOrders.{IsErrorOfWords, OrdersScripts, is_named, is_named_twice, is_other, is_others, is_special, names_one_twice, names_span, others_at_end, script_order, spans_of_code, stays_in_front};
+ghost use Rattle.icu_script_reordering.specs.ScriptOrders.{IsErrorOfWords, OrdersScripts, is_named_group, is_named_twice, is_other, is_others, is_special, names_one_twice, names_span, others_at_end, script_order, spans_of_code, stays_in_front};
 
 use crate::reorder_codes::{ReorderCode, codes_of, is_special_sample, names_sample};
 use crate::reordering_error::ReorderingError;
-use crate::spans::{ScriptSpan, ScriptStart};
+use crate::script_groups::{ScriptSpan, ScriptStart};
 use std::alloc::{AllocError, Global};
 
 /// Whether a code stands for all scripts that no code names.
@@ -32,9 +32,9 @@ fn names_span(starts: &[ScriptStart], code: ReorderCode, span: ScriptSpan) -> bo
 }
 
 /// Whether one of the codes names it.
-#[tactic(auto, unfolding(crate::specs::ScriptOrders::is_named))]
-fn is_named(starts: &[ScriptStart], named: &[ReorderCode], span: ScriptSpan) -> bool
-    ensures { result ≡ is_named starts.now named.now span }
+#[tactic(auto, unfolding(crate::specs::ScriptOrders::is_named_group))]
+fn is_named_group(starts: &[ScriptStart], named: &[ReorderCode], span: ScriptSpan) -> bool
+    ensures { result ≡ is_named_group starts.now named.now span }
 {
     named.iter().any(|code| names_span(starts, *code, span))
 }
@@ -43,14 +43,14 @@ fn is_named(starts: &[ScriptStart], named: &[ReorderCode], span: ScriptSpan) -> 
 fn stays_in_front(starts: &[ScriptStart], named: &[ReorderCode], span: ScriptSpan) -> bool
     ensures { result ≡ stays_in_front starts.now named.now span }
 {
-    is_special(starts, span) && !is_named(starts, named, span)
+    is_special(starts, span) && !is_named_group(starts, named, span)
 }
 
 /// Whether it is one of the others.
 fn is_other(starts: &[ScriptStart], named: &[ReorderCode], span: ScriptSpan) -> bool
     ensures { result ≡ is_other starts.now named.now span }
 {
-    !is_special(starts, span) && !is_named(starts, named, span)
+    !is_special(starts, span) && !is_named_group(starts, named, span)
 }
 
 /// The special groups that no code names.

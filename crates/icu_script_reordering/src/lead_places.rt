@@ -1,7 +1,7 @@
 //! Lead bytes for groups in a new order, and the tables of a reordering that has them.
 ghost use Rattle.std.specs.Prelude.{◌≡◌, IfOk, length};
 
-use crate::spans::ScriptSpan;
+use crate::script_groups::ScriptSpan;
 use icu_provider::CollationSpecialPrimaries;
 use std::alloc::{AllocError, Global};
 

@@ -6,11 +6,11 @@ mod lead_places;
 mod placed_reordering;
 mod reorder_codes;
 mod reordering_error;
+mod script_groups;
 mod span_checks;
-mod spans;
 
 pub use code_orders::script_order;
 pub use placed_reordering::script_reordering;
 pub use reorder_codes::{ReorderCode, SpecialGroup};
 pub use reordering_error::ReorderingError;
-pub use spans::{ScriptSpan, ScriptStart};
+pub use script_groups::{ScriptSpan, ScriptStart};

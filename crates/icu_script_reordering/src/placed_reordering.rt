@@ -6,8 +6,8 @@ ghost use Rattle.icu_script_reordering.specs.ScriptOrders.{IsErrorOfPlaces};
 
 use crate::lead_places::{lead_table, placed_spans, range_table};
 use crate::reordering_error::ReorderingError;
+use crate::script_groups::ScriptSpan;
 use crate::span_checks::puts_in_order;
-use crate::spans::ScriptSpan;
 use icu_provider::{CollationReordering, CollationSpecialPrimaries, OwnedReordering};
 use std::alloc::{AllocError, Global};
 
@@ -33,8 +33,8 @@ fn reordering_of_places(
 }
 
 /// A reordering that puts groups in this order, whatever it was in the root: the weights of each stay in their order,
-/// and come behind those of the groups before it. Each group moves by whole lead bytes. Two share a lead byte only where
-/// both compress, or none of them does. Refuses with `NoLeads` where lead bytes don't suffice.
+/// and come behind those of the groups before it. Each group moves by whole lead bytes. Two share a lead byte only
+/// where both compress, or none of them does. Refuses with `NoLeads` where lead bytes don't suffice.
 pub fn script_reordering(
     alloc: Global,
     special: CollationSpecialPrimaries<'_>,

@@ -5,7 +5,7 @@ ghost use Rattle.icu_weights.specs.Leads.{TakesBlock};
 ghost use Rattle.icu_script_reordering.specs.ReorderedSpans.{IsReorderedBy};
 ghost use Rattle.icu_script_reordering.specs.inner.CarriedSpans.{CarriesTo, IsCarried};
 
-use crate::spans::ScriptSpan;
+use crate::script_groups::ScriptSpan;
 use icu_provider::CollationReordering;
 use icu_weights::leads::reordered_lead;
 

@@ -51,7 +51,11 @@ fn checked_mini(alloc: Global) -> Result<CheckedTables, Fail> {
 }
 
 /// A collator by a text of rules.
-pub(crate) fn collator_by_text(alloc: Global, root: &CheckedRoot<'_>, text: &str) -> Result<Collator, Fail> {
+pub(crate) fn collator_by_text(
+    alloc: Global,
+    root: &CheckedRoot<'_>,
+    text: &str,
+) -> Result<Collator, Fail> {
     let tailoring = Tailoring::from_text(alloc, root, text)?;
     Ok(Collator::try_new_unstable(
         alloc,

@@ -21,9 +21,15 @@ const ORDERS: [(&str, &str); 11] = [
     ("[reorder digit Grek]", "- < 4 < α < β < a < b < а"),
     ("[reorder others Latn]", "- < 4 < α < β < а < б < 一 < a < b"),
     ("[reorder others digit]", "- < a < α < а < 一 < 4"),
-    ("[reorder Cyrl others punct]", "4 < а < б < a < b < α < 一 < -"),
+    (
+        "[reorder Cyrl others punct]",
+        "4 < а < б < a < b < α < 一 < -",
+    ),
     ("[reorder Grek] &α<x", "- < 4 < α < x < β < a < b < а"),
-    ("[reorder Grek] &9<x<y", "- < 4 < 9 < x < y < α < β < a < b < а"),
+    (
+        "[reorder Grek] &9<x<y",
+        "- < 4 < 9 < x < y < α < β < a < b < а",
+    ),
     ("[reorder Grek] [reorder Cyrl]", "- < 4 < а < б < a < b < α"),
     ("[reorder Zzzz]", "- < 4 < a < b < α < β < а < б < 一"),
 ];
@@ -110,7 +116,11 @@ fn refused_reorderings(rt: HostRuntime) -> Result<(), Fail> {
         ("&a<x [reorder xxxx]", 5, ReorderingError::UnknownGroup),
         ("[reorder Grek Grek]", 0, ReorderingError::RepeatedGroup),
         ("[reorder others Zzzz]", 0, ReorderingError::RepeatedGroup),
-        ("[reorder Hani] [reorder digit digit]", 15, ReorderingError::RepeatedGroup),
+        (
+            "[reorder Hani] [reorder digit digit]",
+            15,
+            ReorderingError::RepeatedGroup,
+        ),
     ] {
         let wanted = refused(place, RuleRefusal::Unreordered(error));
         let found = Tailoring::from_text(rt.alloc(), &root, text).err();

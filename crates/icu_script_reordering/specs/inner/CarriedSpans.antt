@@ -2,8 +2,8 @@
 use Rattle.std.specs.Prelude.{ℕ, ◌+◌, ◌-◌, ◌/◌, ◌<◌, ◌≤◌, List, slice_index_or}
 use Rattle.icu_provider.specs.Reorderings.{Reordering, reordered}
 use Rattle.icu_weights.specs.Leads.{TakesBlock}
-use Rattle.icu_script_reordering.specs.declared.spans.ScriptSpan.{ScriptSpan}
-use Rattle.icu_script_reordering.specs.ReorderedSpans.{IsInSpan, KeepsOrder, PutsBefore}
+use Rattle.icu_script_reordering.specs.declared.script_groups.ScriptSpan.{ScriptSpan}
+use Rattle.icu_script_reordering.specs.ReorderedSpans.{IsInSpan, KeepsWeightOrder, PutsBefore}
 
 -- the blocks from the first one on and below a limit come to leads as far apart as they were, the first to this one
 abbrev pub CarriesUpTo : Reordering → ScriptSpan → ℕ → ℕ → Type 0
@@ -15,7 +15,7 @@ CarriesTo r s to = CarriesUpTo r s to s.end
 
 -- the weights of a group stay in their order, and come between two weights
 pub record IsCarried (r : Reordering) (s : ScriptSpan) (above next : ℕ) : Type 0 where
-  pub kept : KeepsOrder r s
+  pub kept : KeepsWeightOrder r s
   pub from : (p : ℕ) → IsInSpan s p → above ≤ reordered r p
   pub below : (p : ℕ) → IsInSpan s p → reordered r p < next
   pub ascends : above ≤ next
@@ -23,7 +23,7 @@ pub record IsCarried (r : Reordering) (s : ScriptSpan) (above next : ℕ) : Type
 
 -- so many of groups are put in their order, below a weight
 pub record IsReorderedTo (order : List ScriptSpan) (r : Reordering) (count above : ℕ) : Type 0 where
-  pub kept : (i : ℕ) → i < count → (d : ScriptSpan) → KeepsOrder r (slice_index_or order i d)
+  pub kept : (i : ℕ) → i < count → (d : ScriptSpan) → KeepsWeightOrder r (slice_index_or order i d)
   pub from : (i : ℕ) → i < count → (d : ScriptSpan) → (p : ℕ) → IsInSpan (slice_index_or order i d) p → 0x3000000 ≤ reordered r p
   pub below : (i : ℕ) → i < count → (d : ScriptSpan) → (p : ℕ) → IsInSpan (slice_index_or order i d) p → reordered r p < above
   pub apart : (j : ℕ) → j < count → (i : ℕ) → i < j → (d : ScriptSpan) → PutsBefore r (slice_index_or order i d) (slice_index_or order j d)
