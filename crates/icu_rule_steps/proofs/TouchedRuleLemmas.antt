@@ -138,10 +138,10 @@ module _ {R : Type 0} where
   pub touched_all : (old now : Mappings R) (rules rest : List Rule) → rest ≡ [] → IsTouchedBy old rules now rest → TouchesByRules rules old now
   touched_all old now rules rest e to =
       let end = touched_end (λ c. touched_in old c || is_related rules c) (suppressed_in old ++ suppressed_by rules) (root_of old) now rest e to in
-      record { touched = end.0; suppressed = end.1; over = to.over; }
+      record { touched = end.0; suppressed = end.1; over = to.over }
 
   pub touched_whole : (rules rest : List Rule) (root : R) (now : Mappings R) → rest ≡ []
       → IsTouchedTo (is_related rules) (suppressed_by rules) root now rest → HasTouched root rules now
   touched_whole rules rest root now e to =
       let end = touched_end (is_related rules) (suppressed_by rules) root now rest e to in
-      record { over = to.over; touched = end.0; suppressed = end.1; }
+      record { over = to.over; touched = end.0; suppressed = end.1 }

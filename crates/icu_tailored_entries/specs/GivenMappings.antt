@@ -14,7 +14,8 @@ use Rattle.icu_tailoring.specs.TailoredMappings.{SymbolicMapping, beginnings, ha
 use Rattle.icu_tailoring.specs.TailoredRoots.{RootMapping}
 use Rattle.icu_tailoring_numbers.specs.NumberedElements.{numbered_element}
 use Rattle.icu_tailoring_numbers.specs.declared.tailoring_numbers.TailoringNumbers.{TailoringNumbers}
-use Rattle.icu_symbolic_mappings.specs.KeptMappings.{mappings_in, untouched_mappings}
+use Rattle.icu_symbolic_mappings.specs.KeptMappings.{mappings_in}
+use Rattle.icu_symbolic_mappings.specs.TouchedCharacters.{has_own_mappings}
 use Rattle.icu_symbolic_mappings.specs.declared.kept_mappings.Mappings.{Mappings}
 
 -- the elements that a table has for some: those, or, for none, one without weights
@@ -44,9 +45,8 @@ GivesMappings t d c mappings e = (before after : List ℕ) (m : SymbolicMapping)
     → mapping_with (mappings_behind mappings (beginnings before)) after ≡ Some m
     → (f : ℕ) × IsMappingEntry t d c m f × Gives d e before after f
 
--- The root's entry stands for a character, or its entry gives the mappings that it has, or would have if no relation
--- touched it.
+-- The entry of a character that has mappings of its own gives these. For each other one the root's entry stands.
 abbrev pub TailorsCharacter : {R : Type 0} → (R → ℕ → List RootMapping) → TailoringNumbers → Mappings R → Data → ℕ → Type 0
 TailorsCharacter mappings_of t m d c =
-    (d.value c ≡ fallback_entry) ⊎ (GivesMappings t d c (mappings_in mappings_of m c) (d.value c)
-    ⊎ GivesMappings t d c (untouched_mappings mappings_of m c) (d.value c))
+    MatchBool (has_own_mappings mappings_of m c) (GivesMappings t d c (mappings_in mappings_of m c) (d.value c))
+    (d.value c ≡ fallback_entry)

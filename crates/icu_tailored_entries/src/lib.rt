@@ -5,6 +5,7 @@ mod contexts;
 mod elements;
 pub mod error;
 pub mod kept_diacritics;
+mod merged_ranges;
 pub mod tailored_lists;
 
 pub use error::TailoredEntriesError;

@@ -1,13 +1,16 @@
 //! The lists of a tailoring.
-ghost use Rattle.std.specs.Prelude.{◌<◌, ℕ, IfOk, OnOk};
+ghost use Rattle.std.specs.Prelude.{◌≡◌, ◌==◌, ◌<◌, ◌&&◌, ℕ, nat_le, nat_lt, false, true, IfOk, OnOk, MatchOption};
 ghost use Rattle.icu_collation_data.specs.CodePointTables.{code_point_count};
 ghost use Rattle.icu_table_builder.specs.Building.{built_data};
 ghost use Rattle.icu_table_builder.specs.OwnedData.{vectors_data};
 ghost use Rattle.icu_tailored_entries.specs.GivenMappings.{TailorsCharacter};
-ghost use Rattle.icu_tailored_entries.specs.inner.MappingEntries.{KeepsTailoring};
+ghost use Rattle.icu_tailoring.specs.Rules.{have_character, is_scalar};
+ghost use Rattle.icu_symbolic_mappings.specs.TouchedCharacters.{suppressed_in, touched_in};
+ghost use Rattle.icu_tailored_entries.specs.inner.TailoredSets.{TailorsMore, loses_contexts, may_lose_contexts};
 
 use crate::contexts::{EntrySources, entry_of_mappings};
 use crate::error::TailoredEntriesError;
+use crate::merged_ranges::merged_ranges;
 use icu_entries::CollationElement32;
 use icu_mapping_entries::CONTEXT_STEPS;
 use icu_symbolic_mappings::{Mappings, RootMappings};
@@ -24,14 +27,55 @@ fn set_touched<R: RootMappings>(
     sources: EntrySources<'_>,
     mappings: &Mappings<'_, R>,
 ) -> Result<(), TailoredEntriesError>
-    ensures { OnOk result (KeepsTailoring R.mappings_of sources.entry.numbers.now mappings.now
-        (built_data builder.old) (built_data builder.new)) }
+    ensures { OnOk result (TailorsMore R.mappings_of sources.entry.numbers.now mappings.now
+        (touched_in mappings.now) (built_data builder.old) (built_data builder.new)) }
 {
     for touched in &mappings.touched_characters(alloc)? {
         let c = touched.character;
         let entry = entry_of_mappings(alloc, left, builder, sources, c, touched.mappings)?;
         builder.set_entry(c, entry);
     }
+    Ok(())
+}
+
+/// The character of a code, if it is one.
+fn character_of(code: u32) -> Option<char>
+    ensures { MatchOption result (code < code_point_count → is_scalar code ≡ false)
+        (λ c. (c ≡ code) × (is_scalar code ≡ true)) }
+{
+    char::from_u32(code)
+}
+
+/// Whether a character is one that no relation touched, and for which the root has contexts.
+fn may_lose_contexts<R: RootMappings>(
+    alloc: Global,
+    mappings: &Mappings<'_, R>,
+    c: char,
+) -> Result<bool, TailoredEntriesError>
+    ensures { IfOk result (λ b. b ≡ may_lose_contexts R.mappings_of mappings.now c) }
+{
+    if mappings.is_touched(c) {
+        return Ok(false);
+    }
+    Ok(mappings.has_root_context(alloc, c)?)
+}
+
+/// Gives a character that no relation touched the entry of its mappings.
+fn set_untouched<R: RootMappings>(
+    alloc: Global,
+    left: &mut u64,
+    builder: &mut DataBuilder,
+    sources: EntrySources<'_>,
+    mappings: &Mappings<'_, R>,
+    c: char,
+) -> Result<(), TailoredEntriesError>
+    requires { touched_in mappings.now c ≡ false }
+    ensures { OnOk result (TailorsMore R.mappings_of sources.entry.numbers.now mappings.now
+        (λ x. c == x) (built_data builder.old) (built_data builder.new)) }
+{
+    let own = mappings.untouched(alloc, c)?;
+    let entry = entry_of_mappings(alloc, left, builder, sources, c, own.as_slice())?;
+    builder.set_entry(c, entry);
     Ok(())
 }
 
@@ -42,22 +86,20 @@ fn suppress<R: RootMappings>(
     left: &mut u64,
     builder: &mut DataBuilder,
     sources: EntrySources<'_>,
-    root: &R,
     mappings: &Mappings<'_, R>,
     code: u32,
 ) -> Result<(), TailoredEntriesError>
-    ensures { OnOk result (KeepsTailoring R.mappings_of sources.entry.numbers.now mappings.now
+    ensures { OnOk result (TailorsMore R.mappings_of sources.entry.numbers.now mappings.now
+        (λ x. code == x && loses_contexts R.mappings_of mappings.now x)
         (built_data builder.old) (built_data builder.new)) }
 {
-    let Some(c) = char::from_u32(code) else {
+    let Some(c) = character_of(code) else {
         return Ok(());
     };
-    if mappings.is_touched(c) || root.mappings(alloc, c)?.len() < 2 {
+    if !may_lose_contexts(alloc, mappings, c)? {
         return Ok(());
     }
-    let own = mappings.untouched(alloc, c)?;
-    let entry = entry_of_mappings(alloc, left, builder, sources, c, own.as_slice())?;
-    builder.set_entry(c, entry);
+    set_untouched(alloc, left, builder, sources, mappings, c)?;
     Ok(())
 }
 
@@ -67,16 +109,16 @@ fn suppress_from<R: RootMappings>(
     left: &mut u64,
     builder: &mut DataBuilder,
     sources: EntrySources<'_>,
-    root: &R,
     mappings: &Mappings<'_, R>,
     first: u32,
     end: u32,
 ) -> Result<(), TailoredEntriesError>
-    ensures { OnOk result (KeepsTailoring R.mappings_of sources.entry.numbers.now mappings.now
+    ensures { OnOk result (TailorsMore R.mappings_of sources.entry.numbers.now mappings.now
+        (λ x. (nat_le first x && nat_lt x end) && loses_contexts R.mappings_of mappings.now x)
         (built_data builder.old) (built_data builder.new)) }
 {
     for code in first..end {
-        suppress(alloc, left, builder, sources, root, mappings, code)?;
+        suppress(alloc, left, builder, sources, mappings, code)?;
     }
     Ok(())
 }
@@ -88,29 +130,27 @@ fn set_suppressed<R: RootMappings>(
     left: &mut u64,
     builder: &mut DataBuilder,
     sources: EntrySources<'_>,
-    root: &R,
     mappings: &Mappings<'_, R>,
 ) -> Result<(), TailoredEntriesError>
-    ensures { OnOk result (KeepsTailoring R.mappings_of sources.entry.numbers.now mappings.now
+    ensures { OnOk result (TailorsMore R.mappings_of sources.entry.numbers.now mappings.now
+        (λ x. have_character (suppressed_in mappings.now) x
+        && loses_contexts R.mappings_of mappings.now x)
         (built_data builder.old) (built_data builder.new)) }
 {
-    let mut ranges = Vec::from_slice(alloc, mappings.suppressed())?;
-    ranges.sort_by_key(|range| range.first)?;
-    let mut next = 0;
-    for range in &ranges {
-        let first = next.max(range.first as u32);
-        let end = range.last as u32 + 1;
-        suppress_from(alloc, left, builder, sources, root, mappings, first, end)?;
-        next = next.max(end);
+    for range in &merged_ranges(alloc, mappings.suppressed())? {
+        let first = u32::from(range.first);
+        let end = u32::from(range.last) + 1;
+        suppress_from(alloc, left, builder, sources, mappings, first, end)?;
     }
     Ok(())
 }
 
-/// The lists of a tailoring: an entry for each character that rules touched, in place of all that the root has for it,
-/// and the root's entries for all others.
+/// The lists of a tailoring: an entry for each character that has mappings of its own, since a relation touched it or
+/// it lost contexts, in place of all that the root has for it, and the root's entries for all others. The root is that
+/// of the mappings.
 pub fn tailored_data<R: RootMappings>(
     alloc: Global,
-    root: &R,
+    _root: &R,
     numbers: &TailoringNumbers,
     mappings: &Mappings<'_, R>,
 ) -> Result<DataVectors, TailoredEntriesError>
@@ -125,6 +165,6 @@ pub fn tailored_data<R: RootMappings>(
     let mut left = CONTEXT_STEPS;
     let mut builder = DataBuilder::new(alloc, CollationElement32::fallback())?;
     set_touched(alloc, &mut left, &mut builder, sources, mappings)?;
-    set_suppressed(alloc, &mut left, &mut builder, sources, root, mappings)?;
+    set_suppressed(alloc, &mut left, &mut builder, sources, mappings)?;
     Ok(builder.build()?)
 }

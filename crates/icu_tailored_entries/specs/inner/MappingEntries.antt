@@ -4,9 +4,7 @@ use Rattle.icu_collation_data.specs.Data.{Data}
 use Rattle.icu_mapping_entries.specs.Surroundings.{PutsEntryBetween, Surroundings, entry_between}
 use Rattle.icu_tailoring.specs.TailoredMappings.{SymbolicMapping, mapping_with, stands_after_prefix}
 use Rattle.icu_tailoring_numbers.specs.declared.tailoring_numbers.TailoringNumbers.{TailoringNumbers}
-use Rattle.icu_tailoring.specs.TailoredRoots.{RootMapping}
-use Rattle.icu_symbolic_mappings.specs.declared.kept_mappings.Mappings.{Mappings}
-use Rattle.icu_tailored_entries.specs.GivenMappings.{IsMappingEntry, TailorsCharacter}
+use Rattle.icu_tailored_entries.specs.GivenMappings.{IsMappingEntry}
 
 -- there is a mapping and its entry, or neither
 abbrev pub IsEntryOfMaybe : TailoringNumbers → Data → ℕ → Option SymbolicMapping → Option ℕ → Type 0
@@ -31,7 +29,3 @@ pub record PutsEntryOf (t : TailoringNumbers) (d : Data) (c : ℕ) (m : Symbolic
   pub entry : ℕ
   pub is_entry : IsMappingEntry t d c m entry
   pub puts : PutsEntryBetween old new m.prefix m.suffix entry
-
--- characters that have entries of their mappings, or none of their own, still do
-abbrev pub KeepsTailoring : {R : Type 0} → (R → ℕ → List RootMapping) → TailoringNumbers → Mappings R → Data → Data → Type 0
-KeepsTailoring mappings_of t m old new = ((c : ℕ) → TailorsCharacter mappings_of t m old c) → (c : ℕ) → TailorsCharacter mappings_of t m new c

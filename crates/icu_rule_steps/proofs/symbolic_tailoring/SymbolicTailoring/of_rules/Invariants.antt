@@ -9,9 +9,9 @@ use Rattle.icu_rule_steps.proofs.symbolic_tailoring.SymbolicTailoring.of_rules.G
 abbrev pub invariant-loop-placed : goal.invariant-loop-placed
 invariant-loop-placed g l = record {
   read :
-    IsPlacedTo (root_in g.R.RootWeights.root g.R.RootMappings.mappings_of l.root) l.placed-items
-    (state_in g.R.RootMappings.mappings_of l.tailoring) (drop l.placed-index l.placed-items);
+      IsPlacedTo (root_in g.R.RootWeights.root g.R.RootMappings.mappings_of l.root) l.placed-items
+      (state_in g.R.RootMappings.mappings_of l.tailoring) (drop l.placed-index l.placed-items);
   touched :
-    IsTouchedTo (is_related (rules_of l.placed-items)) (suppressed_by (rules_of l.placed-items)) l.root (kept_mappings l.tailoring)
-    (rules_of (drop l.placed-index l.placed-items));
+      IsTouchedTo (is_related (rules_of l.placed-items)) (suppressed_by (rules_of l.placed-items)) l.root (kept_mappings l.tailoring)
+      (rules_of (drop l.placed-index l.placed-items));
 }

@@ -9,11 +9,11 @@ use Rattle.icu_rule_steps.proofs.symbolic_tailoring.SymbolicTailoring.read_starr
 abbrev pub invariant-loop-range : goal.invariant-loop-range
 invariant-loop-range g l = record {
   read :
-    IsReadTo (root_in g.R.RootWeights.root g.R.RootMappings.mappings_of l.root)
-    (state_in g.R.RootMappings.mappings_of l.initial.self) (starred_rules l.said)
-    (state_in g.R.RootMappings.mappings_of l.self)
-    (map (lone_relation l.said.strength) (flat_map characters_of (drop l.range-index l.range-items)));
+      IsReadTo (root_in g.R.RootWeights.root g.R.RootMappings.mappings_of l.root)
+      (state_in g.R.RootMappings.mappings_of l.initial.self) (starred_rules l.said)
+      (state_in g.R.RootMappings.mappings_of l.self)
+      (map (lone_relation l.said.strength) (flat_map characters_of (drop l.range-index l.range-items)));
   touched :
-    IsTouchedBy (kept_mappings l.initial.self) (starred_rules l.said) (kept_mappings l.self)
-    (map (lone_relation l.said.strength) (flat_map characters_of (drop l.range-index l.range-items)));
+      IsTouchedBy (kept_mappings l.initial.self) (starred_rules l.said) (kept_mappings l.self)
+      (map (lone_relation l.said.strength) (flat_map characters_of (drop l.range-index l.range-items)));
 }

@@ -1,5 +1,5 @@
 -- Each character of the range is related in turn.
-use Rattle.std.proofs.Common.{◌≡◌, ◌+◌, ◌||◌, ◌++◌, ℕ, Bool, List, map, ap, refl}
+use Rattle.std.proofs.Common.{◌+◌, ◌||◌, ◌++◌, ℕ, Bool, List, map, ap, refl}
 use Rattle.icu_tailoring.specs.Rules.{Rule, characters_of, lone_relation}
 use Rattle.icu_tailoring.specs.TailoredRoots.{Root}
 use Rattle.icu_tailoring.specs.Steps.{TailoringState}
@@ -44,23 +44,23 @@ loop-code-preserved g c =
     let all : List CharacterRange = suppressed_in (kept_mappings c.args.self.now) ++ suppressed_by rules in
     record {
       read = elim c.match-scalar_of.branch [
-      | in-Some+in_ok-relate w ↦
-          let read = read_one root old now (state_in mappings_of w.relate.new.self) rules rest rest' (lone_relation c.args.strength w.in-Some.c)
-          (scalar_next c.args.strength code end w.in-Some.c c.loop-code-test.true w.in-Some.ensures.1 w.in-Some.ensures.0)
-          c.loop-code.invariant.read w.in_ok-relate.ensures.ok in
-          read_same root old (state_in mappings_of w.relate.new.self) next rules rest' rest' refl (ap (state_in mappings_of) w.self-is) read
-      | in_default w ↦
-          read_same root old now next rules rest rest'
-          (scalar_none c.args.strength code end c.loop-code-test.true w.in_default.ensures) (ap (state_in mappings_of) w.self-is) c.loop-code.invariant.read
+        | in-Some+in_ok-relate w ↦
+            let read = read_one root old now (state_in mappings_of w.relate.new.self) rules rest rest' (lone_relation c.args.strength w.in-Some.c)
+            (scalar_next c.args.strength code end w.in-Some.c c.loop-code-test.true w.in-Some.ensures.1 w.in-Some.ensures.0)
+            c.loop-code.invariant.read w.in_ok-relate.ensures.ok in
+            read_same root old (state_in mappings_of w.relate.new.self) next rules rest' rest' refl (ap (state_in mappings_of) w.self-is) read
+        | in_default w ↦
+            read_same root old now next rules rest rest'
+            (scalar_none c.args.strength code end c.loop-code-test.true w.in_default.ensures) (ap (state_in mappings_of) w.self-is) c.loop-code.invariant.read
       ];
       touched = elim c.match-scalar_of.branch [
-      | in-Some+in_ok-relate w ↦
-          let touched = touched_one whole all (root_of (kept_mappings c.args.self.now)) (kept_mappings c.loop-code.self) (kept_mappings w.relate.new.self) rest rest' (lone_relation c.args.strength w.in-Some.c)
-          (scalar_next c.args.strength code end w.in-Some.c c.loop-code-test.true w.in-Some.ensures.1 w.in-Some.ensures.0)
-          c.loop-code.invariant.touched w.in_ok-relate.ensures.touched in
-          touched_same whole all (root_of (kept_mappings c.args.self.now)) (kept_mappings w.relate.new.self) (kept_mappings c.match-scalar_of.self) rest' rest' refl (ap kept_mappings w.self-is) touched
-      | in_default w ↦
-          touched_same whole all (root_of (kept_mappings c.args.self.now)) (kept_mappings c.loop-code.self) (kept_mappings c.match-scalar_of.self) rest rest'
-          (scalar_none c.args.strength code end c.loop-code-test.true w.in_default.ensures) (ap kept_mappings w.self-is) c.loop-code.invariant.touched
+        | in-Some+in_ok-relate w ↦
+            let touched = touched_one whole all (root_of (kept_mappings c.args.self.now)) (kept_mappings c.loop-code.self) (kept_mappings w.relate.new.self) rest rest' (lone_relation c.args.strength w.in-Some.c)
+            (scalar_next c.args.strength code end w.in-Some.c c.loop-code-test.true w.in-Some.ensures.1 w.in-Some.ensures.0)
+            c.loop-code.invariant.touched w.in_ok-relate.ensures.touched in
+            touched_same whole all (root_of (kept_mappings c.args.self.now)) (kept_mappings w.relate.new.self) (kept_mappings c.match-scalar_of.self) rest' rest' refl (ap kept_mappings w.self-is) touched
+        | in_default w ↦
+            touched_same whole all (root_of (kept_mappings c.args.self.now)) (kept_mappings c.loop-code.self) (kept_mappings c.match-scalar_of.self) rest rest'
+            (scalar_none c.args.strength code end c.loop-code-test.true w.in_default.ensures) (ap kept_mappings w.self-is) c.loop-code.invariant.touched
       ];
     }

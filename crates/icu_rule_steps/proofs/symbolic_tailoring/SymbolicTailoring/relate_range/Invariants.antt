@@ -10,11 +10,11 @@ use Rattle.icu_rule_steps.proofs.symbolic_tailoring.SymbolicTailoring.relate_ran
 abbrev pub invariant-loop-code : goal.invariant-loop-code
 invariant-loop-code g l = record {
   read :
-    IsReadTo (root_in g.R.RootWeights.root g.R.RootMappings.mappings_of l.root)
-    (state_in g.R.RootMappings.mappings_of l.initial.self) (map (lone_relation l.strength) (characters_of l.fn.range))
-    (state_in g.R.RootMappings.mappings_of l.self)
-    (map (lone_relation l.strength) (filter is_scalar (range_with_len l.code (l.code-end - l.code))));
+      IsReadTo (root_in g.R.RootWeights.root g.R.RootMappings.mappings_of l.root)
+      (state_in g.R.RootMappings.mappings_of l.initial.self) (map (lone_relation l.strength) (characters_of l.fn.range))
+      (state_in g.R.RootMappings.mappings_of l.self)
+      (map (lone_relation l.strength) (filter is_scalar (range_with_len l.code (l.code-end - l.code))));
   touched :
-    IsTouchedBy (kept_mappings l.initial.self) (map (lone_relation l.strength) (characters_of l.fn.range)) (kept_mappings l.self)
-    (map (lone_relation l.strength) (filter is_scalar (range_with_len l.code (l.code-end - l.code))));
+      IsTouchedBy (kept_mappings l.initial.self) (map (lone_relation l.strength) (characters_of l.fn.range)) (kept_mappings l.self)
+      (map (lone_relation l.strength) (filter is_scalar (range_with_len l.code (l.code-end - l.code))));
 }
