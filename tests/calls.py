@@ -76,6 +76,8 @@ LEFT_OUT = {
     ("icu_indexed_text", "offset_marks"): SEARCHES,
     ("icu_indexed_text", "utf8_copy"): SEARCHES,
     ("icu_indexed_text", "word_bounds"): SEARCHES,
+    ("icu_store", "PrintedCollator::from_checked_tables"): NOTHING,
+    ("icu_store", "written_settings"): NOTHING,
     ("icu_rule_steps", "SymbolicTailoring::maker_of"): TAILORINGS,
     ("icu_rule_steps", "SymbolicTailoring::of_rules"): RULES,
     ("icu_rule_tables", "Tailoring::from_rules"): TAILORINGS,

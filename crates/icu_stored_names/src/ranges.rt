@@ -5,7 +5,7 @@ ghost use Rattle.sqlite.specs.Given.{HasBegun};
 ghost use Rattle.sqlite.specs.Held.{state};
 ghost use Rattle.sqlite.specs.State.{CommitsShowing, HasCleanDisk, Shown, Survives};
 ghost use Rattle.sqlite.specs.declared.types.Value.TheVariants.{Blob, Int};
-ghost use Rattle.icu_stored_names.specs.StatementTexts.{after_text, all_text, behind_text, between_text};
+ghost use Rattle.icu_stored_names.specs.StatementTexts.{after_text, all_text, behind_text, between_text, bytes_given, range_parameters, range_text};
 
 use sqlite::{Alter, Connection, Error, Row, Rows, Transaction, params};
 
@@ -48,6 +48,24 @@ pub fn names_behind<'c, S: Alter>(
         "SELECT id, name, payload FROM icu_names WHERE key >= ?1 ORDER BY key, id",
         params![lower],
     )
+}
+
+/// The names whose keys are not less than a lower bound, and less than an upper one, if there is one, in the order of
+/// the keys.
+pub fn names_within<'c, S: Alter>(
+    connection: &'c mut Connection<S>,
+    lower: &[u8],
+    upper: Option<&[u8]>,
+) -> Result<Rows<'c, S>, Error>
+    ensures begun { IfOk result (λ rows. HasCleanDisk (state S.Store rows.conn.now)
+        → HasBegun S.Store (range_text (bytes_given upper.entry))
+        (range_parameters lower.now (bytes_given upper.entry))
+        connection.old rows.conn.now) }
+{
+    match upper {
+        Some(upper) => names_between(connection, lower, upper),
+        None => names_behind(connection, lower),
+    }
 }
 
 /// Of the names whose numbers are above one so many, as they came in.

@@ -5,8 +5,8 @@ ghost use Rattle.icu_stored_names.specs.StoredNames.{IsRowOf};
 
 use sqlite::{Error, Row};
 
-/// A name with its payload, and the number that it got when it came in: of names with equal keys the one with the lesser
-/// number came first.
+/// A name with its payload, and the number that it got when it came in: of names with equal keys the one with the
+/// lesser number came first.
 #[derive(Debug, Drop)]
 pub struct StoredName {
     /// The number.

@@ -1,0 +1,14 @@
+//! An index of names in a database of the toolchain's `sqlite`, in the order of a collator.
+#![tactic(auto)]
+
+pub mod laws;
+pub mod opening;
+pub mod printed_collator;
+pub mod setting_words;
+pub mod stored_index;
+
+pub use icu_stored_names::StoredName;
+pub use opening::{FingerprintDifference, OpenError, open, rebuild};
+pub use printed_collator::PrintedCollator;
+pub use setting_words::written_settings;
+pub use stored_index::StoredIndex;

@@ -1,0 +1,58 @@
+//! A collator together with its fingerprint.
+
+ghost use Rattle.std.specs.Prelude.{◌≡◌, IfErr, IfOk};
+ghost use Rattle.icu_checks.specs.Checked.{checked_tables};
+ghost use Rattle.icu_collator.specs.Collators.{collation_kept};
+ghost use Rattle.icu_entries.specs.declared.error.DataErrorKind.TheVariants.{NoMemory};
+ghost use Rattle.icu_fingerprint.specs.FingerprintForms.{collation_made};
+ghost use Rattle.icu_fingerprint.specs.FormLaws.{HasFingerprint};
+ghost use Rattle.icu_store.specs.Stores.{printed_collation};
+
+use icu_checks::CheckedTables;
+use icu_collator::Collator;
+use icu_entries::DataError;
+use icu_fingerprint::fingerprint;
+use icu_options::{CollatorOptions, CollatorPreferences};
+use std::alloc::Global;
+
+/// A collator, and the fingerprint of its tables and settings.
+#[derive(Debug, Drop)]
+pub struct PrintedCollator {
+    pub(crate) collator: Collator,
+    pub(crate) print: [u8; 32],
+}
+
+impl PrintedCollator {
+    /// The collator of tables that were checked together, with its fingerprint: `Collator::from_checked_tables` and
+    /// `fingerprint` in one call, over the same tables, preferences and options. `NoMemory` says that an allocation
+    /// failed.
+    pub fn from_checked_tables(
+        alloc: Global,
+        tables: CheckedTables,
+        preferences: CollatorPreferences<'_>,
+        options: CollatorOptions,
+    ) -> Result<PrintedCollator, DataError>
+        ensures collation { IfOk result (λ p. printed_collation p
+            ≡ collation_made (checked_tables tables) options preferences.entry) }
+        ensures fingerprint { IfOk result (λ p. HasFingerprint (printed_collation p) p.print) }
+        ensures memory { IfErr result (λ e. e.kind ≡ NoMemory) }
+    {
+        let print = fingerprint(&tables, preferences, options);
+        let collator = Collator::from_checked_tables(alloc, tables, preferences, options)?;
+        Ok(PrintedCollator { collator, print })
+    }
+
+    /// The collator.
+    pub fn collator(&self) -> &Collator
+        ensures { collation_kept result.now ≡ printed_collation self.now }
+    {
+        &self.collator
+    }
+
+    /// The fingerprint of the collator's tables and settings.
+    pub fn fingerprint(&self) -> &[u8]
+        ensures { result.now ≡ self.now.print }
+    {
+        self.print.as_slice()
+    }
+}
