@@ -15,7 +15,7 @@ use Rattle.icu_elements.specs.TextElements.{Step, non_numeric_reading, final_ste
 use Rattle.icu_checked_root.specs.RootEntries.{entry_elements}
 use Rattle.icu_tailoring.specs.declared.symbolic.SymbolicElement.{SymbolicElement}
 use Rattle.icu_tailoring.specs.TailoredMappings.{SymbolicMapping, SymbolicMappings, SymbolicMatch, beginnings, mappings_behind, longest_suffix, is_blocked_by, joined_marks, match_by, symbolic_match, context_behind, symbolic_along}
-use Rattle.icu_mapped_texts.specs.MappedTexts.{has_weight, weighted, context_behind_prefix, SaysMappings, IsMappedAlone, SayAllMappings, TextsAreReadByMappings}
+use Rattle.icu_mapped_texts.specs.MappedTexts.{is_weighted, weighted, context_behind_prefix, SaysMappings, IsMappedAlone, SayAllMappings, TextsAreReadByMappings}
 use Rattle.icu_mapped_texts.proofs.MappedMatchLemmas.{AreSameMatch, match_same, matches_by_context}
 
 -- a step and a symbolic match consume and leave the same, and have the same elements with weights
@@ -149,9 +149,9 @@ along_same number tables mappings says (x ∷ along) before (c ∷ text) =
     ap₂ (λ (suffix rest : List ℕ). elements_along along reading (take 2 (reverse (c ∷ suffix) ++ before)) rest)
     same.suffix same.rest in
     let rest = along_same number tables mappings says along behind m.rest in
-    filter-append has_weight s.elements (elements_along along reading (last_two before (consumed c s)) s.rest)
+    filter-append is_weighted s.elements (elements_along along reading (last_two before (consumed c s)) s.rest)
     ∙ ap₂ (λ (es fs : List Element). es ++ fs) same.elements (ap weighted further ∙ rest)
-    ∙ sym (filter-append has_weight (map number m.elements) (map number (symbolic_along along mappings behind m.rest)))
+    ∙ sym (filter-append is_weighted (map number m.elements) (map number (symbolic_along along mappings behind m.rest)))
     ∙ sym (ap weighted (map-append number m.elements (symbolic_along along mappings behind m.rest)))
 
 pub read_by_mappings : TextsAreReadByMappings

@@ -13,12 +13,12 @@ use Rattle.icu_tailoring.specs.declared.symbolic.SymbolicElement.{SymbolicElemen
 use Rattle.icu_tailoring.specs.TailoredMappings.{SymbolicMapping, SymbolicMappings, beginnings, mapping_with, mappings_behind, symbolic_elements}
 
 -- an element that has a weight
-abbrev pub has_weight : Element → Bool
-has_weight x = not (x.primary == 0 && x.secondary == 0 && x.lower == 0)
+abbrev pub is_weighted : Element → Bool
+is_weighted x = not (x.primary == 0 && x.secondary == 0 && x.lower == 0)
 
 -- elements without those that have no weight: no level reads these
 abbrev pub weighted : List Element → List Element
-weighted = filter has_weight
+weighted = filter is_weighted
 
 -- the default of a context, as a mapping without a suffix
 abbrev pub default_mapping : Context → Mapping
