@@ -128,9 +128,9 @@ module _ (reading : Reading) (c : ℕ) (context : Context) (h : BeginsContractio
 
   abbrev given : List Element
   given = elim (kind_of context.default) as (λ _. List Element) [
-      | Digit ↦ final_elements (homed home (plain_of home context.default)) c
-      | _ ↦ final_elements (homed home context.default) c
-    ]
+    | Digit ↦ final_elements (homed home (plain_of home context.default)) c
+    | _ ↦ final_elements (homed home context.default) c
+  ]
 
   abbrev step_of : List ℕ → List Element → Step
   step_of text es = record { elements = es; suffix = []; rest = text }
