@@ -102,6 +102,7 @@ LEFT_OUT = {
     ("line_commands", "first_disorder"): PROGRAM,
     ("line_commands", "keys_text"): PROGRAM,
     ("line_commands", "sorted_text"): PROGRAM,
+    ("icu_symbolic_mappings", "Mappings::has_root_context"): TAILORINGS,
     ("icu_symbolic_mappings", "Mappings::mapping_step"): RULES,
     ("icu_symbolic_mappings", "Mappings::suppression_step"): RULES,
     ("icu_symbolic_mappings", "Mappings::symbolic_elements"): RULES,

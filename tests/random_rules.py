@@ -4,7 +4,7 @@
     tests/random_rules.py [--sets N] [--seed N] [--root FILE] [--folder FOLDER]
 
 It is no part of the gate. It wants g++, libicu-dev and pkg-config. The library is built as it stands, with no proof, in a copy of the
-crates; both programs print sort keys (tests/rule_keys), whose order and level of difference are compared for all pairs of the texts
+crates, and then takes some seconds for each list; both programs print sort keys (tests/rule_keys), whose order and level of difference are compared for all pairs of the texts
 of a set. ICU4C is asked for keys, since the order of its comparisons isn't always theirs. It prints how many sets were compared, how
 many were refused by both, by ICU4C alone, and by the library alone with the reasons, and each pair that is ordered otherwise. Status
 1: some are, or ICU4C alone refuses some.
@@ -111,16 +111,27 @@ class Maker:
 
 
 def difference(first, second):
-    """The level at which two keys differ first, with a sign, or 0."""
-    levels = itertools.zip_longest(bytes.fromhex(first).split(b"\1"), bytes.fromhex(second).split(b"\1"), fillvalue=b"")
-    for number, (one, other) in enumerate(levels, 1):
+    """The level at which two keys differ first, with a sign, or 0. Each key is a list of levels."""
+    for number, (one, other) in enumerate(itertools.zip_longest(first, second, fillvalue=b""), 1):
         if one != other:
             return number if one > other else -number
     return 0
 
 
+def levels(key):
+    """The levels of a key."""
+    return bytes.fromhex(key).split(b"\1")
+
+
+def without_case(key):
+    """The levels of a key of the library but the case level, for which ICU4C writes nothing where it is off."""
+    primary, secondary, _, *others = levels(key)
+    return [primary, secondary, *others]
+
+
 def unlike_pairs(texts, ours, peers):
     """The pairs of texts that are ordered otherwise, or at another level."""
+    ours, peers = [without_case(key) for key in ours], [levels(key) for key in peers]
     for i, j in itertools.combinations(range(len(texts)), 2):
         here, there = difference(ours[i], ours[j]), difference(peers[i], peers[j])
         if here != there:
@@ -156,8 +167,9 @@ def keys_here(crate, root, lines, seconds):
     asked = os.path.join(crate, "asked.txt")
     with open(asked, "w", encoding="utf-8") as it:
         it.writelines(f"{line}\n" for line in lines)
-    words = ["rt", "try", "--seconds", str(seconds), "--data", f"FractionalUCA.txt={root}", "--data", f"rules.txt={asked}"]
-    done = subprocess.run(words, cwd=crate, capture_output=True, text=True, check=False)
+    words = ["rt", "try", "--seconds", str(seconds), "--data", f"FractionalUCA.txt={root}"]
+    with open(asked, encoding="utf-8") as it:
+        done = subprocess.run(words, cwd=crate, stdin=it, capture_output=True, text=True, check=False)
     answers = [line for line in done.stdout.split("\n") if line.startswith(("ok", "refused", "no collator"))]
     if len(answers) != len(lines):
         sys.exit(f"random_rules: {len(answers)} answers to {len(lines)} lists\n{done.stdout[-2000:]}{done.stderr[-2000:]}")
@@ -198,7 +210,7 @@ def compare(lines, ours, peers):
 
 def main():
     words = argparse.ArgumentParser()
-    words.add_argument("--sets", type=int, default=1000)
+    words.add_argument("--sets", type=int, default=20)
     words.add_argument("--seed", type=int, default=1)
     words.add_argument("--root", default=ROOT)
     words.add_argument("--folder", default="/tmp/random-rules")
