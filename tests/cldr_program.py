@@ -3,6 +3,7 @@ place, pairs that are out of order, and each request refused."""
 import concurrent.futures
 import os
 
+from cldr_locales import FOLDER, check_locales
 from sweeps import REQUESTS, TOP, Run, built, faults_of, losses_missed, run, run_on_streams, says_refusals, sweep, wrapped
 
 LETTERS = os.path.join(TOP, "crates", "collate_cldr", "data", "letters.txt")
@@ -72,13 +73,9 @@ RUNS = [
     (over("sort", "3", "absent"), NAMES, 3, b"", b"absent: not opened\n"),
     (over("sort", "3", "/"), NAMES, 3, b"", b"/: read failed\n"),
     (over("sort", "3", "-o", "/none/out"), NAMES, 3, b"", b"/none/out.collate-cldr-unfinished: not created\n"),
-    (["compare", "--root", LETTERS, "-l", "und-u-ks-level1", "as", "às"], b"", 0, b"=\n", b""),
-    (["compare", "--root", LETTERS, "-l", "und-u-ks-level1", "--strength=2", "as", "às"], b"", 1, b"<\n", b""),
-    (["compare", "--root", LETTERS, "-l", "und-u-kn", "10", "9"], b"", 1, b">\n", b""),
-    (["compare", "--root", LETTERS, "-l", "und-u-kb", "a", "b"], b"", 3, b"",
-     b"collate-cldr: locale und-u-kb: kb: the secondary level isn't compared from its end yet\n"),
-    (["compare", "--root", LETTERS, "-l", "und-u-kr-latn", "a", "b"], b"", 3, b"",
-     b"collate-cldr: locale und-u-kr-latn: kr: scripts aren't reordered yet\n"),
+    (["compare", "--cldr", FOLDER, "-l", "und-u-ks-level1", "as", "às"], b"", 0, b"=\n", b""),
+    (["compare", "--cldr", FOLDER, "-l", "und-u-ks-level1", "--strength=2", "as", "às"], b"", 1, b"<\n", b""),
+    (["compare", "--cldr", FOLDER, "-l", "und-u-kn", "10", "9"], b"", 1, b">\n", b""),
     ([], b"", 2, b"", b"collate-cldr: no command; --help says which there are\n"),
 ]
 # Wrong words, and the one that is said to be wrong.
@@ -404,6 +401,7 @@ def check_collate_cldr(report, room, shim):
     folder = os.path.join(room, "files")
     os.mkdir(folder)
     report.say("collate-cldr: files", wrong_files(program, folder), 4)
+    check_locales(report, folder, program)
     report.say("collate-cldr: options of which both matter", wrong_options(program, PAIRS), 5 * len(PAIRS))
     report.say("collate-cldr: options of which the last counts", wrong_options(program, LAST), 4 * len(LAST))
     report.say("collate-cldr: pairs out of order", wrong_counts(program), len(DISORDER))

@@ -110,7 +110,7 @@ def run_on_a_file(command, given, env, kept_open):
 
 def run_on_streams(program, words, redirections):
     """Runs a program with streams that the shell closes or sends elsewhere, as `>&-` or `>/dev/full`."""
-    ran = ended(["sh", "-c", f'exec "$@" {redirections}', "sh", program, *words], stdin=subprocess.DEVNULL)
+    ran = ended(["sh", "-c", f'exec "$@" {redirections}', "sh", program, *words], stdin=subprocess.DEVNULL, env=ENVIRONMENT)
     return Run(ran.returncode, ran.stdout, ran.stderr, None)
 
 

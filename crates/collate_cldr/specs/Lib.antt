@@ -1,3 +1,4 @@
 pub mod Files
 pub mod Neighbours
 pub mod KeyedTexts
+pub mod RuledCollators

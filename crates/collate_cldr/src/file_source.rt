@@ -101,7 +101,7 @@ pub(crate) fn root_collator(
 }
 
 /// What an error of tables comes to.
-fn error_of(alloc: Global, file: &str, error: DataError) -> ProgramError
+pub(crate) fn error_of(alloc: Global, file: &str, error: DataError) -> ProgramError
     ensures { IsCollatorError (IsLineOf file.now) result }
 {
     match error.kind {

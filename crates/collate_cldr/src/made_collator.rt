@@ -4,11 +4,13 @@ ghost use Rattle.std.specs.Prelude.{IfOk};
 ghost use Rattle.icu_checks.specs.WellFormedTables.{IsWellFormedTables};
 ghost use Rattle.icu_collator.specs.Collators.{collation_kept, tables_kept};
 
+use crate::asked_locale::{AskedLocale, asked_locale};
+use crate::asked_rules::{LocaleRules, rules_of};
 use crate::choice::Chosen;
 use crate::data_place::{cldr_folder, root_file};
 use crate::file_source::{read_file, root_collator};
-use crate::locale::locale_settings;
 use crate::named_settings::{chosen_by, strength_of};
+use crate::tailored_collator::tailored_collator;
 use clap::ArgMatches;
 use collate_commands::ProgramError;
 use icu_collator::Collator;
@@ -29,34 +31,57 @@ fn with_tag(chosen: Chosen, settings: TagSettings) -> Chosen {
     }
 }
 
-/// The settings and the strength that words ask for: tertiary where none is said.
-fn settings_by<R: Files + Env + AllocGlobal>(
+/// The collator by the tables of the root's file, and by rules where there are any, with the chosen settings.
+fn collator_by<R: Files + Env + AllocGlobal>(
     rt: &R,
     matches: &ArgMatches<'_>,
-) -> Result<(Chosen, Strength), ProgramError> {
-    let chosen = chosen_by(matches);
-    let strength = strength_of(matches);
-    let Some(word) = matches.get_str("locale") else {
-        return Ok((chosen, strength.unwrap_or(Strength::Tertiary)));
-    };
-    let folder = cldr_folder(rt, matches)?;
-    let settings = locale_settings(rt, word, folder.as_str())?;
-    let strength = strength.or(settings.options.strength);
-    Ok((
-        with_tag(chosen, settings),
-        strength.unwrap_or(Strength::Tertiary),
-    ))
+    rules: Option<&LocaleRules>,
+    chosen: Chosen,
+    strength: Strength,
+) -> Result<Collator, ProgramError>
+    ensures { IfOk result (λ c. IsWellFormedTables (tables_kept c)) }
+{
+    let file = root_file(rt, matches)?;
+    let root = read_file(rt, file.as_str())?;
+    match rules {
+        Some(rules) => tailored_collator(rt.alloc(), root, file.as_str(), rules, chosen, strength),
+        None => root_collator(rt.alloc(), root, file.as_str(), chosen, strength),
+    }
 }
 
-/// The collator that options ask for: by the tables of the root's file, with the settings that they choose.
+/// The collator of a locale: by its rules, with the settings that options and its tag choose.
+fn locale_collator<R: Files + Env + AllocGlobal>(
+    rt: &R,
+    matches: &ArgMatches<'_>,
+    asked: &AskedLocale,
+) -> Result<Collator, ProgramError>
+    ensures { IfOk result (λ c. IsWellFormedTables (tables_kept c)) }
+{
+    let chosen = with_tag(chosen_by(matches), asked.settings);
+    let strength = strength_of(matches)
+        .or(asked.settings.options.strength)
+        .unwrap_or(Strength::Tertiary);
+    let folder = cldr_folder(rt, matches)?;
+    let rules = rules_of(rt, folder.as_str(), asked)?;
+    if rules.rules.statements.is_empty() {
+        return collator_by(rt, matches, None, chosen, strength);
+    }
+    collator_by(rt, matches, Some(&rules), chosen, strength)
+}
+
+/// The collator that options ask for, and the environment where no option names a locale: by the tables of the root's
+/// file and the rules of the locale, with the settings that options choose, then the locale's tag, then its rules.
 pub(crate) fn made_collator<R: Files + Env + AllocGlobal>(
     rt: &R,
     matches: &ArgMatches<'_>,
 ) -> Result<Collator, ProgramError>
     ensures { IfOk result (λ c. IsWellFormedTables (tables_kept c)) }
 {
-    let (chosen, strength) = settings_by(rt, matches)?;
-    let file = root_file(rt, matches)?;
-    let root = read_file(rt, file.as_str())?;
-    root_collator(rt.alloc(), root, file.as_str(), chosen, strength)
+    match asked_locale(rt, matches)? {
+        Some(asked) => locale_collator(rt, matches, &asked),
+        None => {
+            let strength = strength_of(matches).unwrap_or(Strength::Tertiary);
+            collator_by(rt, matches, None, chosen_by(matches), strength)
+        }
+    }
 }

@@ -1,18 +1,23 @@
 //! The program `collate-cldr`: compares texts, and sorts, checks and shows lines by CLDR's root collation.
 #![tactic(auto)]
 
+mod asked_locale;
+mod asked_rules;
 mod choice;
 mod data_place;
 mod file_source;
 mod inputs;
-mod locale;
+mod locale_list;
 mod made_collator;
 mod named_settings;
+mod needed_files;
 mod neighbours;
 mod neighbours_counts;
 mod output_file;
 mod program;
+mod rule_places;
 mod sort_options;
+mod tailored_collator;
 mod words;
 
 use collate_commands::Input;

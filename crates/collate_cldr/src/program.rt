@@ -2,9 +2,10 @@
 
 ghost use Rattle.std.specs.Prelude.{◌≤◌, IfOk};
 
-use crate::data_place::root_file;
+use crate::data_place::{cldr_folder, root_file};
 use crate::file_source::read_file;
 use crate::inputs::read_inputs;
+use crate::locale_list::locale_lines;
 use crate::made_collator::made_collator;
 use crate::neighbours_counts::print_neighbours;
 use crate::output_file::replace_file;
@@ -90,6 +91,19 @@ fn answer_words<W: Write, E: Write>(
         return Ok(WRONG_WORDS);
     }
     print(text, output)
+}
+
+/// Prints the locales that there are collations of, with their types.
+fn print_locales<R: Files + Env + AllocGlobal + Clone + Drop, W: Write>(
+    rt: &R,
+    matches: &ArgMatches<'_>,
+    output: &mut W,
+) -> Result<u8, ProgramError>
+    ensures { IfOk result (λ status. status ≤ 3) }
+{
+    let folder = cldr_folder(rt, matches)?;
+    let text = locale_lines(rt, folder.as_str())?;
+    print(text.as_str(), output)
 }
 
 /// Prints the versions of the program and of the root's data.
@@ -239,7 +253,7 @@ const NO_COMMAND: &str = "collate-cldr: no command; --help says which there are\
 /// - 3: data, memory, input or output are missing or fail; `errors` says which.
 ///
 /// A failed write to `errors` changes no status.
-pub(crate) fn run<R: Files + Env + AllocGlobal, I: Read + Drop, W: Write, E: Write>(
+pub(crate) fn run<R: Files + Env + AllocGlobal + Clone + Drop, I: Read + Drop, W: Write, E: Write>(
     rt: &R,
     words: &[String],
     input: I,
@@ -258,6 +272,7 @@ pub(crate) fn run<R: Files + Env + AllocGlobal, I: Read + Drop, W: Write, E: Wri
     let status = match matches.subcommand() {
         Some((name, inner)) => run_command(rt, name, inner, input, output, errors),
         None if matches.get_flag("version") => print_versions(rt, &matches, output),
+        None if matches.get_flag("list-locales") => print_locales(rt, &matches, output),
         None => {
             let _ = write_text(errors, NO_COMMAND.as_bytes());
             Ok(WRONG_WORDS)

@@ -23,20 +23,24 @@ static CASES: [&str; 3] = ["off", "lower", "upper"];
 static GROUPS: [&str; 4] = ["space", "punctuation", "symbol", "currency"];
 
 const ABOUT: &str =
-    "Compares texts, and sorts, checks and shows lines, by the Unicode Collation Algorithm with CLDR's root collation: \
-the same order on every machine.";
+    "Compares texts, and sorts, checks and shows lines, by the Unicode Collation Algorithm with CLDR's collations: the \
+order of a language, the same on every machine.";
 
 const AFTER: &str = "\
 Examples:
   collate-cldr sort names.txt                    names in order
   collate-cldr sort -u --strength 1 -r < words   one of each, whatever accents and case, the last first
   collate-cldr sort --numeric -o files files     numbers by their value; the file is replaced
-  collate-cldr compare ångström zebra            prints <
+  collate-cldr sort -l de-u-co-phonebk names.txt names as German lists of names have them
+  collate-cldr compare -l sv ångström zebra      prints >
   collate-cldr check list.txt                    status 1 and the first line out of order
+
+Order: that of the language that --locale names, or else the first of LC_ALL, LC_COLLATE and LANG that is set, as \
+sv_SE.UTF-8; for C and POSIX, and where none is set, the root's order. To sort by bytes is the work of sort.
 
 Data: FractionalUCA.txt of CLDR, which the option --root names, or else stands in common/uca of the folder that the \
 option --cldr or the environment's CLDR_DIR names, or else in /usr/share/unicode/cldr, where Debian's package \
-unicode-cldr-core installs it.
+unicode-cldr-core installs it; the rules of languages stand in common/collation of that folder.
 
 Status: 0, 1 (not in order, texts differ), 2 (wrong words), 3 (data, memory, input or output).";
 
@@ -66,7 +70,7 @@ fn with_data<'a>(alloc: Global, command: Command<'a>) -> Result<Command<'a>, All
             alloc,
             "cldr",
             "DIR",
-            "The folder of CLDR's data, which has common/uca",
+            "The folder of CLDR's data, which has common/uca and common/collation",
         ))
 }
 
@@ -77,7 +81,7 @@ fn with_settings<'a>(alloc: Global, command: Command<'a>) -> Result<Command<'a>,
             alloc,
             "locale",
             "TAG",
-            "The language, with settings as in en-u-kn-ks-level1",
+            "The language, a type and settings, as in sv, de-u-co-phonebk or en-u-kn-ks-level1",
         )
         .short('l'))?
         .arg(valued(
@@ -245,6 +249,11 @@ pub(crate) fn program<'a>(alloc: Global) -> Result<Command<'a>, AllocError> {
             "version",
             'V',
             "Prints the versions of the program and of the root's data",
+        ))?
+        .arg(flag(
+            alloc,
+            "list-locales",
+            "Prints the locales that there are collations of, with their types, the default one first",
         ))?
         .subcommand(sort_command(alloc)?)?
         .subcommand(check_command(alloc)?)?

@@ -1,0 +1,182 @@
+//! A collator by the rules of a locale.
+ghost use Rattle.std.specs.Prelude.{◌≡◌, IfOk};
+ghost use Rattle.icu_cldr.specs.Roots.{root_tables};
+ghost use Rattle.icu_rule_tables.specs.Tailorings.{SaysRules};
+ghost use Rattle.icu_checks.specs.WellFormedTables.{IsWellFormedTables};
+ghost use Rattle.icu_collator.specs.Collators.{tables_kept};
+ghost use Rattle.icu_checks.specs.Checked.{checked_tables};
+ghost use Rattle.collate_cldr.specs.RuledCollators.{ComparesByRules, ComparesByTables};
+
+use crate::asked_locale::refused_locale;
+use crate::asked_rules::{LocaleRules, refused_at, refused_rule};
+use crate::choice::Chosen;
+use crate::file_source::{error_of, refused, refused_by};
+use collate_commands::ProgramError;
+use icu_checked_root::CheckedRoot;
+use icu_checks::CheckedTables;
+use icu_cldr::CldrRoot;
+use icu_collator::Collator;
+use icu_entries::{DataError, DataErrorKind, DataTable};
+use icu_options::Strength;
+use icu_rule_tables::{RuleTablesError, Tailoring};
+use icu_rules::{PlacedStatement, RuleSetting, Statement};
+use std::alloc::Global;
+use std::fmt::Display;
+
+/// An error that says what is wrong with the tables of rules.
+fn refused_tables<E: Display>(alloc: Global, rules: &LocaleRules, error: &E) -> ProgramError {
+    refused_by(alloc, rules.source.as_str(), error)
+}
+
+/// The place, in the text of the rules, of a reordering, or of the import that led to it.
+fn place_of_reordering(statements: &[PlacedStatement]) -> usize {
+    for placed in statements {
+        if let Statement::Setting(RuleSetting::Reorder(_)) = &placed.statement {
+            return placed.import.unwrap_or(placed.place);
+        }
+    }
+    0
+}
+
+/// An error that says of a tag or a rule that it reorders scripts.
+fn refused_reordering(alloc: Global, rules: &LocaleRules) -> ProgramError {
+    if let Some(tag) = &rules.reordering_tag {
+        return refused_locale(alloc, tag.as_str(), "kr: scripts aren't reordered yet");
+    }
+    refused_at(
+        alloc,
+        rules.source.as_str(),
+        rules.text.as_str(),
+        place_of_reordering(rules.rules.statements.as_slice()),
+        "scripts aren't reordered yet",
+    )
+}
+
+/// What an error of a table that isn't made comes to.
+fn absent_table(alloc: Global, rules: &LocaleRules, error: DataError) -> ProgramError {
+    if error.table == DataTable::Reordering && error.kind == DataErrorKind::Absent {
+        return refused_reordering(alloc, rules);
+    }
+    if error.table == DataTable::Jamo && error.kind == DataErrorKind::Absent {
+        return refused(
+            alloc,
+            rules.source.as_str(),
+            "conjoining jamo have no mappings of a collation's own yet",
+        );
+    }
+    refused_tables(alloc, rules, &error)
+}
+
+/// What an error of rules that make no tables comes to.
+fn error_of_rules(alloc: Global, rules: &LocaleRules, error: RuleTablesError) -> ProgramError {
+    match error {
+        RuleTablesError::NoMemory => ProgramError::NoMemory,
+        RuleTablesError::Refused {
+            place,
+            import,
+            kind,
+        } => refused_rule(
+            alloc,
+            rules.source.as_str(),
+            rules.text.as_str(),
+            import.unwrap_or(place),
+            &kind,
+        ),
+        RuleTablesError::Table(error) => absent_table(alloc, rules, error),
+        error => refused_tables(alloc, rules, &error),
+    }
+}
+
+/// What an error of tables that a collator would be made of comes to.
+fn refused_by_check(alloc: Global, rules: &LocaleRules, error: DataError) -> ProgramError {
+    match error.kind {
+        DataErrorKind::NoMemory => ProgramError::NoMemory,
+        _ => refused_tables(alloc, rules, &error),
+    }
+}
+
+/// A collator by the tables of a tailoring, with the chosen settings.
+fn collator_of(
+    alloc: Global,
+    tailoring: &Tailoring<'_>,
+    rules: &LocaleRules,
+    chosen: Chosen,
+    strength: Strength,
+) -> Result<Collator, ProgramError>
+    ensures well_formed { IfOk result (λ c. IsWellFormedTables (tables_kept c)) }
+    ensures compares { IfOk result (ComparesByTables tailoring.now chosen strength) }
+{
+    match Collator::try_new_unstable(
+        alloc,
+        tailoring,
+        chosen.preferences(),
+        chosen.options(strength),
+    ) {
+        Ok(collator) => Ok(collator),
+        Err(error) => Err(refused_by_check(alloc, rules, error)),
+    }
+}
+
+/// The tables of rules over a root.
+fn tailoring_by<'t>(
+    alloc: Global,
+    root: &CheckedRoot<'t>,
+    rules: &LocaleRules,
+) -> Result<Tailoring<'t>, ProgramError>
+    ensures { IfOk result (SaysRules root.now rules.now.rules.statements.items) }
+{
+    match Tailoring::from_rules(alloc, root, &rules.rules) {
+        Ok(tailoring) => Ok(tailoring),
+        Err(error) => Err(error_of_rules(alloc, rules, error)),
+    }
+}
+
+/// A collator by rules over checked tables, with the chosen settings.
+fn collator_over(
+    alloc: Global,
+    tables: &CheckedTables,
+    rules: &LocaleRules,
+    chosen: Chosen,
+    strength: Strength,
+) -> Result<Collator, ProgramError>
+    ensures well_formed { IfOk result (λ c. IsWellFormedTables (tables_kept c)) }
+    ensures compares { IfOk result (ComparesByRules (checked_tables tables.now)
+        rules.now.rules.statements.items chosen strength) }
+{
+    let root = CheckedRoot::new(alloc, tables)?;
+    let tailoring = tailoring_by(alloc, &root, rules)?;
+    let collator = collator_of(alloc, &tailoring, rules, chosen, strength)?;
+    Ok(collator)
+}
+
+/// The tables that were read from a file, checked.
+fn checked_root_tables(
+    alloc: Global,
+    root: CldrRoot,
+    file: &str,
+) -> Result<CheckedTables, ProgramError>
+    ensures { IfOk result (λ tables. checked_tables tables ≡ root_tables root) }
+{
+    match CheckedTables::from_owned(alloc, root.into_tables()) {
+        Ok(tables) => Ok(tables),
+        Err(error) => Err(error_of(alloc, file, error)),
+    }
+}
+
+/// A collator by rules over the tables that were read from a file, with the chosen settings.
+pub(crate) fn tailored_collator(
+    alloc: Global,
+    root: CldrRoot,
+    file: &str,
+    rules: &LocaleRules,
+    chosen: Chosen,
+    strength: Strength,
+) -> Result<Collator, ProgramError>
+    ensures well_formed { IfOk result (λ c. IsWellFormedTables (tables_kept c)) }
+    ensures compares { IfOk result (ComparesByRules (root_tables root)
+        rules.now.rules.statements.items chosen strength) }
+{
+    let tables = checked_root_tables(alloc, root, file)?;
+    let collator = collator_over(alloc, &tables, rules, chosen, strength)?;
+    Ok(collator)
+}

@@ -1,0 +1,167 @@
+"""The program `collate-cldr` with the rules of languages, over small files in the forms of CLDR's (tests/cldr): each way in which a
+locale comes to its rules, settings of options, tags and rules, locales of the environment, and files and rules that are refused."""
+import os
+import shutil
+
+from sweeps import ENVIRONMENT, TOP, Run, ended
+
+FOLDER = os.path.join(TOP, "tests", "cldr")
+SIGNS = {"<": 1, "=": 0, ">": 1}
+# Words beside the folder, two texts, and the sign that is wanted.
+SIGNED = [
+    # Of Swedish the file names a default type, by which v and w differ; the type standard has the other w.
+    (["-l", "sv"], "å z", ">"),
+    (["-l", "sv"], "z ä", "<"),
+    (["-l", "sv"], "å ä", "<"),
+    (["-l", "sv"], "wa vb", ">"),
+    (["-l", "sv-u-co-standard"], "wa vb", "<"),
+    (["-l", "SV-u-CO-Standard"], "wa vb", "<"),
+    (["-l", "sv-SE"], "å z", ">"),
+    # A type that isn't there: the default type stands in.
+    (["-l", "sv-u-co-phonebk"], "wa vb", ">"),
+    # The type search imports from two files.
+    (["-l", "sv-u-co-search"], "wa vb", "<"),
+    (["-l", "sv-u-co-search"], "a-b ab", "="),
+    (["-l", "sv-u-co-searchjl"], "wa vb", "<"),
+    (["-l", "de"], "ä af", "<"),
+    (["-l", "de"], "ä ad", "<"),
+    (["-l", "de-u-co-phonebk"], "ä ad", ">"),
+    (["-l", "de-AT-u-co-phonebk"], "ä ad", ">"),
+    (["-l", "de-u-co-phonebk"], "ä ae", ">"),
+    # Of both written forms of Norwegian the parent is no; a region in another script has the rules of that script.
+    (["-l", "nb"], "ø z", ">"),
+    (["-l", "nn-NO"], "ø z", ">"),
+    (["-l", "zh"], "a b", "<"),
+    (["-l", "zh"], "b z", ">"),
+    (["-l", "zh"], "a z", "<"),
+    (["-l", "zh-Hant"], "a z", ">"),
+    (["-l", "zh-TW"], "a z", ">"),
+    (["-l", "zh-TW-u-co-pinyin"], "b z", ">"),
+    # A language without a file has the root's order.
+    (["-l", "en"], "å z", "<"),
+    (["-l", "und"], "å z", "<"),
+    # The secondary level from its end: by rules, and by a tag.
+    (["-l", "fr"], "àa aà", ">"),
+    (["-l", "fr-CA"], "àa aà", "<"),
+    (["-l", "fr-u-kb"], "àa aà", "<"),
+    (["-l", "fr-CA-u-kb-false"], "àa aà", ">"),
+    (["-l", "und-u-kb"], "àa aà", "<"),
+    # Settings: of options before those of the tag, and those before the rules'.
+    (["-l", "da"], "A a", "<"),
+    (["-l", "da"], "å z", ">"),
+    (["-l", "da-u-kf-false"], "A a", ">"),
+    (["-l", "da-u-kf-false", "--case-first=upper"], "A a", "<"),
+    (["-l", "da", "--case-first=lower"], "A a", ">"),
+    (["-l", "da-u-ks-level1"], "A a", "="),
+    (["-l", "da-u-ks-level1", "--strength=3"], "A a", "<"),
+    (["-l", "sv-u-kn"], "10 9", ">"),
+]
+# What is said of a file or of rules, behind the folder.
+COLLATION = "/common/collation/"
+REFUSED = [
+    ("ta", COLLATION + "ta.xml, collation standard: [import xx-u-co-none]: expected a tag of rules\n"),
+    ("ta-u-co-circle", COLLATION + "ta.xml, collation circle: [import ta-u-co-circle]: expected imports that end\n"),
+    ("ta-u-co-wrong", COLLATION + "ta.xml, collation wrong: &c <: expected a string after the relation's sign\n"),
+    ("tb", COLLATION + "tb.xml, collation standard: [import ta-u-co-wrong]: expected a string after the relation's sign\n"),
+    ("tb-u-co-unsaid", COLLATION + "tb.xml, collation unsaid: &[before 2]a < b: expected a relation as strong as [before] says\n"),
+    ("xa", COLLATION + "xa.xml: line 2, column 13: the file ends within an element, a tag, a comment or a section\n"),
+    ("xb", COLLATION + "xb.xml: line 1: expected an element of a file of collations, in its place\n"),
+]
+# Files that are cut off, or are of another kind.
+DAMAGED = {"xa": "<ldml>\n\t<collations", "xb": "<ldml><other/></ldml>\n"}
+# Tags that are none.
+NO_TAGS = [
+    ("sv_SE", "collate-cldr: locale sv_SE: character 0: expected a language of two, three or five to eight letters\n"),
+    ("sv-u-kn-maybe", "collate-cldr: locale sv-u-kn-maybe: expected `kn` with true or false\n"),
+]
+# Variables of the environment, words, two texts and the sign.
+ENVIRONMENTS = [
+    ({"LANG": "sv_SE.UTF-8"}, [], "å z", ">"),
+    ({"LANG": "sv_SE"}, [], "å z", ">"),
+    ({"LANG": "sv"}, [], "å z", ">"),
+    ({"LANG": "sv_SE.UTF-8@euro"}, [], "å z", ">"),
+    ({"LC_COLLATE": "sv_SE.UTF-8", "LANG": "C"}, [], "å z", ">"),
+    ({"LC_ALL": "C", "LC_COLLATE": "sv_SE.UTF-8", "LANG": "sv_SE.UTF-8"}, [], "å z", "<"),
+    ({"LC_ALL": "C.UTF-8", "LANG": "sv_SE.UTF-8"}, [], "å z", "<"),
+    ({"LC_ALL": "POSIX", "LANG": "sv_SE.UTF-8"}, [], "å z", "<"),
+    ({"LC_ALL": "", "LC_COLLATE": "", "LANG": "sv_SE.UTF-8"}, [], "å z", ">"),
+    ({"LC_ALL": "sv_SE.UTF-8"}, ["-l", "und"], "å z", "<"),
+    ({"LC_ALL": "C"}, ["-l", "sv"], "å z", ">"),
+    ({"LANG": "zh_TW.UTF-8"}, [], "a z", ">"),
+    ({"LANG": "zh@hant"}, [], "a z", "<"),
+    ({}, [], "å z", "<"),
+]
+LISTED = """\
+da\tstandard
+de\tstandard phonebk
+fr-CA\tstandard
+hr\tstandard
+ko\tstandard
+nb\tstandard
+no\tstandard
+ta\tstandard circle wrong
+tb\tstandard unsaid room
+zh\tpinyin stroke
+zh-Hant\tstroke pinyin
+""".splitlines()
+
+
+def run_in(program, words, variables=None, given=b""):
+    ran = ended([program, *words], given, env={**ENVIRONMENT, **(variables or {})})
+    return Run(ran.returncode, ran.stdout, ran.stderr, None)
+
+
+def wrong_signs(program):
+    found = []
+    for variables, words, texts, sign in [({}, *it) for it in SIGNED] + ENVIRONMENTS:
+        ran = run_in(program, ["compare", "--cldr", FOLDER, *words, *texts.split(" ")], variables)
+        if ran.came_to() != (SIGNS[sign], f"{sign}\n".encode(), b""):
+            found.append(f"{variables} {words} {texts}: {ran}; wanted: {sign}")
+    return found
+
+
+def wrong_refusals(program, room):
+    folder, found = os.path.join(room, "cldr"), []
+    shutil.copytree(FOLDER, folder)
+    for name, text in DAMAGED.items():
+        with open(f"{folder}{COLLATION}{name}.xml", "w", encoding="utf-8") as it:
+            it.write(text)
+    for tag, said in [(tag, folder + said) for tag, said in REFUSED] + NO_TAGS:
+        ran = run_in(program, ["compare", "--cldr", folder, "-l", tag, "a", "b"])
+        if ran.came_to() != (3, b"", said.encode()):
+            found.append(f"{tag}: {ran}; wanted: {said!r}")
+    os.remove(f"{folder}{COLLATION}root.xml")
+    ran = run_in(program, ["compare", "--cldr", folder, "-l", "sv", "a", "b"])
+    if ran.status != 3 or not ran.faults.startswith(f"{folder}{COLLATION}root.xml: not opened;".encode()):
+        found.append(f"no file of the root: {ran}")
+    return found
+
+
+def wrong_lists(program):
+    ran = run_in(program, ["--list-locales", "--cldr", FOLDER])
+    lines = ran.output.decode().splitlines()
+    missing = [it for it in LISTED if it not in lines]
+    if ran.status or missing or lines != sorted(lines) or "sv\treformed search standard" not in lines:
+        return [f"--list-locales: {ran}; missing: {missing}"]
+    return []
+
+
+def wrong_sorts(program):
+    found = []
+    for words, given, wanted in [
+        (["-l", "sv"], "z\nö\nå\na\nä\n", "a\nz\nå\nä\nö\n"),
+        (["-l", "sv", "-r"], "z\nö\nå\na\nä\n", "ö\nä\nå\nz\na\n"),
+        (["-l", "und"], "z\nö\nå\na\nä\n", "a\nå\nä\nö\nz\n"),
+    ]:
+        ran = run_in(program, ["sort", "--cldr", FOLDER, *words], given=given.encode())
+        if ran.came_to() != (0, wanted.encode(), b""):
+            found.append(f"sort {words}: {ran}")
+    return found
+
+
+def check_locales(report, room, program):
+    report.say("collate-cldr: languages and their settings", wrong_signs(program), len(SIGNED) + len(ENVIRONMENTS))
+    refusals = len(REFUSED) + len(NO_TAGS) + 1
+    report.say("collate-cldr: rules and files that are refused", wrong_refusals(program, room), refusals)
+    report.say("collate-cldr: locales that are listed", wrong_lists(program), 1)
+    report.say("collate-cldr: lines by languages", wrong_sorts(program), 3)
