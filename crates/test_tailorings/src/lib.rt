@@ -6,6 +6,8 @@ mod checked_root_rows;
 #[cfg(test)]
 mod order_rows;
 #[cfg(test)]
+mod reordered_rows;
+#[cfg(test)]
 mod small_tables;
 #[cfg(test)]
 mod tree_number_rows;
