@@ -1,10 +1,10 @@
 use Rattle.collate_cldr.proofs.tailored_collator.collator_over.Goals as goal
 
-pub returns-in_ok-collator-clause-compares : goal.returns-in_ok-collator-clause-compares
-returns-in_ok-collator-clause-compares c = record {
-    root = c.in_ok-root.root;
-    is_root = c.in_ok-root.ensures;
-    tailoring = c.in_ok-tailoring.tailoring;
-    says = c.in_ok-tailoring.ensures;
-    compares = c.in_ok-collator.ensures.compares;
-  }
+pub returns-clause-compares : goal.returns-clause-compares
+returns-clause-compares c = record {
+  root = c.in_ok-root.root;
+  is_root = c.in_ok-root.ensures;
+  tailoring = c.in_ok-tailoring.tailoring;
+  says = c.in_ok-tailoring.ensures;
+  compares = c.in_ok-collator.ensures.compares;
+}
