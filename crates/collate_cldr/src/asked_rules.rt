@@ -44,13 +44,7 @@ fn line_of_rule(alloc: Global, source: &str, rule: &str, what: &str) -> Result<S
 }
 
 /// An error that says of rules at a place what is wrong there.
-pub(crate) fn refused_at(
-    alloc: Global,
-    source: &str,
-    text: &str,
-    place: usize,
-    what: &str,
-) -> ProgramError {
+fn refused_at(alloc: Global, source: &str, text: &str, place: usize, what: &str) -> ProgramError {
     match line_of_rule(alloc, source, line_at(text, place), what) {
         Ok(line) => ProgramError::Refused(line),
         Err(_) => ProgramError::NoMemory,

@@ -8,7 +8,7 @@ ghost use Rattle.icu_checks.specs.Checked.{checked_tables};
 ghost use Rattle.collate_cldr.specs.RuledCollators.{ComparesByRules, ComparesByTables};
 
 use crate::asked_locale::refused_locale;
-use crate::asked_rules::{LocaleRules, refused_at, refused_rule};
+use crate::asked_rules::{LocaleRules, refused_rule};
 use crate::choice::Chosen;
 use crate::file_source::{error_of, refused, refused_by};
 use collate_commands::ProgramError;
@@ -18,8 +18,7 @@ use icu_cldr::CldrRoot;
 use icu_collator::Collator;
 use icu_entries::{DataError, DataErrorKind, DataTable};
 use icu_options::Strength;
-use icu_rule_tables::{RuleTablesError, Tailoring};
-use icu_rules::{PlacedStatement, RuleSetting, Statement};
+use icu_rule_tables::{RuleRefusal, RuleTablesError, Tailoring};
 use std::alloc::Global;
 use std::fmt::Display;
 
@@ -28,35 +27,31 @@ fn refused_tables<E: Display>(alloc: Global, rules: &LocaleRules, error: &E) -> 
     refused_by(alloc, rules.source.as_str(), error)
 }
 
-/// The place, in the text of the rules, of a reordering, or of the import that led to it.
-fn place_of_reordering(statements: &[PlacedStatement]) -> usize {
-    for placed in statements {
-        if let Statement::Setting(RuleSetting::Reorder(_)) = &placed.statement {
-            return placed.import.unwrap_or(placed.place);
-        }
+/// An error that says of a statement of rules what is wrong there, or of the tag, where that asks for a reordering.
+fn refused_statement(
+    alloc: Global,
+    rules: &LocaleRules,
+    place: usize,
+    kind: RuleRefusal,
+) -> ProgramError {
+    match (kind, &rules.reordering_tag) {
+        (RuleRefusal::Unreordered(_), Some(tag)) => refused_locale(
+            alloc,
+            tag.as_str(),
+            "kr: expected groups that can be put in this order, each once",
+        ),
+        (kind, _) => refused_rule(
+            alloc,
+            rules.source.as_str(),
+            rules.text.as_str(),
+            place,
+            &kind,
+        ),
     }
-    0
-}
-
-/// An error that says of a tag or a rule that it reorders scripts.
-fn refused_reordering(alloc: Global, rules: &LocaleRules) -> ProgramError {
-    if let Some(tag) = &rules.reordering_tag {
-        return refused_locale(alloc, tag.as_str(), "kr: scripts aren't reordered yet");
-    }
-    refused_at(
-        alloc,
-        rules.source.as_str(),
-        rules.text.as_str(),
-        place_of_reordering(rules.rules.statements.as_slice()),
-        "scripts aren't reordered yet",
-    )
 }
 
 /// What an error of a table that isn't made comes to.
 fn absent_table(alloc: Global, rules: &LocaleRules, error: DataError) -> ProgramError {
-    if error.table == DataTable::Reordering && error.kind == DataErrorKind::Absent {
-        return refused_reordering(alloc, rules);
-    }
     if error.table == DataTable::Jamo && error.kind == DataErrorKind::Absent {
         return refused(
             alloc,
@@ -75,13 +70,7 @@ fn error_of_rules(alloc: Global, rules: &LocaleRules, error: RuleTablesError) ->
             place,
             import,
             kind,
-        } => refused_rule(
-            alloc,
-            rules.source.as_str(),
-            rules.text.as_str(),
-            import.unwrap_or(place),
-            &kind,
-        ),
+        } => refused_statement(alloc, rules, import.unwrap_or(place), kind),
         RuleTablesError::Table(error) => absent_table(alloc, rules, error),
         error => refused_tables(alloc, rules, &error),
     }
