@@ -55,6 +55,9 @@ SIGNED = [
     (["-l", "da-u-ks-level1"], "A a", "="),
     (["-l", "da-u-ks-level1", "--strength=3"], "A a", "<"),
     (["-l", "sv-u-kn"], "10 9", ">"),
+    # Rules that put scripts in another order, of which the small file of the root has no groups.
+    (["-l", "hr"], "c č", "<"),
+    (["-l", "hr"], "č d", "<"),
 ]
 # What is said of a file or of rules, behind the folder.
 COLLATION = "/common/collation/"
@@ -73,6 +76,8 @@ DAMAGED = {"xa": "<ldml>\n\t<collations", "xb": "<ldml><other/></ldml>\n"}
 NO_TAGS = [
     ("sv_SE", "collate-cldr: locale sv_SE: character 0: expected a language of two, three or five to eight letters\n"),
     ("sv-u-kn-maybe", "collate-cldr: locale sv-u-kn-maybe: expected `kn` with true or false\n"),
+    ("sv-u-kr-xxxx", "collate-cldr: locale sv-u-kr-xxxx: kr: expected groups that can be put in this order, each once\n"),
+    ("und-u-kr-digit-digit", "collate-cldr: locale und-u-kr-digit-digit: kr: expected groups that can be put in this order, each once\n"),
 ]
 # Variables of the environment, words, two texts and the sign.
 ENVIRONMENTS = [
@@ -141,7 +146,9 @@ def wrong_lists(program):
     ran = run_in(program, ["--list-locales", "--cldr", FOLDER])
     lines = ran.output.decode().splitlines()
     missing = [it for it in LISTED if it not in lines]
-    if ran.status or missing or lines != sorted(lines) or "sv\treformed search standard" not in lines:
+    # They stand as their files do, of which that of `und` is root.xml.
+    in_order = sorted(lines, key=lambda it: it.replace("und\t", "root\t"))
+    if ran.status or missing or lines != in_order or "sv\treformed search standard" not in lines:
         return [f"--list-locales: {ran}; missing: {missing}"]
     return []
 
@@ -151,7 +158,8 @@ def wrong_sorts(program):
     for words, given, wanted in [
         (["-l", "sv"], "z\nö\nå\na\nä\n", "a\nz\nå\nä\nö\n"),
         (["-l", "sv", "-r"], "z\nö\nå\na\nä\n", "ö\nä\nå\nz\na\n"),
-        (["-l", "und"], "z\nö\nå\na\nä\n", "a\nå\nä\nö\nz\n"),
+        # By the small file of the root a diaeresis comes before a ring.
+        (["-l", "und"], "z\nö\nå\na\nä\n", "a\nä\nå\nö\nz\n"),
     ]:
         ran = run_in(program, ["sort", "--cldr", FOLDER, *words], given=given.encode())
         if ran.came_to() != (0, wanted.encode(), b""):
