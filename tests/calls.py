@@ -11,8 +11,8 @@ import crates
 
 DRIVER = "test_driver"
 # What says that a call may fail so, in the type that it returns.
-FAILURES = {"AllocError", "DataError", "LdmlError", "LineError", "MappingEntriesError", "ReadError", "RulesError", "SortKeyError", "TagError", "NumberingError", "TailoredEntriesError", "TailoringError",
-            "RuleTablesError", "XmlError"}
+FAILURES = {"AllocError", "DataError", "LdmlError", "LineError", "MappingEntriesError", "NumberingError", "ReadError", "ReorderingError",
+            "RuleTablesError", "RulesError", "SortKeyError", "TagError", "TailoredEntriesError", "TailoringError", "XmlError"}
 # Errors that say so within another one, and such as no public call returns.
 WITHIN = {"DataErrorKind", "RuleStepError", "UnplacedError"}
 # A public error, of which one kind is that an allocation failed.
