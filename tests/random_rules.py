@@ -17,6 +17,7 @@ import random
 import shutil
 import subprocess
 import sys
+import tempfile
 
 HERE = os.path.dirname(os.path.realpath(__file__))
 TOP = os.path.dirname(HERE)
@@ -213,7 +214,7 @@ def main():
     words.add_argument("--sets", type=int, default=20)
     words.add_argument("--seed", type=int, default=1)
     words.add_argument("--root", default=ROOT)
-    words.add_argument("--folder", default="/tmp/random-rules")
+    words.add_argument("--folder", default=os.path.join(tempfile.gettempdir(), "random-rules"))
     words.add_argument("--seconds", type=int, default=3600)
     chosen = words.parse_args()
     os.makedirs(chosen.folder, exist_ok=True)
