@@ -11,3 +11,6 @@ pub mod FoundLemmas
 pub mod SearchCutLemmas
 pub mod SearchPieceLemmas
 pub mod SelectionLemmas
+pub mod DecompositionTails
+pub mod LeaderSplits
+pub mod EquivalentTextLemmas

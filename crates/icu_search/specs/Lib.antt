@@ -5,6 +5,7 @@ pub mod Searches
 pub mod PartLaws
 pub mod SearchLaws
 pub mod PieceLaws
+pub mod EquivalentTextLaws
 pub mod Selections
 pub mod SpansLeft
 pub mod inner

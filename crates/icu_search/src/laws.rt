@@ -1,5 +1,6 @@
 //! The laws of search, each the contract of a function that makes no call.
 
+ghost use Rattle.icu_search.specs.EquivalentTextLaws.{EquivalentTextsCorrespond};
 ghost use Rattle.icu_search.specs.LeastMatchLaws.{FoundMatchesStandApart, LeastMatchesHoldNoOther};
 ghost use Rattle.icu_search.specs.PartLaws.{ListsBeginWithThoseOfParts, PartsAreReadAsInTheWhole, PartsHaveTheirPlaces};
 ghost use Rattle.icu_search.specs.PieceLaws.{PatternsMatchWhereTheyStand, SearchIsLocal};
@@ -70,4 +71,10 @@ pub fn parts_are_read_as_in_the_whole()
 /// leads: up to there the matches of the whole are those of the first piece, from there on those of the second.
 pub fn search_is_local()
     ensures { SearchIsLocal }
+{}
+
+/// The matches of canonically equivalent texts correspond, one to one: they stand for the same parts of the decomposed
+/// text (UTS #10, "Searching and Matching"; UAX #15). It holds by any tables.
+pub fn equivalent_texts_correspond()
+    ensures { EquivalentTextsCorrespond }
 {}
