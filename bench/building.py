@@ -8,7 +8,7 @@ import sys
 HERE = os.path.dirname(os.path.realpath(__file__))
 TOP = os.path.dirname(HERE)
 NAME = "collation_bench"
-LIBRARIES = "icu_provider icu_checks icu_elements icu_decomposed_text icu_cursor icu_collator icu_index icu_mini icu_cldr"
+LIBRARIES = "icu_provider icu_checks icu_elements icu_decomposed_text icu_cursor icu_collator icu_index icu_text_search icu_mini icu_cldr"
 PARTS = ("src", "specs", "proofs")
 COMPILER = os.environ.get("CXX", "g++")
 

@@ -4,7 +4,8 @@
 """
 import functools
 import os
-from collections import namedtuple
+import unicodedata
+from collections import Counter, namedtuple
 
 from scripts import SCRIPTS, TWELVE, Script, Texts, as_they_are, base, composed, decomposed, emoji, names_of, words_of
 
@@ -12,6 +13,7 @@ PAIRS = 5_000
 NAMES = 20_000
 SORTED = 100_000
 LONG = 10_000
+MEGABYTE = 1_000_000
 
 # A row of the bench: what is measured, the texts, the greatest ratio to the peer's time that is wanted, or the greatest time, such as
 # "6 ms", the settings, and what makes the pairs of texts. Keys, elements and sorts are of all texts of the pairs.
@@ -250,6 +252,46 @@ def mark_rows(lists):
     yield Row("marks", "keys", "1,000 marks", 1.0, settings, lambda: [(run(), run())])
 
 
+def megabyte(names):
+    """A text of a megabyte: the names, again and again, with a space behind each."""
+    once = "".join(f"{it} " for it in names).encode()
+    return (once * (MEGABYTE // len(once) + 1))[:MEGABYTE].decode(errors="ignore")
+
+
+def most_frequent_pair(text):
+    """The two letters that stand together most often."""
+    pairs = Counter(text[at : at + 2] for at in range(len(text) - 1))
+    return max((it for it in pairs if it.isalpha()), key=lambda it: (pairs[it], it))
+
+
+def absent(name, text):
+    """The name with another last letter, so that it isn't in the text, whatever the case."""
+    folded = base_letters(text)
+    return next(it for it in (name[:-1] + letter for letter in sorted(set(folded)) if letter.isalpha()) if base_letters(it) not in folded)
+
+
+def base_letters(text):
+    """The letters of a text without marks or case."""
+    return "".join(it for it in decomposed(text) if not unicodedata.combining(it)).casefold()
+
+
+def search_rows(lists):
+    """A pattern that is found a few times in a megabyte, one that is found often, and one that begins as a rare one and isn't
+    found at all."""
+    for name in ("ASCII names", "composed names", "Cyrillic", "Han", "Hangul"):
+        text = functools.cache(lambda name=name: megabyte(lists.of(name)))
+        rare = functools.cache(lambda text=text: text()[: 2 * len(text()) // 3].split(" ")[-2])
+        patterns = (
+            ("rare", rare),
+            ("frequent", lambda text=text: most_frequent_pair(text())),
+            ("missing", lambda text=text, rare=rare: absent(rare(), text())),
+        )
+        for strength, settings in (("Primary", Settings(0)), ("Tertiary", TERTIARY)):
+            for what, pattern in patterns:
+                pairs = lambda pattern=pattern, text=text: [(pattern(), text())]
+                yield Row("search", "search", f"{name}, a {what} pattern at {strength}", 1.0, settings, pairs)
+
+
 def sort_rows(lists):
     for name in ("ASCII names", "twelve scripts"):
         for operation, limit in (("sort by keys", 0.6), ("sort by comparisons", 0.7), ("index", 0.8)):
@@ -276,6 +318,7 @@ def rows(seed):
     for name, limit in (("Thai", 0.9), ("Arabic", 0.7), ("Cyrillic", 0.7), ("ASCII names", 0.6)):
         yield from compare_rows(lists, "utf16", name, limit, operation="compare UTF-16")
     yield from mark_rows(lists)
+    yield from search_rows(lists)
     yield from sort_rows(lists)
     short = lambda: [("a", "b")]
     yield Row("making", "make", "a collator of tables that were read", "6 ms", TERTIARY, short)

@@ -12,6 +12,7 @@
 
 #include <unicode/ucol.h>
 #include <unicode/ucoleitr.h>
+#include <unicode/usearch.h>
 #include <unicode/ustring.h>
 
 // The settings of a row. The library takes the first four, and normalizes texts always.
@@ -45,6 +46,7 @@ inline std::u16string in_utf16(std::string_view text) {
 struct Close {
     void operator()(UCollator *it) const { ucol_close(it); }
     void operator()(UCollationElements *it) const { ucol_closeElements(it); }
+    void operator()(UStringSearch *it) const { usearch_close(it); }
 };
 using Collator = std::unique_ptr<UCollator, Close>;
 
@@ -99,6 +101,21 @@ class Peer {
             sum += static_cast<uint32_t>(next);
         }
         return sum;
+    }
+
+    // How many matches a search finds of a pattern in a text.
+    uint64_t found(std::u16string_view pattern, std::u16string_view text) const {
+        UErrorCode error = U_ZERO_ERROR;
+        const std::unique_ptr<UStringSearch, Close> search(
+            usearch_openFromCollator(pattern.data(), static_cast<int32_t>(pattern.size()), text.data(), static_cast<int32_t>(text.size()),
+                                     collator_.get(), nullptr, &error));
+        must(error, "usearch_openFromCollator");
+        uint64_t count = 0;
+        for (int32_t at = usearch_first(search.get(), &error); at != USEARCH_DONE; at = usearch_next(search.get(), &error)) {
+            ++count;
+        }
+        must(error, "usearch_next");
+        return count;
     }
 
     // Makes a collator of tables in memory, and gives it the settings.

@@ -150,6 +150,9 @@ class Session {
             case Operation::ElementsOfCharacters:
                 sum += peer_.elements(texts_.utf16(left)) + peer_.elements(texts_.utf16(right));
                 break;
+            case Operation::Search:
+                sum += peer_.found(texts_.utf16(left), texts_.utf16(right));
+                break;
             default:
                 sum += peer_order(at);
             }
@@ -184,9 +187,9 @@ class Session {
         }
     }
 
-    // Lists are sorted as the peer sorts them.
+    // Lists are sorted as the peer sorts them, and patterns are found as often.
     void look_at_list() {
-        if (turn_ == FIRST && row().sorts() && same_order_ && answer_ != peer_answer_) {
+        if (turn_ == FIRST && (row().sorts() || row().searches()) && same_order_ && answer_ != peer_answer_) {
             ++row().unlike_peer;
         }
     }

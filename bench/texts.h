@@ -21,9 +21,10 @@ enum class Operation : uint32_t {
     Make = 8,
     MakeFromAnother = 9,
     ElementsOfCharacters = 10,
-    Signs = 11,
-    SignsUtf16 = 12,
-    KeySigns = 13,
+    Search = 11,
+    Signs = 12,
+    SignsUtf16 = 13,
+    KeySigns = 14,
 };
 
 // A row of the plan, and the least time of a call so far, in nanoseconds, of the peer and of the library.
@@ -33,6 +34,8 @@ struct Row {
     std::string file;
     // Its pairs of texts.
     uint32_t first = 0, end = 0;
+    // How many units of UTF-16 its second texts have, which are searched.
+    size_t searched = 0;
     // How many passes are timed together.
     uint64_t peer_passes = 1, library_passes = 1;
     double peer = std::numeric_limits<double>::infinity(), library = peer;
@@ -40,13 +43,14 @@ struct Row {
     uint64_t unlike_peer = 0, unlike_keys = 0;
 
     bool compares() const { return measured == Operation::Compare || measured == Operation::CompareUtf16; }
+    bool searches() const { return measured == Operation::Search; }
     bool makes() const { return measured == Operation::Make || measured == Operation::MakeFromAnother; }
     bool sorts() const {
         return measured == Operation::SortByComparisons || measured == Operation::SortByKeys || measured == Operation::Index;
     }
 
-    // The calls of a pass: a collator, or one for each pair, or one for each text.
-    double calls() const { return makes() ? 1.0 : (compares() ? 1.0 : 2.0) * (end - first); }
+    // The calls of a pass: a collator, or one for each pair, or one for each text. Of searches it is their characters.
+    double calls() const { return searches() ? searched : makes() ? 1.0 : (compares() ? 1.0 : 2.0) * (end - first); }
 };
 
 inline std::ifstream opened(const std::string &file) {
@@ -66,7 +70,8 @@ inline std::string contents(const std::string &file) {
 
 inline Operation operation_named(std::string_view name) {
     constexpr std::string_view names[] = {"compare", "compare UTF-16", "keys", "elements", "sort by comparisons", "sort by keys",
-                                          "index",   "make",           "make from another", "elements of characters"};
+                                          "index",   "make",           "make from another", "elements of characters",
+                                          "search"};
     const auto found = std::find(std::begin(names), std::end(names), name);
     return static_cast<Operation>(1 + (found - std::begin(names)));
 }
@@ -100,15 +105,16 @@ class Texts {
     std::vector<std::array<uint32_t, 2>> pairs;
 
     // Adds the texts of the row's file, and notes which pairs are its own. A pair that stands alone is gone through twenty
-    // times in a pass, so that the clock counts little.
+    // times in a pass, so that the clock counts little, but for a search, whose text is long.
     void add(Row &row) {
         row.first = static_cast<uint32_t>(pairs.size());
         auto lines = opened(row.file);
         for (std::string left, right; std::getline(lines, left) && std::getline(lines, right);) {
             const uint32_t first = added(left);
             pairs.push_back({first, added(right)});
+            row.searched += utf16(pairs.back()[1]).size();
         }
-        if (pairs.size() == row.first + 1) {
+        if (pairs.size() == row.first + 1 && !row.searches()) {
             const auto pair = pairs.back();
             pairs.insert(pairs.end(), 19, pair);
         }
