@@ -1,4 +1,5 @@
--- A text whose decomposition has a character that leads is parted there, before a character that decomposes to it first.
+-- A text whose decomposition has a character that leads is parted there: before a character that decomposes to it
+-- first.
 use Rattle.std.proofs.Common.{◌≡◌, ℕ, ◌≤◌, true, false, not, List, [], ◌∷◌, ◌++◌, length, flat_map, refl, sym, ap, ◌∙◌, inl, inr, arith, length-append}
 use Rattle.std.specs.List.{list_all}
 use Rattle.std.proofs.lemmas.Bool.{cases_Bool, and_parts, eqb-true, true≢false}
