@@ -152,46 +152,49 @@ sure_counts last least p above there =
 at_index : (xs ys : List ℕ) (p : ℕ) → get_or (xs ++ p ∷ ys) (length xs) 0 ≡ p
 at_index xs ys p = get_or-append_seam xs p ys 0
 
--- a list that begins with so many of another one's, and then has another weight, isn't one that begins with that one
-unlike_at : (a z r s : List ℕ) (p k : ℕ) → a ≡ take k z → k < length z → a ++ (p ∷ s) ≡ z ++ r → p ≡ get_or z k 0
-unlike_at a z r s p k is inside whole =
-    let size : length a ≡ k = ap length is ∙ length-take-le k z (omega (arith, inside)) in
+-- a list that has so many weights, and then this one, has this one there as any list with which it begins
+one_at : (a z r s : List ℕ) (p k : ℕ) → length a ≡ k → k < length z → a ++ (p ∷ s) ≡ z ++ r → p ≡ get_or z k 0
+one_at a z r s p k size inside whole =
     sym (at_index a s p) ∙ ap (λ n. get_or (a ++ p ∷ s) n 0) size ∙ ap (λ (l : List ℕ). get_or l k 0) whole ∙ get_or_append_left z r 0 k inside
 
 -- a list that ends before it has as many isn't one either
-short_of : (a z r : List ℕ) (k : ℕ) → a ≡ take k z → k < length z → a ≡ z ++ r → ⊥
-short_of a z r k is inside whole = omega (arith, ap length is, length-take-le k z (omega (arith, inside)), ap length whole, length-append z r, inside)
+short_of : (a z r : List ℕ) (k : ℕ) → length a ≡ k → k < length z → a ≡ z ++ r → ⊥
+short_of a z r k size inside whole = omega (arith, size, ap length whole, length-append z r, inside)
 
 -- ---- reading the first elements of a text
 
--- Some elements were read, those that count are the first of the front, and these are left.
-pub record ReadFirst (c : Collation) (text front : List ℕ) (left : List ℕ → List Element) (met : ℕ) : Type 0 where
+-- Some elements were read, so many of which count, and these are left.
+pub record ReadFirst (c : Collation) (text : List ℕ) (left : List ℕ → List Element) (met : ℕ) : Type 0 where
   pub gone : List Element
   pub before : List ℕ
   pub elements : elements_of (reading_by c) (nfd text) ≡ gone ++ left before
-  pub same : map low (counted_primaries (last_variable_by c) gone) ≡ take met (map low front)
+  pub count : length (counted_primaries (last_variable_by c) gone) ≡ met
 
-module _ (c : Collation) (text front : List ℕ) where
+module _ (c : Collation) (text : List ℕ) where
   abbrev last : ℕ
   last = last_variable_by c
 
+  abbrev compared : List ℕ → List ℕ
+  compared = map (reorder c.tables)
+
   -- the weights of the whole, by what was read
-  whole : (gone more : List Element) → elements_of (reading_by c) (nfd text) ≡ gone ++ more → map low (lists_by c (nfd text)).primaries ≡ map low (counted_primaries last gone) ++ map low (counted_primaries last more)
+  whole : (gone more : List Element) → elements_of (reading_by c) (nfd text) ≡ gone ++ more
+      → compared (lists_by c (nfd text)).primaries ≡ compared (counted_primaries last gone) ++ compared (counted_primaries last more)
   whole gone more is =
-      ap (map low) (primaries_counted c text ∙ ap (counted_primaries last) is ∙ counted-append last gone more)
-      ∙ map-append low (counted_primaries last gone) (counted_primaries last more)
+      ap compared (primaries_counted c text ∙ ap (counted_primaries last) is ∙ counted-append last gone more)
+      ∙ map-append (reorder c.tables) (counted_primaries last gone) (counted_primaries last more)
 
   -- and by a part that begins as the front does
-  front_whole : (part rest more : List ℕ) → (lists_by c (nfd text)).primaries ≡ part ++ rest → map low part ≡ map low (front ++ more)
-      → map low (lists_by c (nfd text)).primaries ≡ map low front ++ (map low more ++ map low rest)
-  front_whole part rest more is same =
-      ap (map low) is ∙ map-append low part rest ∙ ap (λ (l : List ℕ). l ++ map low rest) (same ∙ map-append low front more)
-      ∙ append_assoc (map low front) (map low more) (map low rest)
+  front_whole : (front part rest more : List ℕ) → (lists_by c (nfd text)).primaries ≡ part ++ rest → compared part ≡ compared (front ++ more)
+      → compared (lists_by c (nfd text)).primaries ≡ compared front ++ (compared more ++ compared rest)
+  front_whole front part rest more is same =
+      ap compared is ∙ map-append (reorder c.tables) part rest ∙ ap (λ (l : List ℕ). l ++ compared rest) (same ∙ map-append (reorder c.tables) front more)
+      ∙ append_assoc (compared front) (compared more) (compared rest)
 
-  pub first_read : (left : List ℕ → List Element) → left [] ≡ elements_of (reading_by c) (nfd text) → ReadFirst c text front left 0
-  first_read left is = record { gone = []; before = []; elements = sym is; same = ap (map low) (nothing last) }
+  pub first_read : (left : List ℕ → List Element) → left [] ≡ elements_of (reading_by c) (nfd text) → ReadFirst c text left 0
+  first_read left is = record { gone = []; before = []; elements = sym is; count = ap length (nothing last) }
 
-  module _ (old new : List ℕ → List Element) (met : ℕ) (x : Element) (r : ReadFirst c text front old met) (next : (before : List ℕ) → (after : List ℕ) × (old before ≡ x ∷ new after)) where
+  module _ (old new : List ℕ → List Element) (met : ℕ) (x : Element) (r : ReadFirst c text old met) (next : (before : List ℕ) → (after : List ℕ) × (old before ≡ x ∷ new after)) where
     abbrev all_gone : List Element
     all_gone = r.gone ++ x ∷ []
 
@@ -199,49 +202,45 @@ module _ (c : Collation) (text front : List ℕ) where
     gone_on = r.elements ∙ ap (λ (l : List Element). r.gone ++ l) (next r.before).1 ∙ sym (append_assoc r.gone (x ∷ []) (new (next r.before).0))
 
     -- one that doesn't count
-    pub read_past : counts last x.primary ≡ false → ReadFirst c text front new met
-    read_past not = record { gone = all_gone; before = (next r.before).0; elements = gone_on; same = ap (map low) (one_counts_not last r.gone x not) ∙ r.same }
+    pub read_past : counts last x.primary ≡ false → ReadFirst c text new met
+    read_past not = record { gone = all_gone; before = (next r.before).0; elements = gone_on; count = ap length (one_counts_not last r.gone x not) ∙ r.count }
 
-    -- one that does, and is the next one of the front
-    pub read_on : counts last x.primary ≡ true → met < length front → low x.primary ≡ low (get_or front met 0) → ReadFirst c text front new (met + 1)
-    read_on is inside alike = record {
+    -- one that does
+    pub read_on : counts last x.primary ≡ true → ReadFirst c text new (met + 1)
+    read_on is = record {
       gone = all_gone;
       before = (next r.before).0;
       elements = gone_on;
-      same =
-          ap (map low) (one_counts last r.gone x is) ∙ map-append low (counted_primaries last r.gone) (x.primary ∷ [])
-          ∙ ap (λ (l : List ℕ). l ++ low x.primary ∷ []) r.same
-          ∙ ap (λ w. take met (map low front) ++ w ∷ []) (alike ∙ sym (get_or-map low front met 0 0 inside))
-          ∙ sym (ap (λ n. take n (map low front)) after ∙ take-suc (map low front) met 0 fits);
+      count = omega (arith, ap length (one_counts last r.gone x is), length-append (counted_primaries last r.gone) (x.primary ∷ []), r.count);
     }
-      where
-        after : met + 1 ≡ suc met
-        after = omega arith
 
-        fits : met < length (map low front)
-        fits = omega (arith, inside, length-map front low)
-
-    -- one that does, and isn't
-    pub reads_other : counts last x.primary ≡ true → met < length front → (low x.primary ≡ low (get_or front met 0) → ⊥) → BeginsOtherwise c text front
-    reads_other is inside unlike = λ part rest more parts same.
+    -- one that does, and is compared as another one than the front has there
+    pub reads_other : (front : List ℕ) → counts last x.primary ≡ true → met < length front → (reorder c.tables x.primary ≡ reorder c.tables (get_or front met 0) → ⊥) → BeginsOtherwise c text front
+    reads_other front is inside unlike = λ part rest more parts same.
+        let f = reorder c.tables in
         let later = new (next r.before).0 in
-        let read : map low (lists_by c (nfd text)).primaries ≡ take met (map low front) ++ (low x.primary ∷ map low (counted_primaries last later)) =
+        let gone = compared (counted_primaries last r.gone) in
+        let read : compared (lists_by c (nfd text)).primaries ≡ gone ++ (f x.primary ∷ compared (counted_primaries last later)) =
         whole all_gone later gone_on
-        ∙ ap (λ (l : List ℕ). map low l ++ map low (counted_primaries last later)) (one_counts last r.gone x is)
-        ∙ ap (λ (l : List ℕ). l ++ map low (counted_primaries last later)) (map-append low (counted_primaries last r.gone) (x.primary ∷ []) ∙ ap (λ (l : List ℕ). l ++ low x.primary ∷ []) r.same)
-        ∙ append_assoc (take met (map low front)) (low x.primary ∷ []) (map low (counted_primaries last later)) in
+        ∙ ap (λ (l : List ℕ). compared l ++ compared (counted_primaries last later)) (one_counts last r.gone x is)
+        ∙ ap (λ (l : List ℕ). l ++ compared (counted_primaries last later)) (map-append f (counted_primaries last r.gone) (x.primary ∷ []))
+        ∙ append_assoc gone (f x.primary ∷ []) (compared (counted_primaries last later)) in
         unlike
-        (unlike_at (take met (map low front)) (map low front) (map low more ++ map low rest) (map low (counted_primaries last later)) (low x.primary) met refl (omega (arith, inside, length-map front low))
-        (sym read ∙ front_whole part rest more parts same)
-        ∙ get_or-map low front met 0 0 inside)
+        (one_at gone (compared front) (compared more ++ compared rest) (compared (counted_primaries last later)) (f x.primary) met
+        (length-map (counted_primaries last r.gone) f ∙ r.count) (omega (arith, inside, length-map front f))
+        (sym read ∙ front_whole front part rest more parts same)
+        ∙ get_or-map f front met 0 0 inside)
 
   -- none is left
-  pub reads_few : (old : List ℕ → List Element) (met : ℕ) → ReadFirst c text front old met → ((before : List ℕ) → old before ≡ []) → met < length front → BeginsOtherwise c text front
-  reads_few old met r none inside = λ part rest more parts same.
-      let read : map low (lists_by c (nfd text)).primaries ≡ take met (map low front) =
+  pub reads_few : (front : List ℕ) (old : List ℕ → List Element) (met : ℕ) → ReadFirst c text old met → ((before : List ℕ) → old before ≡ []) → met < length front → BeginsOtherwise c text front
+  reads_few front old met r none inside = λ part rest more parts same.
+      let f = reorder c.tables in
+      let gone = compared (counted_primaries last r.gone) in
+      let read : compared (lists_by c (nfd text)).primaries ≡ gone =
       whole r.gone [] (r.elements ∙ ap (λ (l : List Element). r.gone ++ l) (none r.before))
-      ∙ ap (λ (l : List ℕ). map low (counted_primaries last r.gone) ++ map low l) (nothing last) ∙ append-nil (map low (counted_primaries last r.gone)) ∙ r.same in
-      short_of (map low (lists_by c (nfd text)).primaries) (map low front) (map low more ++ map low rest) met read (omega (arith, inside, length-map front low)) (front_whole part rest more parts same)
+      ∙ ap (λ (l : List ℕ). gone ++ compared l) (nothing last) ∙ append-nil gone in
+      short_of (compared (lists_by c (nfd text)).primaries) (compared front) (compared more ++ compared rest) met
+      (ap length read ∙ length-map (counted_primaries last r.gone) f ∙ r.count) (omega (arith, inside, length-map front f)) (front_whole front part rest more parts same)
 
 -- ---- reordering changes lead bytes alone
 
@@ -271,22 +270,22 @@ by_low : (o : Option Reordering) (p : ℕ) → low (reorder_by o p) ≡ low p
 by_low None p = refl
 by_low (Some r) p = reordered_low r p
 
-lows : (c : Collation) (ps : List ℕ) → map low (map (reorder c.tables) ps) ≡ map low ps
-lows c [] = refl
-lows c (p ∷ ps) = ap (λ x. x ∷ map low (map (reorder c.tables) ps)) (by_low c.tables.reordering p) ∙ ap (λ (l : List ℕ). low p ∷ l) (lows c ps)
+-- weights whose lower bytes differ are compared as different ones
+pub differ_below : (c : Collation) (p q : ℕ) → (low p ≡ low q → ⊥) → reorder c.tables p ≡ reorder c.tables q → ⊥
+differ_below c p q apart same = apart (sym (by_low c.tables.reordering p) ∙ ap low same ∙ by_low c.tables.reordering q)
 
 -- ---- parts with which a text begins
 
--- equal texts have the same primary weights, below the lead bytes
-same_lows : (c : Collation) (part pattern : List ℕ) → is_eq (text_order c part pattern) ≡ true → map low (lists_by c (nfd part)).primaries ≡ map low (lists_by c (nfd pattern)).primaries
+-- equal texts have the same primary weights, as they are compared
+same_compared : (c : Collation) (part pattern : List ℕ) → is_eq (text_order c part pattern) ≡ true
+    → map (reorder c.tables) (lists_by c (nfd part)).primaries ≡ map (reorder c.tables) (lists_by c (nfd pattern)).primaries
 unfolding text_order
-same_lows c part pattern equal =
+same_compared c part pattern equal =
     let t = lists_by c (nfd part) in
     let u = lists_by c (nfd pattern) in
     let f = reorder c.tables in
     let tied : primaries_order (compression_of c.tables) t u ≡ Equal = first_tied (primaries_order (compression_of c.tables) t u) _ (eq_is _ equal) in
-    let same : map f t.primaries ≡ map f u.primaries = tied_lists (map f t.primaries) (map f u.primaries) tied in
-    sym (lows c t.primaries) ∙ ap (map low) same ∙ lows c u.primaries
+    tied_lists (map f t.primaries) (map f u.primaries) tied
 
 pub unequal_part : (c d : Collation) → d ≡ c → (text part rest pattern front : List ℕ) → BeginsOtherwise d text front → BeginsWith front (lists_by c (nfd pattern)).primaries
     → (lists_by c (nfd text)).primaries ≡ (lists_by c (nfd part)).primaries ++ rest → is_eq (text_order c part pattern) ≡ false
@@ -297,6 +296,6 @@ unequal_part c d same text part rest pattern front otherwise begins is =
           let more = drop (length front) ps in
           let pattern_is : ps ≡ front ++ more = sym (take-append-drop (length front) ps) ∙ ap (λ (l : List ℕ). l ++ more) begins in
           let none : BeginsOtherwise c text front = subst (λ (e : Collation). BeginsOtherwise e text front) same otherwise in
-          absurd (none (lists_by c (nfd part)).primaries rest more is (same_lows c part pattern equal ∙ ap (map low) pattern_is))
+          absurd (none (lists_by c (nfd part)).primaries rest more is (same_compared c part pattern equal ∙ ap (map (reorder c.tables)) pattern_is))
       | inr not ↦ not
     ]

@@ -7,3 +7,4 @@ pub mod OverlappingLemmas
 pub mod AllowedLemmas
 pub mod FirstWeightLemmas
 pub mod TextCutLemmas
+pub mod ApartLeadLemmas

@@ -1,5 +1,5 @@
 -- What an iterator of matches still gives.
-use Rattle.std.specs.Prelude.{List, map}
+use Rattle.std.specs.Prelude.{Bool, is_some, List, map}
 use Rattle.icu_search.specs.LeastMatches.{Span, least_matches}
 use Rattle.icu_search.specs.SpansLeft.{spans_left}
 use Rattle.icu_text_search.specs.declared.found_matches.FoundMatches.{FoundMatches}
@@ -17,3 +17,11 @@ abbrev pub overlapping_left : OverlappingMatches → List Span
 overlapping_left f =
     map (match_in_units (offsets_searched f.text.now))
     (beginning_at f.start (least_matches (matches_in f.text.now) (char_len_in f.text.now)))
+
+-- an allocation failed, so that each further call fails
+abbrev pub has_failed : FoundMatches → Bool
+has_failed f = is_some f.failed
+
+-- an allocation failed of one that gives least matches, so that each further call fails
+abbrev pub overlapping_failed : OverlappingMatches → Bool
+overlapping_failed f = is_some f.failed

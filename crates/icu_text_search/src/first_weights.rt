@@ -4,8 +4,9 @@ ghost use Rattle.std.specs.Prelude.{◌≡◌, ◌<◌, ◌≤◌, ℕ, true, If
 ghost use Rattle.std.specs.Option.{ForSome};
 ghost use Rattle.icu_collator.specs.Collators.{collation_borrowed};
 ghost use Rattle.icu_text_order.specs.Forms.{last_variable_by};
-ghost use Rattle.icu_text_search.specs.inner.FirstWeights.{BeginsOtherwise, BeginsWith, counted_primaries, counts, low};
+ghost use Rattle.icu_text_search.specs.inner.FirstWeights.{AreApart, BeginsOtherwise, BeginsWith, counted_primaries, counts, low};
 
+use crate::apart_leads::differ;
 use icu_collator::CollatorBorrowed;
 use icu_cursor::FactsCursor;
 use icu_elements::CollationElement;
@@ -44,7 +45,7 @@ impl KnownVariables {
 
 /// What of a primary weight no reordering changes.
 #[inline(always)]
-fn low(primary: u32) -> u32
+pub(crate) fn low(primary: u32) -> u32
     ensures { result ≡ low primary }
 {
     primary % 0x100_0000
@@ -80,11 +81,13 @@ pub(crate) fn rules_out(
     collator: &CollatorBorrowed<'_>,
     known: KnownVariables,
     primaries: &[u32],
+    apart: &[bool; 256],
     text: &[char],
 ) -> bool
     requires sure { ForSome known.sure
         (λ p. last_variable_by (collation_borrowed collator.now) < p) }
     requires variable { known.variable ≤ last_variable_by (collation_borrowed collator.now) }
+    requires apart { AreApart (collation_borrowed collator.now) apart.now }
     ensures { result ≡ true → BeginsOtherwise (collation_borrowed collator.now) text.now
         primaries.now }
 {
@@ -105,7 +108,7 @@ pub(crate) fn rules_out(
             return false;
         };
         if counts {
-            if low(element.primary()) != low(primaries[met]) {
+            if differ(apart, element.primary(), primaries[met]) {
                 return true;
             }
             met += 1;

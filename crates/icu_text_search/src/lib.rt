@@ -6,6 +6,7 @@
 #![tactic(auto)]
 
 mod allowed_offsets;
+mod apart_leads;
 mod boundary;
 mod encoded_searches;
 mod first_weights;
@@ -15,6 +16,7 @@ mod overlapping_matches;
 mod part_match;
 mod part_outcome;
 mod part_walk;
+mod pattern_weights;
 mod search_calls;
 mod searched_text;
 mod searcher;

@@ -3,6 +3,7 @@
 ghost use Rattle.std.specs.Prelude.{◌≡◌};
 
 use std::marker::Model;
+use std::ops::Range;
 
 /// A part of a text that is equal to the pattern: from this unit on, before that one. Units are those of the text's
 /// encoding: bytes, or units of 16 bits.
@@ -44,5 +45,12 @@ impl Match {
         ensures { result ≡ self.stop }
     {
         self.end
+    }
+
+    /// From where it begins to where it ends, as a range of units.
+    pub fn range(self) -> Range<usize>
+        ensures { span result.start result.end ≡ self }
+    {
+        self.start..self.end
     }
 }

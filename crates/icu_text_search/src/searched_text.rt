@@ -1,6 +1,6 @@
 //! Texts that are searched.
 
-ghost use Rattle.std.specs.Prelude.{◌≡◌, ◌-◌, ◌<◌, ◌≤◌, IfOk, IfSome, length, map, slice_index};
+ghost use Rattle.std.specs.Prelude.{◌≡◌, ◌-◌, ◌<◌, ◌≤◌, false, IfOk, IfSome, length, map, slice_index};
 ghost use Rattle.std.specs.Option.{ForSome, option_map};
 ghost use Rattle.icu_indexed_text.specs.IndexedTexts.{indexed_chars, indexed_offsets};
 ghost use Rattle.icu_indexed_text.specs.OffsetSets.{has_offset};
@@ -85,7 +85,7 @@ fn marks_of_long_parts(
 }
 
 impl<'s, 'c> SearchedText<'s, 'c> {
-    ghost use Rattle.icu_text_search.specs.MatchesLeft.{matches_left, overlapping_left};
+    ghost use Rattle.icu_text_search.specs.MatchesLeft.{has_failed, matches_left, overlapping_failed, overlapping_left};
     ghost use Rattle.icu_text_search.specs.SearchedTexts.{char_len_in, matches_in, offsets_searched, searched_in, text_searched};
     ghost use Rattle.icu_text_search.specs.TextOffsets.{match_in_units};
 
@@ -161,16 +161,18 @@ impl<'s, 'c> SearchedText<'s, 'c> {
 
     /// All that are found in it, one by one.
     pub fn find_iter(&self) -> FoundMatches<'_, 's, 'c>
-        ensures { let t = self.entry.now in matches_left result
+        ensures all { let t = self.entry.now in matches_left result
             ≡ map (match_in_units (offsets_searched t)) (found (searched_in t) (text_searched t)) }
+        ensures works { has_failed result ≡ false }
     {
         FoundMatches::new(self)
     }
 
     /// All least matches, one by one, overlapping ones included.
     pub fn find_overlapping_iter(&self) -> OverlappingMatches<'_, 's, 'c>
-        ensures { let t = self.entry.now in overlapping_left result
+        ensures all { let t = self.entry.now in overlapping_left result
             ≡ map (match_in_units (offsets_searched t)) (least (searched_in t) (text_searched t)) }
+        ensures works { overlapping_failed result ≡ false }
     {
         OverlappingMatches::new(self)
     }

@@ -12,112 +12,21 @@ ghost use Rattle.icu_text_order.specs.Forms.{last_variable_by};
 ghost use Rattle.icu_search.specs.Searches.{found};
 ghost use Rattle.unicode_normalization.specs.Forms.{nfd};
 ghost use Rattle.icu_search.specs.PieceLaws.{BeginsPieces};
-ghost use Rattle.icu_text_search.specs.inner.FirstWeights.{BeginsWith};
-ghost use Rattle.icu_text_search.specs.inner.OnePrimaries.{HasOnePrimary};
+ghost use Rattle.icu_text_search.specs.inner.FirstWeights.{AreApart, BeginsWith};
 ghost use Rattle.icu_text_search.specs.inner.PartOutcomes.{equals_pattern};
-ghost use Rattle.icu_text_search.specs.inner.PrimaryCounts.{primaries_from};
 
-use crate::first_weights::{KnownVariables, known_primaries, rules_out};
-use icu_collator::options::AlternateHandling;
+use crate::apart_leads::apart_leads;
+use crate::first_weights::{KnownVariables, rules_out};
+use crate::pattern_weights::{
+    fewest_primaries, first_primaries, first_sure, most_primaries, primaries_from,
+    reading_of_collator,
+};
 use icu_collator::{Collator, CollatorBorrowed};
-use icu_elements::{CollationElement, TextReading, all_elements};
+use icu_elements::{CollationElement, TextReading};
 use icu_encodings::{Latin1Text, Utf8Text, Utf16Text};
-use icu_entries::element::MERGE_SEPARATOR_PRIMARY;
 use icu_indexed_text::utf8_copy;
 use icu_searcher::begins_letter;
 use std::alloc::{AllocError, Global};
-use std::cmp::Ordering;
-
-/// How many of these elements have a primary weight from this one on.
-fn primaries_from(elements: &[CollationElement], least: u32) -> usize
-    ensures { result ≡ primaries_from least elements.now }
-{
-    elements.iter().filter(|e| e.primary() >= least).count()
-}
-
-/// How a collator reads texts.
-fn reading_of_collator<'c>(collator: &CollatorBorrowed<'c>) -> TextReading<'c>
-    ensures { reading_of result ≡ reading_by (collation_borrowed collator.now) }
-{
-    collator.cursor_tables().places().reading()
-}
-
-/// How many primary weights the elements of a text have: no more of them count.
-fn most_primaries(collator: &CollatorBorrowed<'_>, text: &str) -> Result<usize, AllocError>
-    ensures { IfOk result (λ n. length (lists_by (collation_borrowed collator.now)
-        (nfd (chars text.now))).primaries ≤ n) }
-{
-    let elements = all_elements(reading_of_collator(collator), text.chars())?;
-    Ok(primaries_from(elements.as_slice(), 1))
-}
-
-/// How many primary weights of a text surely count, by a weight from which on none is that of a variable element.
-fn fewest_primaries(
-    collator: &CollatorBorrowed<'_>,
-    text: &str,
-    sure: Option<u32>,
-) -> Result<usize, AllocError>
-    requires { ForSome sure (λ p. last_variable_by (collation_borrowed collator.now) < p) }
-    ensures { IfOk result (λ n. n ≤ length (lists_by (collation_borrowed collator.now)
-        (nfd (chars text.now))).primaries) }
-{
-    let Some(least) = sure else {
-        return Ok(0);
-    };
-    let elements = all_elements(reading_of_collator(collator), text.chars())?;
-    Ok(primaries_from(elements.as_slice(), least))
-}
-
-/// The primary weight of a text that has one element.
-fn only_primary(collator: &CollatorBorrowed<'_>, text: &str) -> Result<Option<u32>, AllocError>
-    ensures { let reading = reading_by (collation_borrowed collator.now) in
-        IfOk result (λ o. IfSome o (HasOnePrimary reading (chars text.now))) }
-{
-    let elements = all_elements(reading_of_collator(collator), text.chars())?;
-    match elements.as_slice() {
-        [only] => Ok(Some(only.primary())),
-        _ => Ok(None),
-    }
-}
-
-/// The primary weight of a text with one element that comes after the merge separator: the element isn't variable, and
-/// none with a greater weight is.
-fn counted_primary(
-    collator: &CollatorBorrowed<'_>,
-    text: &str,
-    separator: &str,
-) -> Result<Option<u32>, AllocError>
-    ensures { IfOk result (λ o. IfSome o
-        (λ p. last_variable_by (collation_borrowed collator.now) < p)) }
-{
-    let Some(least) = only_primary(collator, separator)? else {
-        return Ok(None);
-    };
-    let Some(primary) = only_primary(collator, text)? else {
-        return Ok(None);
-    };
-    if least != MERGE_SEPARATOR_PRIMARY || primary <= least {
-        return Ok(None);
-    }
-    match collator.order(text, separator) {
-        Ordering::Greater => Ok(Some(primary)),
-        Ordering::Less | Ordering::Equal => Ok(None),
-    }
-}
-
-/// A primary weight from which on none is that of a variable element, if one is known: where variable elements are
-/// shifted or blanked, that of a digit.
-fn first_sure(collator: &CollatorBorrowed<'_>) -> Result<Option<u32>, AllocError>
-    ensures { IfOk result (λ o. IfSome o
-        (λ p. last_variable_by (collation_borrowed collator.now) < p)) }
-{
-    match collator.resolved_options().alternate_handling {
-        AlternateHandling::NonIgnorable => Ok(Some(1)),
-        AlternateHandling::Shifted | AlternateHandling::Blanked => {
-            counted_primary(collator, "0", "\u{FFFE}")
-        }
-    }
-}
 
 /// A pattern that is searched for by a collator. It is read once, and doesn't change.
 #[derive(Debug, Drop)]
@@ -135,6 +44,9 @@ pub struct Searcher<'c> {
     equals_empty: bool,
     /// The primary weights with which it begins.
     first: Vec<u32>,
+    /// Marks of lead bytes that are kept apart.
+    apart: [bool; 256],
+    ghost apart_is: { AreApart (collation_borrowed collator) apart },
     ghost first_is: { BeginsWith first.items (lists_by (collation_borrowed collator)
         (nfd (chars (string_bytes pattern)))).primaries },
     ghost sure_is: { ForSome sure (λ p. last_variable_by (collation_borrowed collator) < p) },
@@ -151,24 +63,6 @@ fn is_empty_text(collator: &CollatorBorrowed<'_>, text: &str) -> bool
     ensures { result ≡ is_eq (text_order (collation_borrowed collator.now) [] (chars text.now)) }
 {
     collator.order("", text).is_eq()
-}
-
-/// The primary weights with which those of a pattern begin, as far as it is known which of them count.
-fn first_primaries(
-    alloc: Global,
-    collator: &CollatorBorrowed<'_>,
-    pattern: &str,
-    known: KnownVariables,
-) -> Result<Vec<u32>, AllocError>
-    requires sure { ForSome known.sure
-        (λ p. last_variable_by (collation_borrowed collator.now) < p) }
-    requires variable { known.variable ≤ last_variable_by (collation_borrowed collator.now) }
-    ensures { IfOk result (λ v. BeginsWith v.items (lists_by (collation_borrowed collator.now)
-        (nfd (chars pattern.now))).primaries) }
-{
-    let elements = all_elements(reading_of_collator(collator), pattern.chars())?;
-    let primaries = known_primaries(alloc, known, elements.as_slice())?;
-    Ok(primaries)
 }
 
 impl<'c> Searcher<'c> {
@@ -249,6 +143,7 @@ impl<'c> Searcher<'c> {
         let equals_empty = is_empty_text(&collator.as_borrowed(), pattern.as_str());
         let known = KnownVariables { sure, variable: 0 };
         let first = first_primaries(alloc, &collator.as_borrowed(), pattern.as_str(), known)?;
+        let apart = apart_leads(alloc, &collator.as_borrowed(), known, first.as_slice())?;
         Ok(Searcher {
             alloc,
             collator: collator.as_borrowed(),
@@ -258,6 +153,7 @@ impl<'c> Searcher<'c> {
             most,
             equals_empty,
             first,
+            apart,
         })
     }
 
@@ -306,7 +202,13 @@ impl<'c> Searcher<'c> {
             sure: self.sure,
             variable: 0,
         };
-        rules_out(&self.collator, known, self.first.as_slice(), text)
+        rules_out(
+            &self.collator,
+            known,
+            self.first.as_slice(),
+            &self.apart,
+            text,
+        )
     }
 
     /// Whether each text may be searched in pieces that are cut before a character. False says nothing.

@@ -8,5 +8,5 @@ use Rattle.icu_text_search.proofs.first_weights.rules_out.Given as goal
 abbrev pub invariant-loop : goal.invariant-loop
 invariant-loop l = record {
   inside : l.met ≤ length l.primaries;
-  read : ReadFirst (collation_borrowed l.collator) l.text l.primaries (facts_give (λ t. t.0.now) l.cursor) l.met;
+  read : ReadFirst (collation_borrowed l.collator) l.text (facts_give (λ t. t.0.now) l.cursor) l.met;
 }

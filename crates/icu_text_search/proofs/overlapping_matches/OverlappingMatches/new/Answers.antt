@@ -6,7 +6,7 @@ use Rattle.icu_text_search.specs.TextOffsets.{match_in_units}
 use Rattle.icu_text_search.proofs.OverlappingLemmas.{all_begin}
 use Rattle.icu_text_search.proofs.overlapping_matches.OverlappingMatches.new.Goals as goal
 
-pub returns : goal.returns
-returns c =
+pub returns-clause-all : goal.returns-clause-all
+returns-clause-all c =
     let t = c.args.text.now in
     ap (λ (l : List Span). map (match_in_units (offsets_searched t)) l) (all_begin (least (searched_in t) (text_searched t)))

@@ -9,7 +9,7 @@ use Rattle.icu_weighting.specs.Forms.{last_variable_by}
 use Rattle.icu_text_order.specs.TextOrder.{reading_by}
 use Rattle.icu_text_search.specs.inner.FirstWeights.{counted_primaries}
 use Rattle.icu_text_search.proofs.FirstWeightLemmas.{primaries_counted}
-use Rattle.icu_text_search.proofs.searcher.first_primaries.Goals as goal
+use Rattle.icu_text_search.proofs.pattern_weights.first_primaries.Goals as goal
 
 pub returns : goal.returns
 returns c =

@@ -5,7 +5,7 @@ use Rattle.icu_text_search.specs.SearchedTexts.{char_len_in, matches_in, offsets
 use Rattle.icu_text_search.specs.OverlappingMatches.{beginning_at}
 use Rattle.icu_text_search.specs.TextOffsets.{match_in_units}
 use Rattle.icu_text_search.proofs.OverlappingLemmas.{one_given, none_given}
-use Rattle.icu_text_search.proofs.overlapping_matches.OverlappingMatches.next.Goals as goal
+use Rattle.icu_text_search.proofs.overlapping_matches.OverlappingMatches.read_next.Goals as goal
 
 pub returns-in-Some-clause-gives : goal.returns-in-Some-clause-gives
 returns-in-Some-clause-gives c =

@@ -6,7 +6,7 @@ use Rattle.icu_collator.specs.Collators.{collation_borrowed}
 use Rattle.icu_elements.specs.TextElements.{Reading, elements_of}
 use Rattle.icu_text_order.specs.TextOrder.{reading_by}
 use Rattle.icu_text_search.proofs.PrimaryCountLemmas.{no_less}
-use Rattle.icu_text_search.proofs.searcher.fewest_primaries.Goals as goal
+use Rattle.icu_text_search.proofs.pattern_weights.fewest_primaries.Goals as goal
 
 pub returns : goal.returns
 returns c =

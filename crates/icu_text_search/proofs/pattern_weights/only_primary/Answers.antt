@@ -6,7 +6,7 @@ use Rattle.icu_entries.specs.Elements.{Element}
 use Rattle.icu_collator.specs.Collators.{collation_borrowed}
 use Rattle.icu_elements.specs.TextElements.{Reading, elements_of}
 use Rattle.icu_text_order.specs.TextOrder.{reading_by}
-use Rattle.icu_text_search.proofs.searcher.only_primary.Goals as goal
+use Rattle.icu_text_search.proofs.pattern_weights.only_primary.Goals as goal
 
 only_item : (xs : List Element) (x : Element) → 1 ≤ length xs → length xs < 2 → x ≡ get_or xs 0 x → xs ≡ x ∷ []
 only_item [] x some few is = absurd (omega (arith, some))

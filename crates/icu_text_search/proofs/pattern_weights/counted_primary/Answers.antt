@@ -5,7 +5,7 @@ use Rattle.icu_collator.specs.Collators.{collation_borrowed}
 use Rattle.icu_text_order.specs.TextOrder.{reading_by}
 use Rattle.icu_text_search.specs.inner.OnePrimaries.{HasOnePrimary}
 use Rattle.icu_text_search.proofs.SureLemmas.{surely_counted}
-use Rattle.icu_text_search.proofs.searcher.counted_primary.Goals as goal
+use Rattle.icu_text_search.proofs.pattern_weights.counted_primary.Goals as goal
 
 pub returns-in-Greater : goal.returns-in-Greater
 returns-in-Greater c =
