@@ -1,10 +1,10 @@
 -- Primary weights of one byte that a reordering keeps apart.
-use Rattle.std.proofs.Common.{◌≡◌, ◌⊎◌, ℕ, ◌+◌, ◌*◌, ◌/◌, ◌%◌, ◌<◌, ◌≤◌, Bool, true, false, ◌&&◌, ◌==◌, List, [], ◌∷◌, length, map, take, drop, get_or, set, replicate, refl, sym, ap, ◌∙◌, subst, arith, inl, inr, length-append}
+use Rattle.std.proofs.Common.{◌≡◌, ◌⊎◌, ℕ, ◌/◌, ◌<◌, ◌≤◌, Bool, true, false, ◌==◌, List, [], ◌∷◌, length, map, take, get_or, set, replicate, refl, sym, ap, ◌∙◌, arith, inl, inr}
 use Rattle.std.specs.Prelude.{slice_index_or}
 use Rattle.std.specs.declared.cmp.Ordering.{Ordering}
 use Rattle.std.specs.declared.cmp.Ordering.TheVariants.{Less, Equal, Greater}
 use Rattle.std.specs.Ordering.{ordering_then}
-use Rattle.std.proofs.lemmas.Bool.{cases_Bool, cases_eq, and_from, and_parts, and_right, eqb-true, false≢true}
+use Rattle.std.proofs.lemmas.Bool.{cases_eq, and_from, and_parts, and_right, eqb-true, false≢true}
 use Rattle.std.proofs.lemmas.Grind.{common_steps}
 use Rattle.std.proofs.lemmas.List.{length-take, length-map, get_or-set_other}
 use Rattle.unicode_normalization.specs.Forms.{nfd}
@@ -16,7 +16,6 @@ use Rattle.icu_weighting.specs.Collations.{Collation}
 use Rattle.icu_weighting.specs.Forms.{compression_of}
 use Rattle.icu_text_order.specs.TextOrder.{lists_by, text_order}
 use Rattle.icu_text_search.specs.inner.FirstWeights.{AreApart, BeginsWith, RiseTo, IsComparedAsLess, is_lone, low}
-use Rattle.icu_text_search.proofs.FirstWeightLemmas.{differ_below}
 
 -- ---- weights that are told apart
 

@@ -1,11 +1,11 @@
 -- What the first primary weights of a text tell.
-use Rattle.std.proofs.Common.{◌≡◌, ℕ, suc, ◌+◌, ◌-◌, ◌<◌, ◌≤◌, Bool, true, false, ◌&&◌, ◌||◌, ◌==◌, nat_le, nat_lt, List, [], ◌∷◌, ◌++◌, Option, Some, None, ◌*◌, ◌/◌, ◌%◌, if◌then◌else◌, length, map, take, drop, get_or, refl, sym, ap, ◌∙◌, subst, arith, inl, inr, length-append, append_assoc, append-nil}
+use Rattle.std.proofs.Common.{◌≡◌, ℕ, ◌+◌, ◌<◌, ◌≤◌, Bool, true, false, ◌&&◌, ◌||◌, ◌==◌, nat_le, nat_lt, List, [], ◌∷◌, ◌++◌, Option, Some, None, ◌%◌, if◌then◌else◌, length, map, drop, get_or, refl, sym, ap, ◌∙◌, subst, arith, inl, inr, length-append, append_assoc, append-nil}
 use Rattle.std.specs.Prelude.{not, find, slice_index}
 use Rattle.std.specs.Ordering.{is_eq}
 use Rattle.std.specs.declared.cmp.Ordering.TheVariants.{Equal}
-use Rattle.std.proofs.lemmas.Bool.{cases_Bool, cases_lt, leb-true, le-leb, lt-leb, lt-ltb, eqb-true, ne_eqb, or_right, false≢true}
-use Rattle.std.proofs.lemmas.List.{get_or-map, get_or_append_left, length-map, length-take-le, map-append, take-append-drop}
-use Rattle.std.proofs.Math.Seq.{get_or-append_seam, take-suc}
+use Rattle.std.proofs.lemmas.Bool.{cases_Bool, le-leb, lt-leb, lt-ltb, ne_eqb, or_right}
+use Rattle.std.proofs.lemmas.List.{get_or-map, get_or_append_left, length-map, map-append, take-append-drop}
+use Rattle.std.proofs.Math.Seq.{get_or-append_seam}
 use Rattle.unicode_normalization.specs.Forms.{nfd}
 use Rattle.icu_options.specs.declared.settings.AlternateHandling.{AlternateHandling}
 use Rattle.icu_options.specs.declared.settings.AlternateHandling.TheVariants.{NonIgnorable, Shifted, Blanked}
@@ -20,7 +20,7 @@ use Rattle.icu_levels.specs.Keys.{primaries_order}
 use Rattle.icu_levels.proofs.Order.{tied_lists}
 use Rattle.icu_provider.specs.Reorderings.{Reordering, lead_byte, with_lead, lies_below, moved, reordered}
 use Rattle.icu_provider.specs.CollatorTables.{reorder, reorder_by}
-use Rattle.icu_text_order.specs.TextOrder.{reading_by, handled_elements, lists_by, text_order}
+use Rattle.icu_text_order.specs.TextOrder.{reading_by, lists_by, text_order}
 use Rattle.icu_text_search.proofs.LongerPartLemmas.{eq_is, first_tied}
 use Rattle.icu_text_search.specs.inner.FirstWeights.{BeginsOtherwise, BeginsWith, counts, counted_primaries, low}
 

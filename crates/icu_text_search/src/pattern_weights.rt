@@ -34,7 +34,10 @@ pub(crate) fn reading_of_collator<'c>(collator: &CollatorBorrowed<'c>) -> TextRe
 }
 
 /// How many primary weights the elements of a text have: no more of them count.
-pub(crate) fn most_primaries(collator: &CollatorBorrowed<'_>, text: &str) -> Result<usize, AllocError>
+pub(crate) fn most_primaries(
+    collator: &CollatorBorrowed<'_>,
+    text: &str,
+) -> Result<usize, AllocError>
     ensures { IfOk result (λ n. length (lists_by (collation_borrowed collator.now)
         (nfd (chars text.now))).primaries ≤ n) }
 {
@@ -60,7 +63,10 @@ pub(crate) fn fewest_primaries(
 }
 
 /// The primary weight of a text that has one element.
-pub(crate) fn only_primary(collator: &CollatorBorrowed<'_>, text: &str) -> Result<Option<u32>, AllocError>
+pub(crate) fn only_primary(
+    collator: &CollatorBorrowed<'_>,
+    text: &str,
+) -> Result<Option<u32>, AllocError>
     ensures { let reading = reading_by (collation_borrowed collator.now) in
         IfOk result (λ o. IfSome o (HasOnePrimary reading (chars text.now))) }
 {

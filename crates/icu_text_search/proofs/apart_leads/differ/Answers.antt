@@ -1,4 +1,4 @@
-use Rattle.std.proofs.Common.{◌≡◌, ◌∙◌, sym}
+use Rattle.std.proofs.Common.{◌∙◌, sym}
 use Rattle.icu_text_search.proofs.FirstWeightLemmas.{differ_below}
 use Rattle.icu_text_search.proofs.apart_leads.differ.Goals as goal
 

@@ -1,4 +1,4 @@
-use Rattle.std.proofs.Common.{◌≡◌, ◌≤◌, length, sym, ◌∙◌, arith}
+use Rattle.std.proofs.Common.{◌≤◌, length, sym, arith}
 use Rattle.std.specs.Prelude.{chars}
 use Rattle.unicode_normalization.specs.Forms.{nfd}
 use Rattle.icu_collator.specs.Collators.{collation_borrowed}

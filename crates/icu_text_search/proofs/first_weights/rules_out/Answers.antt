@@ -1,4 +1,4 @@
-use Rattle.std.proofs.Common.{◌≡◌, ℕ, ◌+◌, ◌<◌, ◌≤◌, true, false, List, [], length, get_or, ap, ◌∙◌, sym, subst, arith}
+use Rattle.std.proofs.Common.{◌≡◌, ◌<◌, true, [], length, get_or, ap, ◌∙◌, sym, subst, arith}
 use Rattle.unicode_normalization.specs.Forms.{nfd}
 use Rattle.icu_collator.specs.Collators.{collation_borrowed}
 use Rattle.icu_cursor.specs.FactsCursors.{facts_give}

@@ -1,8 +1,7 @@
-use Rattle.std.proofs.Common.{◌≡◌, List, length, take, sym, ap, ◌∙◌}
+use Rattle.std.proofs.Common.{◌≡◌, length, take, sym, ap, ◌∙◌}
 use Rattle.std.specs.Prelude.{chars}
 use Rattle.unicode_normalization.specs.Forms.{nfd}
 use Rattle.unicode_normalization.proofs.IterLemmas.{Spells-chars}
-use Rattle.icu_entries.specs.Elements.{Element}
 use Rattle.icu_collator.specs.Collators.{collation_borrowed}
 use Rattle.icu_elements.specs.TextElements.{Reading, elements_of}
 use Rattle.icu_weighting.specs.Forms.{last_variable_by}

@@ -1,4 +1,4 @@
-use Rattle.std.proofs.Common.{◌≡◌, ℕ, ◌<◌, List, get_or, ◌∙◌, ap, arith}
+use Rattle.std.proofs.Common.{ℕ, List, get_or, ◌∙◌, ap, arith}
 use Rattle.icu_collator.specs.Collators.{collation_borrowed}
 use Rattle.icu_text_order.specs.TextOrder.{reading_by}
 use Rattle.icu_text_search.specs.SearchedTexts.{text_searched}

@@ -1,7 +1,7 @@
-use Rattle.std.proofs.Common.{◌≡◌, sym}
+use Rattle.std.proofs.Common.{sym}
 use Rattle.icu_text_search.specs.SearchedTexts.{searched_in, text_searched}
 use Rattle.icu_text_order.specs.TextOrder.{reading_by}
-use Rattle.icu_text_search.proofs.TextCutLemmas.{cut_is_place, first_place, last_place}
+use Rattle.icu_text_search.proofs.TextCutLemmas.{cut_is_place}
 use Rattle.icu_text_search.proofs.searched_text.SearchedText.is_place.Goals as goal
 
 pub returns-then-cuts_at : goal.returns-then-cuts_at

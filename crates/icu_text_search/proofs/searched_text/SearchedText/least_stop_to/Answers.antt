@@ -1,4 +1,4 @@
-use Rattle.std.proofs.Common.{◌≡◌, sym, ◌∙◌}
+use Rattle.std.proofs.Common.{sym, ◌∙◌}
 use Rattle.icu_text_search.specs.SearchedTexts.{searched_in, text_searched}
 use Rattle.icu_text_search.proofs.TextCutLemmas.{told_ruled_out}
 use Rattle.icu_text_search.proofs.searched_text.SearchedText.least_stop_to.Goals as goal

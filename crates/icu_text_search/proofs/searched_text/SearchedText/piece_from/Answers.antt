@@ -1,5 +1,4 @@
-use Rattle.std.proofs.Common.{◌≡◌, ◌-◌, ◌≤◌, List, ℕ, length, take, drop, refl, sym, ap, ◌∙◌, arith, inl, inr}
-use Rattle.std.proofs.lemmas.List.{take_all, length-drop}
+use Rattle.std.proofs.Common.{List, ℕ, length, refl, ap, arith, inl, inr}
 use Rattle.std.specs.Prelude.{slice_range}
 use Rattle.icu_text_search.specs.SearchedTexts.{text_searched}
 use Rattle.icu_text_search.proofs.searched_text.SearchedText.piece_from.Goals as goal

@@ -1,4 +1,4 @@
-use Rattle.std.proofs.Common.{◌≡◌, sym, ◌∙◌}
+use Rattle.std.proofs.Common.{sym, ◌∙◌}
 use Rattle.icu_text_search.specs.SearchedTexts.{searched_in, text_searched}
 use Rattle.icu_text_search.proofs.PartWalks.{no_start, not_allowed, empty_matches, empty_matches_not}
 use Rattle.icu_text_search.proofs.searched_text.SearchedText.shortest_stop.Goals as goal

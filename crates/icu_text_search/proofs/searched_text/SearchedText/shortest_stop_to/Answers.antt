@@ -1,5 +1,5 @@
 use Rattle.icu_text_search.specs.SearchedTexts.{char_len_in, matches_in}
-use Rattle.std.proofs.Common.{◌<◌, arith}
+use Rattle.std.proofs.Common.{arith}
 use Rattle.icu_text_search.proofs.TextCutLemmas.{told_in_time, told_too_late, told_none}
 use Rattle.icu_text_search.proofs.searched_text.SearchedText.shortest_stop_to.Goals as goal
 

@@ -1,4 +1,4 @@
-use Rattle.std.proofs.Common.{◌≡◌, ℕ, List, refl, subst}
+use Rattle.std.proofs.Common.{ℕ, List, refl, subst}
 use Rattle.std.specs.Prelude.{chars, string_bytes}
 use Rattle.icu_collator.specs.Collators.{collation_borrowed}
 use Rattle.icu_text_search.specs.inner.FirstWeights.{BeginsOtherwise}
