@@ -11,8 +11,8 @@ import crates
 
 DRIVER = "test_driver"
 # What says that a call may fail so, in the type that it returns.
-FAILURES = {"AllocError", "DataError", "LdmlError", "LineError", "MappingEntriesError", "NumberingError", "ReadError", "ReorderingError",
-            "RuleTablesError", "RulesError", "SortKeyError", "TagError", "TailoredEntriesError", "TailoringError", "XmlError"}
+FAILURES = {"AllocError", "DataError", "LabelsError", "LdmlError", "LineError", "MappingEntriesError", "NumberingError", "ReadError",
+            "ReorderingError", "RuleTablesError", "RulesError", "SortKeyError", "TagError", "TailoredEntriesError", "TailoringError", "XmlError"}
 # Errors that say so within another one, and such as no public call returns.
 WITHIN = {"DataErrorKind", "RuleStepError", "UnplacedError"}
 # A public error, of which one kind is that an allocation failed.
@@ -55,6 +55,7 @@ LEFT_OUT = {
     ("icu_headings", "Headings::number_of"): LISTS,
     ("icu_headings", "Headings::of"): LISTS,
     ("icu_index", "NameIndex::beginning_with"): LISTS,
+    ("icu_index_labels", "read_index_labels"): NOTHING,
     ("icu_key_bounds", "lower_bound_key"): LISTS,
     ("icu_key_bounds", "upper_bound_key"): LISTS,
     ("icu_keyed_names", "KeyedNames::beginning_with"): LISTS,

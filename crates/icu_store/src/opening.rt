@@ -1,5 +1,8 @@
 //! How an index is opened over a database, and made anew for another collator.
 
+ghost use Rattle.std.specs.Prelude.{◌≡◌, IfOk};
+ghost use Rattle.icu_store.specs.Stores.{printed_collation, store_collation};
+
 use crate::printed_collator::PrintedCollator;
 use crate::setting_words::written_settings;
 use crate::stored_index::{StoredIndex, key_of};
@@ -61,7 +64,9 @@ impl From<AllocError> for OpenError {
 }
 
 /// The index that a collator orders.
-fn index_of(alloc: Global, collator: &PrintedCollator) -> StoredIndex<'_> {
+fn index_of(alloc: Global, collator: &PrintedCollator) -> StoredIndex<'_>
+    ensures { store_collation result ≡ printed_collation collator.entry.now }
+{
     StoredIndex {
         alloc,
         collator: collator.collator().as_borrowed(),
@@ -96,7 +101,9 @@ pub fn open<'c, S: Alter>(
     alloc: Global,
     connection: &mut Connection<S>,
     collator: &'c PrintedCollator,
-) -> Result<StoredIndex<'c>, OpenError> {
+) -> Result<StoredIndex<'c>, OpenError>
+    ensures { IfOk result (λ index. store_collation index ≡ printed_collation collator.entry.now) }
+{
     let wanted = settings_of(alloc, collator)?;
     if !connection.is_autocommit() {
         return Err(OpenError::Database(Error::SqliteFailure(ErrorCode::TransactionState)));
@@ -160,7 +167,9 @@ pub fn rebuild<'c, S: Alter>(
     alloc: Global,
     connection: &mut Connection<S>,
     collator: &'c PrintedCollator,
-) -> Result<StoredIndex<'c>, Error> {
+) -> Result<StoredIndex<'c>, Error>
+    ensures { IfOk result (λ index. store_collation index ≡ printed_collation collator.entry.now) }
+{
     let wanted = settings_of(alloc, collator)?;
     if !connection.is_autocommit() {
         return Err(Error::SqliteFailure(ErrorCode::TransactionState));

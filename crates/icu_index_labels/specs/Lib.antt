@@ -1,0 +1,4 @@
+pub mod IndexSets
+pub mod WrittenLabels
+pub mod TakenLabels
+pub mod IndexLabels
