@@ -22,7 +22,11 @@ use std::alloc::Global;
 use std::io::Write;
 
 /// Prints a text, and flushes the output.
-fn print_text<W: Write>(text: &[u8], output: &mut W) -> Result<(), ProgramError>
+///
+/// # Errors
+///
+/// Fails only where a write does, or the flush; then a beginning was printed.
+pub fn print_text<W: Write>(text: &[u8], output: &mut W) -> Result<(), ProgramError>
     ensures ok { OnOk result (Appends (W.contents output.old) (W.contents output.new) text.now) }
     ensures stops { IfErr result (StopsPrinting (λ t. t ≡ text.now)
         (W.contents output.old) (W.contents output.new)) }

@@ -14,7 +14,11 @@ use keyed_lines::{KeyedLine, LineKeys, LineOrder, SortRequest, lines_by, sort_ke
 use std::alloc::{AllocError, Global};
 
 /// Writes the sort key of a line, in UTF-8 that may be damaged, behind other bytes.
-pub(crate) fn write_line_key(
+///
+/// # Errors
+///
+/// Fails only where an allocation does.
+pub fn write_line_key(
     collator: &CollatorBorrowed<'_>,
     line: &[u8],
     key: &mut Vec<u8>,

@@ -1,0 +1,40 @@
+//! What the command prints.
+
+ghost use Rattle.std.specs.Prelude.{IfErr, OnOk};
+ghost use Rattle.icu_collator.specs.Collators.{collation_kept};
+ghost use Rattle.line_commands.specs.Printed.{Prints, StopsPrinting};
+ghost use Rattle.field_sorts.specs.FieldSortedInputs.{SortsByFields};
+
+use crate::field_sort::FieldSorts;
+use crate::sorted_by_fields::text_sorted_by_fields;
+use collate_commands::ProgramError;
+use icu_collator::Collator;
+use keyed_lines::SortRequest;
+use line_commands::print_text;
+use std::alloc::Global;
+use std::io::Write;
+
+/// Prints the lines of an input in the order of their fields.
+///
+/// # Errors
+///
+/// Fails only where an allocation does, and prints nothing, or where a write or the flush does: then a beginning was
+/// printed.
+pub fn print_sorted_by_fields<W: Write>(
+    alloc: Global,
+    collator: &Collator,
+    fields: FieldSorts<'_>,
+    input: &[u8],
+    request: SortRequest,
+    output: &mut W,
+) -> Result<(), ProgramError>
+    ensures ok { OnOk result (Prints (SortsByFields (collation_kept collator.now)
+        fields.entry.ends fields.entry.sorts.now request input.now)
+        (W.contents output.old) (W.contents output.new)) }
+    ensures stops { IfErr result (StopsPrinting (SortsByFields (collation_kept collator.now)
+        fields.entry.ends fields.entry.sorts.now request input.now)
+        (W.contents output.old) (W.contents output.new)) }
+{
+    let text = text_sorted_by_fields(alloc, collator, fields, input, request)?;
+    print_text(text.as_slice(), output)
+}

@@ -1,0 +1,2 @@
+pub mod JoinedKeyLemmas
+pub mod PassingLemmas

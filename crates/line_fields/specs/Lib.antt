@@ -1,0 +1,3 @@
+pub mod LineFields
+pub mod NumberKeys
+pub mod JoinedKeys

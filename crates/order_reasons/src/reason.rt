@@ -1,0 +1,124 @@
+//! The level that decides the order of two texts.
+
+ghost use Rattle.std.specs.Prelude.{◌≡◌, ◌++◌, IfOk, OnOk, chars};
+ghost use Rattle.icu_collator.specs.Collators.{collation_borrowed};
+ghost use Rattle.collate_commands.specs.Answers.{sign_of};
+ghost use Rattle.order_reasons.specs.OrderLevels.{all_levels, deciding_level, differ_by, first_differing};
+ghost use Rattle.order_reasons.specs.Reasons.{decision, level_name, reason_text};
+
+use crate::level_collator::{collator_up_to, level_counts};
+use crate::order_level::OrderLevel;
+use icu_collator::CollatorBorrowed;
+use std::alloc::{AllocError, Global};
+use std::cmp::Ordering;
+
+/// All levels, in their order.
+pub(crate) fn all_levels() -> [OrderLevel; 6]
+    ensures { result ≡ all_levels }
+{
+    [
+        OrderLevel::Primary,
+        OrderLevel::Secondary,
+        OrderLevel::Case,
+        OrderLevel::Tertiary,
+        OrderLevel::Quaternary,
+        OrderLevel::Identical,
+    ]
+}
+
+/// Whether two texts differ up to a level that counts.
+fn differ_by(collator: &CollatorBorrowed<'_>, one: &str, other: &str, level: OrderLevel) -> bool
+    ensures { result ≡ differ_by (collation_borrowed collator.now)
+        (chars one.now) (chars other.now) level }
+{
+    if !level_counts(collator, level) {
+        return false;
+    }
+    !collator_up_to(collator, level).order(one, other).is_eq()
+}
+
+/// The first of some levels up to which two texts differ.
+fn first_differing(
+    collator: &CollatorBorrowed<'_>,
+    one: &str,
+    other: &str,
+    levels: &[OrderLevel],
+) -> Option<OrderLevel>
+    ensures { result ≡ first_differing (collation_borrowed collator.now)
+        (chars one.now) (chars other.now) levels.now }
+{
+    for level in levels {
+        if differ_by(collator, one, other, *level) {
+            return Some(*level);
+        }
+    }
+    None
+}
+
+/// The level that decides the order of two texts: the first that counts up to which they differ, or `None` where they
+/// compare equal. Does not allocate.
+pub fn deciding_level(collator: &CollatorBorrowed<'_>, one: &str, other: &str) -> Option<OrderLevel>
+    ensures { result ≡ deciding_level (collation_borrowed collator.now)
+        (chars one.now) (chars other.now) }
+{
+    let levels = all_levels();
+    first_differing(collator, one, other, levels.as_slice())
+}
+
+/// The name of a level.
+pub(crate) fn level_name(level: OrderLevel) -> &'static [u8]
+    ensures { result.now ≡ level_name level }
+{
+    match level {
+        OrderLevel::Primary => b"primary",
+        OrderLevel::Secondary => b"secondary",
+        OrderLevel::Case => b"case",
+        OrderLevel::Tertiary => b"tertiary",
+        OrderLevel::Quaternary => b"quaternary",
+        OrderLevel::Identical => b"identical",
+    }
+}
+
+/// Appends that no level decides, or which one does.
+fn push_decision(text: &mut Vec<u8>, level: Option<OrderLevel>) -> Result<(), AllocError>
+    ensures { OnOk result (text.new.items ≡ text.old.items ++ decision level) }
+{
+    match level {
+        None => text.extend_from_slice(b"no level differs\n"),
+        Some(level) => {
+            text.extend_from_slice(level_name(level))?;
+            text.extend_from_slice(b" level\n")
+        }
+    }
+}
+
+/// The sign of an order.
+fn sign(order: Ordering) -> &'static [u8]
+    ensures { result.now ≡ sign_of order }
+{
+    match order {
+        Ordering::Less => b"<",
+        Ordering::Equal => b"=",
+        Ordering::Greater => b">",
+    }
+}
+
+/// The sign of the order of two texts, a tab, and the level that decides.
+///
+/// # Errors
+///
+/// Fails only where an allocation does.
+pub fn reason_text(
+    alloc: Global,
+    collator: &CollatorBorrowed<'_>,
+    one: &str,
+    other: &str,
+) -> Result<Vec<u8>, AllocError>
+    ensures { IfOk result (λ text. text.items ≡ reason_text (collation_borrowed collator.now)
+        (chars one.now) (chars other.now)) }
+{
+    let mut text = Vec::from_slice(alloc, sign(collator.order(one, other)))?;
+    text.extend_from_slice(b"\t")?;
+    push_decision(&mut text, deciding_level(collator, one, other))?;
+    Ok(text)
+}
