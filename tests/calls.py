@@ -120,6 +120,7 @@ LEFT_OUT = {
     ("icu_symbolic_mappings", "mappings_behind"): TAILORINGS,
     ("icu_tailored_entries", "tailored_data"): TAILORINGS,
     ("icu_tailored_entries", "tailored_diacritics"): TAILORINGS,
+    ("icu_tailored_entries", "tailored_jamo"): PROGRAM,
     ("icu_tailoring_numbers", "TailoringNumbers::of_tree"): TAILORINGS,
     ("icu_text_search", "FoundMatches::next"): SEARCHES,
     ("icu_text_search", "OverlappingMatches::next"): SEARCHES,

@@ -37,6 +37,22 @@ SIGNED = [
     (["-l", "zh-Hant"], "a z", ">"),
     (["-l", "zh-TW"], "a z", ">"),
     (["-l", "zh-TW-u-co-pinyin"], "b z", ">"),
+    # Of conjoining jamo, which have a table of their own, by themselves and in syllables.
+    (["-l", "und"], "ᄀ c", ">"),
+    (["-l", "ko-u-co-search"], "ᄀ c", "<"),
+    (["-l", "ko-u-co-search"], "b ᄀ", "<"),
+    (["-l", "ko-u-co-search"], "가 c", "<"),
+    (["-l", "ko-u-co-search"], "가 까", "<"),
+    (["-l", "ko-u-co-search"], "까 c", "<"),
+    (["-l", "ko-u-co-search"], "나 c", ">"),
+    (["-l", "ko-u-co-search"], "ᄀᄁ ᇺ", "="),
+    (["-l", "ko-u-co-search", "--strength=1"], "가 갸", "="),
+    (["-l", "ko-u-co-search"], "가 갸", "<"),
+    (["-l", "ko-u-co-search"], "거 갸", ">"),
+    # A variant, which the name of a file has in capitals.
+    (["-l", "en-US-posix"], "B a", "<"),
+    (["-l", "en-US-POSIX"], "b C", ">"),
+    (["-l", "en-US"], "B a", ">"),
     # A language without a file has the root's order.
     (["-l", "en"], "å z", "<"),
     (["-l", "und"], "å z", "<"),
@@ -101,7 +117,7 @@ da\tstandard
 de\tstandard phonebk
 fr-CA\tstandard
 hr\tstandard
-ko\tstandard
+ko\tstandard search
 nb\tstandard
 no\tstandard
 ta\tstandard circle wrong

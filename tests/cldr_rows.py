@@ -3,8 +3,8 @@
 
 tests/cldr_rows.txt has a row of texts for each locale and type whose rules say something, in the order that ICU 72 gives them by the
 rules of CLDR 41, with the level of each difference. The program is asked whether they stand in order, and differ at that level or
-before; FOLDER is that of CLDR's data. Two types have no row: the rules of `sa` are a proposal (`alt="proposed"`), and of `en_US_POSIX`
-no tag is read as yet. It prints each type that is refused with what is said of it, each row that isn't in order, and
+before; FOLDER is that of CLDR's data. The rules of `sa` are a proposal (`alt="proposed"`), for which no tag asks, so they have no row.
+It prints each type that is refused with what is said of it, each row that isn't in order, and
 counts and times. Its status is 1 where a row isn't in order, or nothing is. It isn't part of the gate."""
 import os
 import re

@@ -10,13 +10,13 @@ ghost use Rattle.collate_cldr.specs.RuledCollators.{ComparesByRules, ComparesByT
 use crate::asked_locale::refused_locale;
 use crate::asked_rules::{LocaleRules, refused_rule};
 use crate::choice::Chosen;
-use crate::file_source::{error_of, refused, refused_by};
+use crate::file_source::{error_of, refused_by};
 use collate_commands::ProgramError;
 use icu_checked_root::CheckedRoot;
 use icu_checks::CheckedTables;
 use icu_cldr::CldrRoot;
 use icu_collator::Collator;
-use icu_entries::{DataError, DataErrorKind, DataTable};
+use icu_entries::{DataError, DataErrorKind};
 use icu_options::Strength;
 use icu_rule_tables::{RuleRefusal, RuleTablesError, Tailoring};
 use std::alloc::Global;
@@ -50,18 +50,6 @@ fn refused_statement(
     }
 }
 
-/// What an error of a table that isn't made comes to.
-fn absent_table(alloc: Global, rules: &LocaleRules, error: DataError) -> ProgramError {
-    if error.table == DataTable::Jamo && error.kind == DataErrorKind::Absent {
-        return refused(
-            alloc,
-            rules.source.as_str(),
-            "conjoining jamo have no mappings of a collation's own yet",
-        );
-    }
-    refused_tables(alloc, rules, &error)
-}
-
 /// What an error of rules that make no tables comes to.
 fn error_of_rules(alloc: Global, rules: &LocaleRules, error: RuleTablesError) -> ProgramError {
     match error {
@@ -71,7 +59,6 @@ fn error_of_rules(alloc: Global, rules: &LocaleRules, error: RuleTablesError) ->
             import,
             kind,
         } => refused_statement(alloc, rules, import.unwrap_or(place), kind),
-        RuleTablesError::Table(error) => absent_table(alloc, rules, error),
         error => refused_tables(alloc, rules, &error),
     }
 }

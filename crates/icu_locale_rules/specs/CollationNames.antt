@@ -8,7 +8,7 @@ use Rattle.icu_locale_rules.specs.declared.collation_name.CollationName.{Collati
 
 -- The name of the file of a locale, by the parts of its tag. An old code stands for the one that has replaced it, and a
 -- region that is written in another script than the language mostly is for that script: of the locales whose order that
--- changes.
+-- changes. Files write variants in capitals, of which there is one.
 unfoldable pub file_name_of : List ℕ → List ℕ
 file_name_of locale =
     if bytes_eq locale (codes "und") then codes "root"
@@ -18,7 +18,8 @@ file_name_of locale =
     else (if bytes_eq locale (codes "in") then codes "id"
     else (if bytes_eq locale (codes "ji") then codes "yi"
     else (if bytes_eq locale (codes "mo") then codes "ro"
-    else (if bytes_eq locale (codes "tl") then codes "fil" else locale)))))))
+    else (if bytes_eq locale (codes "tl") then codes "fil"
+    else (if bytes_eq locale (codes "en_US_posix") then codes "en_US_POSIX" else locale))))))))
 
 -- the type that the keyword `co` of a tag names, as files name it
 abbrev pub named_type : List Subtag → Option (List ℕ)

@@ -16,7 +16,8 @@ pub struct CollationName {
 }
 
 /// The name of the file of a locale, by the parts of its tag: `root` for `und`; the code that has replaced an old one;
-/// and where a region is written in another script than the language mostly is, the file of that script.
+/// where a region is written in another script than the language mostly is, the file of that script; and the one name
+/// of a file that has a variant, which files write in capitals.
 #[tactic(auto, unfolding(crate::specs::CollationNames::file_name_of))]
 pub fn file_name_of(locale: &str) -> &str
     ensures { result.now ≡ file_name_of locale.now }
@@ -30,6 +31,7 @@ pub fn file_name_of(locale: &str) -> &str
         "ji" => "yi",
         "mo" => "ro",
         "tl" => "fil",
+        "en_US_posix" => "en_US_POSIX",
         _ => locale,
     }
 }

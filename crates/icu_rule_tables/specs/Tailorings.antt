@@ -4,9 +4,11 @@ use Rattle.icu_collation_data.specs.Data.{Data}
 use Rattle.icu_collation_data.specs.CodePointTables.{code_point_count}
 use Rattle.icu_table_builder.specs.OwnedData.{owned_data}
 use Rattle.icu_provider.specs.CollatorTables.{CollatorTables}
-use Rattle.icu_provider.specs.OwnedTables.{owned_diacritics, owned_reordering}
+use Rattle.icu_provider.specs.OwnedTables.{owned_diacritics, owned_jamo, owned_reordering}
 use Rattle.icu_provider.specs.Reorderings.{Reordering}
+use Rattle.icu_provider.specs.Tables.{Tables}
 use Rattle.icu_checks.specs.Checked.{checked_tables}
+use Rattle.icu_checks.specs.declared.checked.CheckedTables.{CheckedTables}
 use Rattle.icu_rules.specs.declared.rules.PlacedStatement.{PlacedStatement}
 use Rattle.icu_rules.specs.declared.statement.RuleSetting.{RuleSetting}
 use Rattle.icu_rules.specs.Statements.{SpellStatements}
@@ -14,6 +16,7 @@ use Rattle.icu_tailoring.specs.Steps.{TailoringState, first_state}
 use Rattle.icu_symbolic_mappings.specs.KeptMappings.{mappings_in}
 use Rattle.icu_symbolic_mappings.specs.declared.kept_mappings.Mappings.{Mappings}
 use Rattle.icu_tailored_entries.specs.GivenMappings.{TailorsCharacter}
+use Rattle.icu_tailored_entries.specs.TailoredJamo.{TailorsJamo}
 use Rattle.icu_tailoring_numbers.specs.declared.tailoring_numbers.TailoringNumbers.{TailoringNumbers}
 use Rattle.icu_rule_steps.specs.RuleFaults.{first_error}
 use Rattle.icu_checked_root.specs.declared.checked_root.CheckedRoot.{CheckedRoot}
@@ -21,25 +24,36 @@ use Rattle.icu_checked_root.specs.StoredRoots.{stored_root, tables_beside}
 use Rattle.icu_rule_tables.specs.RuleReorderings.{IsReorderingOf}
 use Rattle.icu_rule_tables.specs.RuleSettings.{tailored_bits}
 use Rattle.icu_rule_tables.specs.StatesByRules.{NumbersState, mappings_beside, state_over}
+use Rattle.icu_rule_tables.specs.declared.own_jamo.OwnJamo.{OwnJamo}
 use Rattle.icu_rule_tables.specs.declared.tailoring.Tailoring.{Tailoring}
 
--- the tables of a root with a tailoring, its settings, the last one first, its secondary weights of diacritics, and a
--- reordering, if there is one
-abbrev pub tables_by_rules : CollatorTables → List RuleSetting → Data → List ℕ → Option Reordering → CollatorTables
-tables_by_rules root said own diacritics reordering = record {
-  tables = record { root = root.tables.root; tailoring = Some own; jamo = root.tables.jamo; diacritics = diacritics };
-  special = root.special;
-  bits = tailored_bits root said diacritics;
+-- the tables of a root with a tailoring, its settings, the last one first, a root and entries of jamo in place of that
+-- root's, its secondary weights of diacritics, and a reordering, if there is one
+abbrev pub tables_by_rules : CollatorTables → List RuleSetting → Data → List ℕ → Data → List ℕ → Option Reordering → CollatorTables
+tables_by_rules over said root jamo own diacritics reordering = record {
+  tables = record { root = root; tailoring = Some own; jamo = jamo; diacritics = diacritics };
+  special = over.special;
+  bits = tailored_bits over said diacritics;
   reordering = reordering;
 }
+
+-- the root of a tailoring: one of its own, if it has one, and else that of the checked tables
+abbrev pub root_beside : CheckedTables → Option OwnJamo → Data
+root_beside over None = (checked_tables over).tables.root
+root_beside over (Some own) = owned_data own.root
+
+-- the entries of jamo of a tailoring: those of its own, if it has some, and else those of the checked tables
+abbrev pub jamo_beside : CheckedTables → Option OwnJamo → List ℕ
+jamo_beside over None = (checked_tables over).tables.jamo
+jamo_beside over (Some own) = owned_jamo own.jamo
 
 -- all tables of a collation by rules
 abbrev pub tailored_tables : Tailoring → CollatorTables
 tailored_tables t = record {
   tables = record {
-    root = (checked_tables t.root.now).tables.root;
+    root = root_beside t.root.now t.jamo;
     tailoring = Some (owned_data t.lists);
-    jamo = (checked_tables t.root.now).tables.jamo;
+    jamo = jamo_beside t.root.now t.jamo;
     diacritics = owned_diacritics t.diacritics;
   };
   special = (checked_tables t.root.now).special;
@@ -47,21 +61,25 @@ tailored_tables t = record {
   reordering = option_map owned_reordering t.reordering;
 }
 
--- The mappings of a state, as they are kept, by which a tailoring gives each character its entry.
-pub record GivesState (numbers : TailoringNumbers) (state : TailoringState) (own : Data) : Type 0 where
+-- The mappings of a state, as they are kept, by which a tailoring gives each character its entry, and a table of jamo,
+-- with the root to whose lists it refers, each jamo.
+pub record GivesState (over : Tables) (numbers : TailoringNumbers) (state : TailoringState) (root : Data) (jamo : List ℕ) (own : Data) : Type 0 where
   pub kept : Mappings CheckedRoot
   pub same : mappings_in mappings_beside kept ≡ state.mappings
   pub gives : (c : ℕ) → c < code_point_count → TailorsCharacter mappings_beside numbers kept own c
+  pub gives_jamo : TailorsJamo mappings_beside numbers kept over.root over.jamo root jamo
 
--- the tables of a root with a tailoring that gives what a state says, by these numbers, with its settings, and with the
--- reordering that it says
-pub record HasTablesOf (root : CheckedRoot) (numbers : TailoringNumbers) (state : TailoringState) (t : Tailoring) : Type 0 where
+-- the tables of a root with a tailoring, and with entries of jamo, that give what a state says, by these numbers, with
+-- its settings, and with the reordering that it says
+pub record HasTablesOf (over : CheckedRoot) (numbers : TailoringNumbers) (state : TailoringState) (t : Tailoring) : Type 0 where
+  pub root : Data
+  pub jamo : List ℕ
   pub own : Data
-  pub given : GivesState numbers state own
+  pub given : GivesState (checked_tables (tables_beside over)).tables numbers state root jamo own
   pub diacritics : List ℕ
   pub reordering : Option Reordering
-  pub reordered : IsReorderingOf root numbers state reordering
-  pub are : tailored_tables t ≡ tables_by_rules (checked_tables (tables_beside root)) state.settings own diacritics reordering
+  pub reordered : IsReorderingOf over numbers state reordering
+  pub are : tailored_tables t ≡ tables_by_rules (checked_tables (tables_beside over)) state.settings root jamo own diacritics reordering
 
 -- tables of rules, none of which is refused, by some numbers
 pub record SaysRules (root : CheckedRoot) (statements : List PlacedStatement) (t : Tailoring) : Type 0 where

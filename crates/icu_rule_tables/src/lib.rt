@@ -1,7 +1,7 @@
 //! Tables by a text of rules, over the root of checked tables (UTS #35 part 5, "Collation Tailorings").
 #![tactic(auto)]
 
-mod jamo_changes;
+mod own_jamo;
 mod rule_numbers;
 mod rule_reordering;
 mod rule_settings;

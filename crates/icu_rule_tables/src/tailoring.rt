@@ -11,7 +11,7 @@ ghost use Rattle.icu_entries.specs.declared.error.DataTable.TheVariants.{Reorder
 ghost use Rattle.icu_checked_root.specs.StoredRoots.{stored_root};
 ghost use Rattle.icu_rule_tables.specs.RuleErrors.{IsErrorOfRules};
 
-use crate::jamo_changes::change_jamo;
+use crate::own_jamo::{OwnJamo, lent_jamo, lent_root, own_jamo};
 use crate::rule_numbers::numbers_of;
 use crate::rule_reordering::rule_reordering;
 use crate::rule_tables_error::{RuleTablesError, table_error};
@@ -33,11 +33,12 @@ use std::alloc::Global;
 
 /// The tables of a collation by rules, over the root of checked tables (UTS #35 part 5, "Collation Tailorings"). It is
 /// a `CollationProvider`, which returns them for every locale and type: the root's, with a tailoring, metadata and
-/// diacritics of its own.
+/// diacritics of its own, and with a root and a table of jamo of its own where rules give conjoining jamo mappings.
 #[derive(Debug, Drop)]
 pub struct Tailoring<'t> {
     root: &'t CheckedTables,
     metadata: CollationMetadata,
+    jamo: Option<OwnJamo>,
     lists: OwnedData,
     diacritics: OwnedDiacritics,
     reordering: Option<OwnedReordering>,
@@ -103,17 +104,17 @@ impl<'t> Tailoring<'t> {
         ensures err { (statements : List PlacedStatement)
             → IfErr result (IsErrorOfRules (stored_root root.now) statements) }
     {
-        if change_jamo(alloc, root, said.mappings())? {
-            return Err(table_error(DataTable::Jamo, DataErrorKind::Absent));
-        }
         let tables = root.tables();
-        let vectors = tailored_data(alloc, root, numbers, said.mappings())?;
+        let mappings = said.mappings();
+        let jamo = own_jamo(alloc, tables, numbers, mappings)?;
+        let vectors = tailored_data(alloc, root, numbers, mappings)?;
         let secondaries = tables.diacritics().secondaries();
-        let diacritics = tailored_diacritics(alloc, secondaries, numbers, said.mappings())?;
+        let diacritics = tailored_diacritics(alloc, secondaries, numbers, mappings)?;
         let metadata = tailored_metadata(tables, said.settings(), diacritics.as_slice());
         Ok(Tailoring {
             root: tables,
             metadata,
+            jamo,
             lists: checked_data(vectors)?,
             diacritics: checked_diacritics(diacritics)?,
             reordering,
@@ -157,8 +158,8 @@ impl<'t> FixedProvider for Tailoring<'t> {
 
     fn loads(&self) -> FixedLoads<'_> {
         FixedLoads {
-            root: Ok(self.root.root()),
-            jamo: Ok(self.root.jamo()),
+            root: Ok(lent_root(self.root, &self.jamo)),
+            jamo: Ok(lent_jamo(self.root, &self.jamo)),
             special: Ok(self.root.special_primaries()),
             metadata: Ok(self.metadata),
             tailoring: Ok(self.lists.as_data()),

@@ -2,3 +2,4 @@ pub mod MappingEntryLemmas
 pub mod BegunSuffixLemmas
 pub mod NearestMappingLemmas
 pub mod TailoredCharacterLemmas
+pub mod JamoTableLemmas

@@ -1,2 +1,3 @@
 pub mod GivenMappings
+pub mod TailoredJamo
 pub mod inner

@@ -1,6 +1,7 @@
 //! The secondary weights of diacritics under a tailoring.
 
 use crate::error::TailoredEntriesError;
+use crate::jamo_table::own_mappings;
 use icu_entries::CollationElement;
 use icu_symbolic_mappings::{Mappings, RootMappings, SymbolicMapping, TouchedCharacter};
 use icu_tailoring_numbers::TailoringNumbers;
@@ -32,16 +33,6 @@ fn stands_before(touched: &[TouchedCharacter<'_>], c: char) -> bool {
         }
     }
     false
-}
-
-/// The mappings of a character among those that relations touched.
-fn own_mappings<'m>(touched: &[TouchedCharacter<'m>], c: char) -> Option<&'m [SymbolicMapping]> {
-    for other in touched {
-        if other.character == c {
-            return Some(other.mappings);
-        }
-    }
-    None
 }
 
 /// The secondary weight of an element that has nothing else of its own.

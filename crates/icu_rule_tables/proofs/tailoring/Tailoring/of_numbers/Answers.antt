@@ -8,30 +8,42 @@ use Rattle.icu_provider.specs.OwnedTables.{owned_diacritics, owned_reordering}
 use Rattle.icu_checked_root.specs.StoredRoots.{stored_root, tables_beside}
 use Rattle.icu_rule_steps.specs.SymbolicTailorings.{settings_in}
 use Rattle.icu_rule_tables.specs.RuleErrors.{IsErrorOfRules}
-use Rattle.icu_rule_tables.proofs.TailoringLemmas.{handed_on, tables_are}
+use Rattle.icu_rule_tables.specs.Tailorings.{jamo_beside, root_beside}
+use Rattle.icu_rule_tables.proofs.TailoringLemmas.{handed_on, jamo_given, tables_are}
 use Rattle.icu_rule_tables.proofs.tailoring.Tailoring.of_numbers.Goals as goal
 
 pub returns-clause-ok : goal.returns-clause-ok
 returns-clause-ok c =
     let lists = c.in_ok-checked_data.field-0 in
     let diacritics = owned_diacritics c.in_ok-checked_diacritics.field-0 in
+    let kept = c.mappings-mappings.result.now in
+    let own = c.in_ok-jamo.jamo in
+    let base = tables_beside c.args.root.now in
     record {
+      root = root_beside base own;
+      jamo = jamo_beside base own;
       own = owned_data lists;
       given = record {
-        kept = c.mappings-2.result.now;
-        same = c.mappings-2.ensures;
+        kept = kept;
+        same = c.mappings-mappings.ensures;
         gives = λ x small.
-            subst (λ (d : Data). TailorsCharacter mappings_beside c.args.numbers.now c.mappings-2.result.now d x)
+            subst (λ (d : Data). TailorsCharacter mappings_beside c.args.numbers.now kept d x)
             (sym c.in_ok-checked_data.ensures.ok) (c.in_ok-vectors.ensures x small);
+        gives_jamo = jamo_given c.args.numbers.now kept own c.tables-tables.result.now base c.tables-tables.ensures c.in_ok-jamo.ensures.ok;
       };
       diacritics = diacritics;
       reordering = option_map owned_reordering c.args.reordering;
       reordered = c.requires;
-      are = tables_are c.tables-tables.result.now (tables_beside c.args.root.now) c.tailored_metadata-metadata.result.bits lists
+      are = tables_are c.tables-tables.result.now base c.tailored_metadata-metadata.result.bits lists own
           diacritics c.as_slice.result.now (settings_in c.args.said.now) _
           (option_map owned_reordering c.args.reordering) c.tables-tables.ensures c.tailored_metadata-metadata.ensures
           c.settings.ensures (c.as_slice.ensures.value ∙ sym c.in_ok-checked_diacritics.ensures.ok);
     }
+
+pub returns-in_err-jamo-clause-err : goal.returns-in_err-jamo-clause-err
+returns-in_err-jamo-clause-err c statements =
+    handed_on c.from_residual.result c.in_err-jamo.field-0.0 (IsErrorOfRules (stored_root c.args.root.now) statements)
+    c.from_residual.ensures.1 (c.in_err-jamo.ensures.err (stored_root c.args.root.now) statements)
 
 pub returns-in_err-checked_data-clause-err : goal.returns-in_err-checked_data-clause-err
 returns-in_err-checked_data-clause-err c statements =
