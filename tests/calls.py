@@ -25,8 +25,8 @@ METHOD = re.compile(r"(?:<[^(]*>)?\(\s*(?:&(?:'\w+ )?)?(?:mut )?self\b")
 # How the driver comes to a value of a type that it doesn't name.
 VALUES = {"CollatorBorrowed": "as_borrowed"}
 # Programs, and crates of tests: what the driver asks about are libraries.
-OTHERS = {"collate", "collate_cldr", "collate_commands", "sort_names", "test_checked_root", "test_contracts", "test_lists", "test_readers",
-          "test_rule_steps", "test_tailorings", "test_text_search", "test_types", DRIVER}
+OTHERS = {"collate", "collate_cldr", "collate_commands", "collate_index", "sort_names", "test_checked_root", "test_contracts",
+          "test_lists", "test_readers", "test_rule_steps", "test_tailorings", "test_text_search", "test_types", DRIVER}
 KEY, CHECK, FILE, READ, LINE, INDEX = "`key`", "`check`", "`root`", "`next` and `whole`", "`line`", "`names`"
 # Calls to which no question comes: each request of this program, or of this crate, is refused or tested by itself; some are run by
 # the tests of their own crates alone, without a refusal.
@@ -35,6 +35,7 @@ READERS, RULES = "`test_readers`, where no allocation is refused", "`test_rule_s
 ROOTS = "`test_checked_root`, where no allocation is refused"
 TAILORINGS = "`test_tailorings`, where no allocation is refused"
 LISTS = "`test_lists`, where no allocation is refused"
+INDEXES = "the program `collate-index`, whose writes are stopped in turn"
 NAMES = "the program `sort_names`, each of whose requests is refused"
 SEARCHES = "`test_text_search`, where no allocation is refused"
 # Calls that nothing makes: those on which no program stands yet (searching, the reader of steps), and one that hands tables
@@ -55,7 +56,7 @@ LEFT_OUT = {
     ("icu_headings", "Headings::number_of"): LISTS,
     ("icu_headings", "Headings::of"): LISTS,
     ("icu_index", "NameIndex::beginning_with"): LISTS,
-    ("icu_index_labels", "read_index_labels"): NOTHING,
+    ("icu_index_labels", "read_index_labels"): INDEXES,
     ("icu_key_bounds", "lower_bound_key"): LISTS,
     ("icu_key_bounds", "upper_bound_key"): LISTS,
     ("icu_keyed_names", "KeyedNames::beginning_with"): LISTS,
@@ -77,8 +78,8 @@ LEFT_OUT = {
     ("icu_indexed_text", "offset_marks"): SEARCHES,
     ("icu_indexed_text", "utf8_copy"): SEARCHES,
     ("icu_indexed_text", "word_bounds"): SEARCHES,
-    ("icu_store", "PrintedCollator::from_checked_tables"): NOTHING,
-    ("icu_store", "written_settings"): NOTHING,
+    ("icu_store", "PrintedCollator::from_checked_tables"): INDEXES,
+    ("icu_store", "written_settings"): INDEXES,
     ("icu_rule_steps", "SymbolicTailoring::maker_of"): TAILORINGS,
     ("icu_rule_steps", "SymbolicTailoring::of_rules"): RULES,
     ("icu_rule_tables", "Tailoring::from_rules"): TAILORINGS,

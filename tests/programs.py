@@ -1,7 +1,7 @@
 #!/usr/bin/env python3
 """Runs the built programs and looks at what proofs do not speak of: the rows that the driver answers (rows.py), hostile input
-(hostile.py), refused memory (refusals.py), and of `collate` and `collate-cldr` the status that each ends with, what goes to which
-stream, and what becomes of a request that the system refuses.
+(hostile.py), refused memory (refusals.py), an index whose program is stopped at each write (index_program.py), and of `collate` and `collate-cldr`
+the status that each ends with, what goes to which stream, and what becomes of a request that the system refuses.
 
 usage: tests/programs.py      after `rt ci`, which builds the programs (bin/test does both)
 
@@ -19,6 +19,7 @@ import sweeps
 from calls import check_calls
 from cldr_program import check_collate_cldr, cut_lines, letter_lines, wrong_cuts
 from hostile import check_hostile
+from index_program import check_collate_index
 from long_orders import check_long_orders
 from long_sorts import check_long_sorts
 from names_program import check_sort_names
@@ -319,7 +320,7 @@ def check_collate(report, room, shim):
 
 def missing_programs():
     """The programs that the checks run and that aren't there. The driver is built by both compilers."""
-    paths = [built(it) for it in ("collate", "collate_cldr", "sort_names")] + drivers()
+    paths = [built(it) for it in ("collate", "collate_cldr", "collate_index", "sort_names")] + drivers()
     return [os.path.basename(it) for it in paths if not os.access(it, os.X_OK)]
 
 
@@ -342,6 +343,7 @@ def check_all(report, room):
     report.also("programs that do wrong", check_faults, room, shim)
     report.also("collate", check_collate, room, shim)
     report.also("collate-cldr", check_collate_cldr, room, shim)
+    report.also("collate-index", check_collate_index, room, built("collate_index"), compiled(room, "stop", "-shared", "-fPIC"))
     report.also("sort_names", check_sort_names, shim)
     report.also("calls", check_calls)
     report.also("rows", check_rows, drivers())

@@ -1,0 +1,102 @@
+//! The labels that headings are asked for with.
+
+use crate::named_collator::cldr_folder;
+use crate::refusals::{joined, refused};
+use clap::ArgMatches;
+use collate_commands::ProgramError;
+use icu_index_labels::{LabelsError, read_index_labels};
+use icu_ldml::parent_of;
+use std::alloc::{AllocError, Global};
+use std::fs;
+use std::io::{ErrorKind, Read};
+use std::rt::{Env, Files};
+
+/// The labels of a text, which stand between commas.
+fn labels_between_commas(alloc: Global, text: &str) -> Result<Vec<String>, AllocError> {
+    let mut labels = Vec::new(alloc);
+    for label in text.split(",") {
+        labels.push(label.to_string(alloc)?)?;
+    }
+    Ok(labels)
+}
+
+/// The text of a file, if the file is there.
+fn text_if_there<R: Files + AllocGlobal>(
+    rt: &R,
+    file: &str,
+) -> Result<Option<String>, ProgramError> {
+    let mut opened = match fs::open(rt, file) {
+        Ok(opened) => opened,
+        Err(e) if e.kind() == ErrorKind::NotFound => return Ok(None),
+        Err(_) => return Err(refused(rt.alloc(), file, &"not opened")),
+    };
+    let mut text = String::new(rt.alloc());
+    match opened.read_to_string(&mut text) {
+        Ok(_) => Ok(Some(text)),
+        Err(e) if e.kind() == ErrorKind::OutOfMemory => Err(ProgramError::NoMemory),
+        Err(_) => Err(refused(rt.alloc(), file, &"read failed")),
+    }
+}
+
+/// The labels that the file of a locale says, if it is there and says some.
+fn labels_in<R: Files + AllocGlobal>(
+    rt: &R,
+    file: &str,
+) -> Result<Option<Vec<String>>, ProgramError> {
+    let Some(text) = text_if_there(rt, file)? else {
+        return Ok(None);
+    };
+    match read_index_labels(rt.alloc(), text.as_str()) {
+        Ok(labels) => Ok(labels),
+        Err(LabelsError::NoMemory) => Err(ProgramError::NoMemory),
+        Err(error) => Err(refused(rt.alloc(), file, &error)),
+    }
+}
+
+/// The name of the file of a locale.
+fn file_of(alloc: Global, folder: &str, locale: &str) -> Result<String, AllocError> {
+    let mut file = joined(alloc, folder, "/common/main/")?;
+    file.push_str(locale)?;
+    file.push_str(".xml")?;
+    Ok(file)
+}
+
+/// The labels of a locale: those of its file, or of the first one of its parents that says some.
+fn labels_of_locale<R: Files + AllocGlobal>(
+    rt: &R,
+    folder: &str,
+    locale: &str,
+) -> Result<Vec<String>, ProgramError> {
+    let mut at = Some(locale);
+    for _ in 0..=locale.len() + 2 {
+        let Some(name) = at else {
+            break;
+        };
+        let file = file_of(rt.alloc(), folder, name)?;
+        if let Some(labels) = labels_in(rt, file.as_str())? {
+            return Ok(labels);
+        }
+        at = parent_of(name);
+    }
+    Err(refused(
+        rt.alloc(),
+        locale,
+        &"no labels; the folder of CLDR's data has none for this locale",
+    ))
+}
+
+/// The labels that words ask for: those that the option `--labels` has, or else those of the locale that the option
+/// `--locale` names.
+pub(crate) fn labels_asked<R: Files + Env + AllocGlobal>(
+    rt: &R,
+    matches: &ArgMatches<'_>,
+) -> Result<Vec<String>, ProgramError> {
+    if let Some(labels) = matches.get_str("labels") {
+        return Ok(labels_between_commas(rt.alloc(), labels)?);
+    }
+    let Some(locale) = matches.get_str("locale") else {
+        return Ok(Vec::new(rt.alloc()));
+    };
+    let folder = cldr_folder(rt, matches)?;
+    labels_of_locale(rt, folder.as_str(), locale)
+}

@@ -1,0 +1,151 @@
+//! The words of the program.
+
+use clap::{Arg, ArgAction, Command};
+use std::alloc::{AllocError, Global};
+
+static STRENGTHS: [&str; 10] = [
+    "1",
+    "2",
+    "3",
+    "4",
+    "i",
+    "primary",
+    "secondary",
+    "tertiary",
+    "quaternary",
+    "identical",
+];
+
+static HANDLINGS: [&str; 3] = ["non-ignorable", "shifted", "blanked"];
+
+const ABOUT: &str =
+    "Keeps an index of names in a database file of SQLite, in the order of CLDR's root collation.";
+
+const AFTER: &str = "\
+Examples:
+  collate-index add names.db < names             the names of lines; behind a tab stands what is kept with a name
+  collate-index add names.db Zoë --payload 17    one name
+  collate-index list names.db                    all names in order, those that are equal as they came in
+  collate-index find names.db mü                 the names that begin with it, whatever accents and case
+  collate-index between names.db L N             the names from one up to another, which isn't among them
+  collate-index headings names.db -l de          each name behind its heading and a tab
+  collate-index headings names.db --labels A,B,C the same, with one's own labels
+  collate-index remove names.db Müller           the names that are this one, byte by byte
+  collate-index rebuild names.db --strength 1    the index for other options or other data
+
+Options for the order have to be those that the index was made with: an index of others is refused, and rebuild makes \
+it anew, all of it or nothing.
+
+Data: FractionalUCA.txt of CLDR, which the option --root names, or else stands in common/uca of the folder that the \
+option --cldr or the environment's CLDR_DIR names, or else in /usr/share/unicode/cldr, where Debian's package \
+unicode-cldr-core installs it.
+
+Status: 0, 1 (no such name), 2 (wrong words), 3 (data, memory, the database, input or output).";
+
+/// An option without a value.
+fn flag<'a>(alloc: Global, id: &'a str, help: &'a str) -> Arg<'a> {
+    Arg::new(alloc, id)
+        .long(id)
+        .help(help)
+        .action(ArgAction::SetTrue)
+}
+
+/// An option with a value.
+fn valued<'a>(alloc: Global, id: &'a str, value: &'a str, help: &'a str) -> Arg<'a> {
+    Arg::new(alloc, id).long(id).value_name(value).help(help)
+}
+
+/// A word that is asked for.
+fn asked<'a>(alloc: Global, id: &'a str) -> Arg<'a> {
+    Arg::new(alloc, id).required(true).allow_hyphen_values(true)
+}
+
+/// A command over a database.
+fn command<'a>(alloc: Global, name: &'a str, about: &'a str) -> Result<Command<'a>, AllocError> {
+    Command::new(alloc, name)
+        .about(about)
+        .args_override_self(true)
+        .arg(valued(alloc, "root", "ROOT", "The root's data, FractionalUCA.txt"))?
+        .arg(valued(
+            alloc,
+            "cldr",
+            "DIR",
+            "The folder of CLDR's data, which has common/uca",
+        ))?
+        .arg(valued(
+            alloc,
+            "strength",
+            "LEVEL",
+            "How many levels count; tertiary if none is said",
+        )
+        .value_parser(STRENGTHS.as_slice()))?
+        .arg(valued(
+            alloc,
+            "alternate",
+            "HOW",
+            "How spaces and punctuation count",
+        )
+        .value_parser(HANDLINGS.as_slice()))?
+        .arg(flag(
+            alloc,
+            "numeric",
+            "Digits count by the value of their number",
+        ))?
+        .arg(Arg::new(alloc, "FILE").required(true))
+}
+
+/// The command `add`.
+fn add_command<'a>(alloc: Global) -> Result<Command<'a>, AllocError> {
+    command(
+        alloc,
+        "add",
+        "Adds a name, or the names of standard input, all or none",
+    )?
+    .arg(Arg::new(alloc, "NAME").allow_hyphen_values(true))?
+    .arg(valued(alloc, "payload", "TEXT", "What is kept with the name"))
+}
+
+/// The command `between`.
+fn between_command<'a>(alloc: Global) -> Result<Command<'a>, AllocError> {
+    command(alloc, "between", "Prints the names from one up to another")?
+        .arg(asked(alloc, "FROM"))?
+        .arg(asked(alloc, "TO"))
+}
+
+/// The command `headings`.
+fn headings_command<'a>(alloc: Global) -> Result<Command<'a>, AllocError> {
+    command(
+        alloc,
+        "headings",
+        "Prints each name behind its heading and a tab",
+    )?
+    .arg(valued(alloc, "labels", "LABELS", "The labels, as A,B,C").required_unless_present(
+        "locale",
+    )?)?
+    .arg(valued(
+        alloc,
+        "locale",
+        "LOCALE",
+        "Takes the labels that CLDR has for a locale, named as its file: sv, zh_Hant",
+    )
+    .short('l'))
+}
+
+/// The whole of the words that the program takes.
+pub(crate) fn index_words<'a>(alloc: Global) -> Result<Command<'a>, AllocError> {
+    Command::new(alloc, "collate-index")
+        .no_binary_name(true)
+        .bin_name("collate-index")?
+        .about(ABOUT)
+        .after_help(AFTER)
+        .subcommand(add_command(alloc)?)?
+        .subcommand(command(alloc, "remove", "Removes a name")?.arg(asked(alloc, "NAME"))?)?
+        .subcommand(command(alloc, "list", "Prints all names in order")?)?
+        .subcommand(command(alloc, "find", "Prints the names that begin with a text")?.arg(asked(
+            alloc,
+            "BEGINNING",
+        ))?)?
+        .subcommand(between_command(alloc)?)?
+        .subcommand(headings_command(alloc)?)?
+        .subcommand(command(alloc, "rebuild", "Makes all keys anew for these options")?)
+}

@@ -1,0 +1,29 @@
+//! The program `collate-index`: an index of names in a database file, in the order of CLDR's root collation.
+#![tactic(auto)]
+
+mod commands;
+mod headings_labels;
+mod index_words;
+mod name_lines;
+mod named_collator;
+mod one_run;
+mod outcome;
+mod refusals;
+
+use collate_commands::Input;
+use one_run::{report, run};
+use std::process::ExitCode;
+
+fn main(rt: HostRuntime) -> ExitCode {
+    let status = match collate_commands::words(&rt) {
+        Ok(words) => run(
+            &rt,
+            words.as_slice(),
+            &mut Input(rt.stdin()),
+            &mut rt.stdout(),
+            &mut rt.stderr(),
+        ),
+        Err(error) => report(error, &mut rt.stderr()),
+    };
+    ExitCode::from(status)
+}

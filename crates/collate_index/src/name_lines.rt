@@ -1,0 +1,78 @@
+//! Names as lines: each is a name, or a name, a tab and a payload.
+
+use collate_commands::ProgramError;
+use icu_store::{StoredIndex, StoredName};
+use sqlite::{Alter, Error, Rows, Transaction};
+use std::alloc::Global;
+use std::io::Read;
+
+/// All that is read from the input.
+pub(crate) fn read_all<I: Read>(alloc: Global, input: &mut I) -> Result<Vec<u8>, ProgramError> {
+    let mut text = Vec::new(alloc);
+    match input.read_to_end(&mut text) {
+        Ok(_) => Ok(text),
+        Err(_) => Err(ProgramError::ReadFailed),
+    }
+}
+
+/// A line's name and its payload, which is empty where there is no tab.
+fn parts_of(line: &[u8]) -> (&[u8], &[u8]) {
+    match line.iter().position(|b| *b == b'\t') {
+        Some(tab) if tab < line.len() => (&line[..tab], &line[tab + 1..]),
+        _ => (line, &[]),
+    }
+}
+
+/// Puts the name of a line into an index, unless the line is empty.
+fn add_line<S: Alter>(
+    index: &StoredIndex<'_>,
+    transaction: &mut Transaction<'_, S>,
+    line: &[u8],
+) -> Result<(), Error> {
+    if line.is_empty() {
+        return Ok(());
+    }
+    let (name, payload) = parts_of(line);
+    index.insert_within(transaction, name, payload)?;
+    Ok(())
+}
+
+/// Puts the names of lines into an index, within a transaction.
+pub(crate) fn add_lines<S: Alter>(
+    index: &StoredIndex<'_>,
+    transaction: &mut Transaction<'_, S>,
+    text: &[u8],
+) -> Result<(), Error> {
+    for line in text.split(|b| *b == b'\n') {
+        add_line(index, transaction, line)?;
+    }
+    Ok(())
+}
+
+/// Adds a name to a text as a line, behind some bytes.
+fn push_name(text: &mut Vec<u8>, front: &[u8], name: &StoredName) -> Result<(), Error> {
+    text.extend_from_slice(front)?;
+    text.extend_from_slice(name.name.as_slice())?;
+    if !name.payload.is_empty() {
+        text.push(b'\t')?;
+        text.extend_from_slice(name.payload.as_slice())?;
+    }
+    text.push(b'\n')?;
+    Ok(())
+}
+
+/// Adds the names of rows to a text as lines, each behind some bytes.
+pub(crate) fn push_rows<S: Alter>(
+    text: &mut Vec<u8>,
+    front: &[u8],
+    rows: &mut Rows<'_, S>,
+) -> Result<(), Error> {
+    for _ in 0..u64::MAX {
+        rows.advance()?;
+        let Some(row) = rows.get() else {
+            return Ok(());
+        };
+        push_name(text, front, &StoredName::read(row)?)?;
+    }
+    Ok(())
+}

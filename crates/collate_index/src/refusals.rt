@@ -1,0 +1,38 @@
+//! What is said of a file where something is wrong with it.
+
+use collate_commands::ProgramError;
+use icu_store::OpenError;
+use sqlite::{Error, ErrorCode};
+use std::alloc::{AllocError, Global};
+use std::fmt::Display;
+
+/// One text, and then another.
+pub(crate) fn joined(alloc: Global, first: &str, second: &str) -> Result<String, AllocError> {
+    let mut text = first.to_string(alloc)?;
+    text.push_str(second)?;
+    Ok(text)
+}
+
+/// An error that says of a file what is wrong with it.
+pub(crate) fn refused<E: Display>(alloc: Global, file: &str, what: &E) -> ProgramError {
+    match format!(in alloc; "collate-index: {file}: {what}\n") {
+        Ok(line) => ProgramError::Refused(line),
+        Err(_) => ProgramError::NoMemory,
+    }
+}
+
+/// What an error of the database comes to.
+pub(crate) fn refused_by(alloc: Global, file: &str, error: &Error) -> ProgramError {
+    match error {
+        Error::SqliteFailure(ErrorCode::OutOfMemory) => ProgramError::NoMemory,
+        _ => refused(alloc, file, error),
+    }
+}
+
+/// What it comes to that an index isn't opened.
+pub(crate) fn unopened(alloc: Global, file: &str, error: &OpenError) -> ProgramError {
+    match error {
+        OpenError::Database(error) => refused_by(alloc, file, error),
+        OpenError::Differs(difference) => refused(alloc, file, difference),
+    }
+}
