@@ -1,5 +1,5 @@
 #!/usr/bin/env python3
-"""Times the program `collate-index` over an index of many names: to build it, to open it, to find names in it, to print it.
+"""Times the program `collate-index` over an index of many names, in processor time: to build it, to find names in it, to print it.
 
 usage: tests/index_times.py [COUNT [PROGRAM]]    100,000 names if no count is given
 
@@ -8,10 +8,10 @@ unicode-cldr-core installs. Each run reads and checks the root, which is timed b
 of the gate.
 """
 import os
+import resource
 import subprocess
 import sys
 import tempfile
-import time
 
 CRATE = os.path.join(os.path.dirname(os.path.dirname(os.path.realpath(__file__))), "crates", "collate_index")
 SYLLABLES = ["ma", "mü", "lo", "ré", "ni", "sa", "zo", "ë", "ka", "ber", "son", "dor", "fel", "gri", "hu", "wen", "ty", "qua", "ÿl",
@@ -32,13 +32,19 @@ def names(count):
         yield f"{words[0]} {words[1]}\t{number}\n"
 
 
+def processor_time():
+    """The processor time of all runs so far, in seconds."""
+    used = resource.getrusage(resource.RUSAGE_CHILDREN)
+    return used.ru_utime + used.ru_stime
+
+
 def timed(program, *words, given=""):
-    """How long a run took, and what it printed."""
-    start = time.monotonic()
+    """The processor time of a run, and what it printed."""
+    start = processor_time()
     done = subprocess.run([program, *words], input=given.encode(), capture_output=True, check=False)
     if done.returncode != 0:
         sys.exit(f"{words}: status {done.returncode}, {done.stderr.decode()}")
-    return time.monotonic() - start, done.stdout.decode()
+    return processor_time() - start, done.stdout.decode()
 
 
 def main(words):
