@@ -4,7 +4,6 @@ use icu_checked_root::CheckedRoot;
 use icu_checks::CheckedTables;
 use icu_collator::Collator;
 use icu_collator::options::{CollatorOptions, CollatorPreferences};
-use icu_entries::{DataError, DataErrorKind, DataTable};
 use icu_mini::mini::Mini;
 use icu_provider::load_tables;
 use icu_rule_steps::TailoringErrorKind;
@@ -14,7 +13,7 @@ use std::alloc::Global;
 use std::test::Fail;
 
 /// Rules, and texts in their order, between each two how they differ.
-const ORDERS: [(&str, &str); 16] = [
+const ORDERS: [(&str, &str); 17] = [
     ("&z < å < ä < ö", "a < o < z < å < åb < ä < ö"),
     (
         "&z < å <<< Å < ä <<< Ä",
@@ -24,6 +23,7 @@ const ORDERS: [(&str, &str); 16] = [
     ("&c < ch <<< Ch", "c < cz < ch <<< Ch < d"),
     ("&[before 1]b < x", "a <<< A < x < b"),
     ("&[last regular] < x", "z < \u{1100} < x < \u{4E00}"),
+    ("&a < \u{1100}", "a < \u{1100} < \u{AC00} < b"),
     ("&b < a|c", "ab < ac < ad < bc < ca"),
     ("&ae << q", "ad < ae << q < af"),
     ("&a < 1", "2 < a < 1 < 12 < b"),
@@ -85,14 +85,6 @@ pub(crate) fn refused(place: usize, kind: RuleRefusal) -> RuleTablesError {
     }
 }
 
-/// A table that isn't made.
-fn absent(table: DataTable) -> RuleTablesError {
-    RuleTablesError::Table(DataError {
-        table,
-        kind: DataErrorKind::Absent,
-    })
-}
-
 #[test]
 fn refused_over_mini(rt: HostRuntime) -> Result<(), Fail> {
     let tables = checked_mini(rt.alloc())?;
@@ -115,7 +107,6 @@ fn refused_over_mini(rt: HostRuntime) -> Result<(), Fail> {
             "&a<<<<b<<<<c<<<<d<<<<e",
             refused(17, RuleRefusal::NoRoom { level: 4 }),
         ),
-        ("&a<\u{1100}", absent(DataTable::Jamo)),
     ] {
         let found = Tailoring::from_text(rt.alloc(), &root, text).err();
         assert_eq!(rt; found, Some(wanted), "{text}");
