@@ -4,6 +4,7 @@ import concurrent.futures
 import os
 
 from cldr_locales import FOLDER, check_locales
+from line_commands import check_lines
 from sweeps import REQUESTS, TOP, Run, built, faults_of, losses_missed, run, run_on_streams, says_refusals, sweep, wrapped
 
 LETTERS = os.path.join(TOP, "crates", "collate_cldr", "data", "letters.txt")
@@ -353,6 +354,9 @@ COMMANDS = [
     (over("compare", "3", "ab", "aB"), b"", lambda at, count, after: at > count - LAST_ONES),
     (over("key", "3", "ab"), b"", lambda at, count, after: at > count - LAST_ONES),
     (KEYS, NAMES, lambda at, count, after: at > count - LAST_ONES),
+    (over("explain", "3", "ab"), b"", lambda at, count, after: at > count - LAST_ONES),
+    (over("why", "3", "ab", "aB"), b"", lambda at, count, after: at > count - LAST_ONES),
+    (over("sort", "3", "-k1,1nr", "-k2"), NAMES, lambda at, count, after: at > count - LAST_ONES),
     (CHECK, b"a\nb\n", lambda at, count, after: at > count - LAST_ONES),
     (over("neighbours", "3"), b"0061\n0041\n0062\n", lambda at, count, after: at > count - LAST_ONES),
 ]
@@ -402,6 +406,7 @@ def check_collate_cldr(report, room, shim):
     os.mkdir(folder)
     report.say("collate-cldr: files", wrong_files(program, folder), 4)
     check_locales(report, folder, program)
+    check_lines(report, folder, program, LETTERS)
     report.say("collate-cldr: options of which both matter", wrong_options(program, PAIRS), 5 * len(PAIRS))
     report.say("collate-cldr: options of which the last counts", wrong_options(program, LAST), 4 * len(LAST))
     report.say("collate-cldr: pairs out of order", wrong_counts(program), len(DISORDER))

@@ -1,10 +1,12 @@
-//! The program `collate-cldr`: compares texts, and sorts, checks and shows lines by CLDR's root collation.
+//! The program `collate-cldr`: compares texts, and sorts, checks and shows lines by CLDR's collations.
 #![tactic(auto)]
 
 mod asked_locale;
 mod asked_rules;
 mod choice;
 mod data_place;
+mod field_options;
+mod field_words;
 mod file_source;
 mod inputs;
 mod locale_list;

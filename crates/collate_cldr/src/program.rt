@@ -3,6 +3,9 @@
 ghost use Rattle.std.specs.Prelude.{◌≤◌, IfOk};
 
 use crate::data_place::{cldr_folder, root_file};
+use crate::field_options::{
+    asks_for_fields, field_ends, keys_of, say_wrong_field, wrong_field_word,
+};
 use crate::file_source::read_file;
 use crate::inputs::read_inputs;
 use crate::locale_list::locale_lines;
@@ -14,10 +17,15 @@ use crate::words;
 use clap::ArgMatches;
 use clap::error::{Error, ErrorKind};
 use collate_commands::{ProgramError, write_text};
+use field_sorts::{FieldSorts, print_sorted_by_fields, text_sorted_by_fields};
+use icu_collator::Collator;
+use keyed_lines::SortRequest;
 use line_commands::{
     disorder_text, first_disorder, print_comparison, print_key, print_keys, print_sorted,
     sorted_text,
 };
+use line_fields::FieldEnds;
+use order_reasons::{print_explanation, print_reason};
 use std::io::{Read, Write};
 use std::rt::{Env, Files};
 
@@ -32,6 +40,10 @@ const DIFFERS: u8 = 1;
 const WRONG_WORDS: u8 = 2;
 /// Data, memory, input or output are missing or fail.
 const FAILED: u8 = 3;
+
+/// What is said where lines are to be checked by fields.
+const NO_CHECK_OF_FIELDS: &str =
+    "collate-cldr: --key is for lines that are sorted, and not for --check\n";
 
 /// Writes to standard error what kept the program from its end, and returns the status. That a write fails there
 /// changes nothing.
@@ -150,6 +162,43 @@ fn check<R: Files + Env + AllocGlobal, I: Read, E: Write>(
     Ok(DIFFERS)
 }
 
+/// Prints the lines of an input in order, or writes them to a file.
+fn write_sorted<R: Files + AllocGlobal, W: Write>(
+    rt: &R,
+    file: Option<&str>,
+    collator: &Collator,
+    bytes: &[u8],
+    request: SortRequest,
+    output: &mut W,
+) -> Result<(), ProgramError> {
+    match file {
+        Some(file) => {
+            let text = sorted_text(rt.alloc(), collator, bytes, request)?;
+            replace_file(rt, file, text.as_slice())
+        }
+        None => print_sorted(rt.alloc(), collator, bytes, request, output),
+    }
+}
+
+/// Prints the lines of an input in the order of their fields, or writes them to a file.
+fn write_sorted_by_fields<R: Files + AllocGlobal, W: Write>(
+    rt: &R,
+    file: Option<&str>,
+    collator: &Collator,
+    fields: FieldSorts<'_>,
+    bytes: &[u8],
+    request: SortRequest,
+    output: &mut W,
+) -> Result<(), ProgramError> {
+    match file {
+        Some(file) => {
+            let text = text_sorted_by_fields(rt.alloc(), collator, fields, bytes, request)?;
+            replace_file(rt, file, text.as_slice())
+        }
+        None => print_sorted_by_fields(rt.alloc(), collator, fields, bytes, request, output),
+    }
+}
+
 /// Prints lines in order, or writes them to the file that is asked for.
 fn sort<R: Files + Env + AllocGlobal, I: Read, W: Write>(
     rt: &R,
@@ -162,14 +211,51 @@ fn sort<R: Files + Env + AllocGlobal, I: Read, W: Write>(
     let request = sort_request_of(matches);
     let collator = made_collator(rt, matches)?;
     let bytes = read_inputs(rt, matches, request.separator, input)?;
-    match matches.get_str("output") {
-        Some(file) => {
-            let text = sorted_text(rt.alloc(), &collator, bytes.as_slice(), request)?;
-            replace_file(rt, file, text.as_slice())?;
-        }
-        None => print_sorted(rt.alloc(), &collator, bytes.as_slice(), request, output)?,
+    let file = matches.get_str("output");
+    if !asks_for_fields(matches) {
+        write_sorted(rt, file, &collator, bytes.as_slice(), request, output)?;
+        return Ok(DONE);
     }
+    let sorts = keys_of(rt.alloc(), matches)?;
+    let fields = FieldSorts {
+        ends: field_ends(matches).unwrap_or(FieldEnds::AtBlanks),
+        sorts: sorts.as_slice(),
+    };
+    write_sorted_by_fields(
+        rt,
+        file,
+        &collator,
+        fields,
+        bytes.as_slice(),
+        request,
+        output,
+    )?;
     Ok(DONE)
+}
+
+/// The command `sort`: to sort, or to check.
+fn sort_or_check<R: Files + Env + AllocGlobal, I: Read, W: Write, E: Write>(
+    rt: &R,
+    matches: &ArgMatches<'_>,
+    input: &mut I,
+    output: &mut W,
+    errors: &mut E,
+) -> Result<u8, ProgramError>
+    ensures { IfOk result (λ status. status ≤ 3) }
+{
+    if let Some(word) = wrong_field_word(matches) {
+        say_wrong_field(rt.alloc(), word, errors)?;
+        return Ok(WRONG_WORDS);
+    }
+    let is_quiet = matches.get_flag("check-quietly");
+    if !is_quiet && !matches.get_flag("check") {
+        return sort(rt, matches, input, output);
+    }
+    if asks_for_fields(matches) {
+        let _ = write_text(errors, NO_CHECK_OF_FIELDS.as_bytes());
+        return Ok(WRONG_WORDS);
+    }
+    check(rt, matches, is_quiet, input, errors)
 }
 
 /// Prints the order of two texts.
@@ -203,6 +289,38 @@ fn key<R: Files + Env + AllocGlobal, W: Write>(
     Ok(DONE)
 }
 
+/// Prints what the elements of a text come from, and the levels of its sort key.
+fn explain<R: Files + Env + AllocGlobal, W: Write>(
+    rt: &R,
+    matches: &ArgMatches<'_>,
+    output: &mut W,
+) -> Result<u8, ProgramError>
+    ensures { IfOk result (λ status. status ≤ 3) }
+{
+    let collator = made_collator(rt, matches)?;
+    print_explanation(rt.alloc(), &collator, text_of(matches, "TEXT"), output)?;
+    Ok(DONE)
+}
+
+/// Prints which level decides the order of two texts.
+fn why<R: Files + Env + AllocGlobal, W: Write>(
+    rt: &R,
+    matches: &ArgMatches<'_>,
+    output: &mut W,
+) -> Result<u8, ProgramError>
+    ensures { IfOk result (λ status. status ≤ 3) }
+{
+    let collator = made_collator(rt, matches)?;
+    let is_equal = print_reason(
+        rt.alloc(),
+        &collator,
+        text_of(matches, "A"),
+        text_of(matches, "B"),
+        output,
+    )?;
+    Ok(if is_equal { DONE } else { DIFFERS })
+}
+
 /// Prints lines with their keys.
 fn keys<R: Files + Env + AllocGlobal, I: Read, W: Write>(
     rt: &R,
@@ -231,12 +349,12 @@ fn run_command<R: Files + Env + AllocGlobal, I: Read + Drop, W: Write, E: Write>
     ensures { IfOk result (λ status. status ≤ 3) }
 {
     match name {
-        "sort" if matches.get_flag("check") => check(rt, matches, false, &mut input, errors),
-        "sort" if matches.get_flag("check-quietly") => check(rt, matches, true, &mut input, errors),
-        "sort" => sort(rt, matches, &mut input, output),
+        "sort" => sort_or_check(rt, matches, &mut input, output, errors),
         "check" => check(rt, matches, matches.get_flag("quiet"), &mut input, errors),
         "compare" => compare(rt, matches, output),
+        "why" => why(rt, matches, output),
         "key" => key(rt, matches, output),
+        "explain" => explain(rt, matches, output),
         "keys" => keys(rt, matches, &mut input, output),
         _ => print_neighbours(rt, matches, input, output),
     }

@@ -33,6 +33,7 @@ Examples:
   collate-cldr sort --numeric -o files files     numbers by their value; the file is replaced
   collate-cldr sort -l de-u-co-phonebk names.txt names as German lists of names have them
   collate-cldr compare -l sv ångström zebra      prints >
+  collate-cldr sort -t, -k2,2 -k3nr book.csv     by the second field, then the third as a number, the greatest first
   collate-cldr check list.txt                    status 1 and the first line out of order
 
 Order: that of the language that --locale names, or else the first of LC_ALL, LC_COLLATE and LANG that is set, as \
@@ -192,6 +193,26 @@ fn sort_command<'a>(alloc: Global) -> Result<Command<'a>, AllocError> {
             'm',
             "The lines of each file are in order already",
         ))?
+        .arg(
+            valued(
+                alloc,
+                "key",
+                "POS1[,POS2]",
+                "Compares this part of lines, from one place F[.C] up to another; further ones where the first are equal",
+            )
+            .short('k')
+            .action(ArgAction::Append),
+        )?
+        .arg(
+            valued(
+                alloc,
+                "field-separator",
+                "C",
+                "Ends a field; where none is said, blanks belong to the field behind them",
+            )
+            .short('t')
+            .allow_hyphen_values(true),
+        )?
         .arg(letter(alloc, "check", 'c', "As the command check"))?
         .arg(letter(alloc, "check-quietly", 'C', "As the command check --quiet"))
 }
@@ -215,6 +236,27 @@ fn compare_command<'a>(alloc: Global) -> Result<Command<'a>, AllocError> {
     )?
     .arg(text(alloc, "A"))?
     .arg(text(alloc, "B"))
+}
+
+/// The command `why`.
+fn why_command<'a>(alloc: Global) -> Result<Command<'a>, AllocError> {
+    command(
+        alloc,
+        "why",
+        "Prints the order of two texts, and the level that decides: status 0 if they are equal, else 1",
+    )?
+    .arg(text(alloc, "A"))?
+    .arg(text(alloc, "B"))
+}
+
+/// The command `explain`.
+fn explain_command<'a>(alloc: Global) -> Result<Command<'a>, AllocError> {
+    command(
+        alloc,
+        "explain",
+        "Prints the characters of a text with their collation elements, and its sort key level by level",
+    )?
+    .arg(text(alloc, "TEXT"))
 }
 
 /// The command `key`.
@@ -258,7 +300,9 @@ pub(crate) fn program<'a>(alloc: Global) -> Result<Command<'a>, AllocError> {
         .subcommand(sort_command(alloc)?)?
         .subcommand(check_command(alloc)?)?
         .subcommand(compare_command(alloc)?)?
+        .subcommand(why_command(alloc)?)?
         .subcommand(key_command(alloc)?)?
+        .subcommand(explain_command(alloc)?)?
         .subcommand(line_command(
             alloc,
             "keys",

@@ -1,0 +1,154 @@
+"""The commands explain, why and sort by fields of the program `collate-cldr` over its small file with Mini's letters, and
+sorts by fields beside those of GNU `sort`."""
+import os
+import random
+import subprocess
+
+from sweeps import run, wrapped
+
+
+def over(letters, command, strength, *words):
+    return [command, "--root", letters, "--strength", strength, *words]
+
+
+# ---- explain and why
+
+# The strength and further words, the text, and what is printed. By the file the letters a and b have the primary weights 61 10 and
+# 61 14, the acute accent the secondary weight 47, and an upper case letter the tertiary weight 9C, which is 1C with the case.
+EXPLAINED = [
+    (["1"], "ab", "a\tU+0061\t[61 10, 05, 05]\nb\tU+0062\t[61 14, 05, 05]\nprimary\t61 10 14\n"),
+    (["3"], "a", "a\tU+0061\t[61 10, 05, 05]\nprimary\t61 10\nsecondary\t01 05 01\ntertiary\t01 05 01\n"),
+    (["1"], "A", "A\tU+0041\t[61 10, 05, 1C upper]\nprimary\t61 10\n"),
+    (["1"], "á", "á\tU+00E1\t[61 10, 05, 05][, 47, 05]\nprimary\t61 10\n"),
+    (["1"], "ba\u0301", "b\tU+0062\t[61 14, 05, 05]\na\u0301\tU+0061 U+0301\t[61 10, 05, 05][, 47, 05]\nprimary\t61 14 10\n"),
+    (["1"], "", "primary\t\n"),
+]
+# The strength and further words, two texts, the sign, and the level that decides.
+REASONS = [
+    (["3"], "ab", "b", "<", "primary level"),
+    (["3"], "áb", "ab", ">", "secondary level"),
+    (["3"], "áa", "ab", "<", "primary level"),
+    (["3"], "a", "A", "<", "tertiary level"),
+    (["3"], "a", "a", "=", "no level differs"),
+    (["1"], "a", "á", "=", "no level differs"),
+    (["1", "--case-level"], "A", "a", ">", "case level"),
+    (["3", "--case-level"], "á", "A", ">", "secondary level"),
+    (["3", "--case-level"], "a", "A", "<", "case level"),
+    (["4", "--alternate=shifted"], "a-b", "ab", "<", "quaternary level"),
+    (["i", "--alternate=blanked"], "a-b", "ab", "<", "identical level"),
+    (["i"], "á", "a\u0301", "=", "no level differs"),
+]
+
+
+def wrong_explanations(program, letters):
+    found = []
+    for (strength, *words), text, printed in EXPLAINED:
+        ran = run(program, over(letters, "explain", strength, *words, "--", text))
+        if ran.came_to() != (0, printed.encode(), b""):
+            found.append(f"explain {strength} {words} {text!r}: {ran}; wanted: {printed!r}")
+    for (strength, *words), one, other, sign, level in REASONS:
+        ran = run(program, over(letters, "why", strength, *words, "--", one, other))
+        if ran.came_to() != (int(sign != "="), f"{sign}\t{level}\n".encode(), b""):
+            found.append(f"why {strength} {words} {one!r} {other!r}: {ran}; wanted: {sign} {level}")
+    return found
+
+
+# ---- sorts by fields
+
+# Further words, the input, and what is printed.
+FIELDS = [
+    (["-t.", "-k2"], "b.a\na.b\n", "b.a\na.b\n"),
+    (["-t.", "-k2,2", "-s"], "b.a.2\na.a.1\n", "b.a.2\na.a.1\n"),
+    (["-t.", "-k2,2"], "b.a.2\na.a.1\n", "a.a.1\nb.a.2\n"),
+    (["-t.", "-k1,1r", "-k2,2"], "a.b\nb.b\nb.a\n", "b.a\nb.b\na.b\n"),
+    (["-t.", "-k2n"], "a.10\na.9\na.-1\na.x\n", "a.-1\na.x\na.9\na.10\n"),
+    (["-t.", "-k2,2nr"], "a.10\na.9\n", "a.10\na.9\n"),
+    (["-k2"], "b  a\na b\n", "b  a\na b\n"),
+    (["-k2b,2"], "a  b\nb a\n", "b a\na  b\n"),
+    (["-k1.2,1.2"], "áb\nba\n", "ba\náb\n"),
+    (["-t.", "-u", "-k1,1"], "b.a\na.b\nb.c\n", "a.b\nb.a\n"),
+    (["-r", "-t.", "-k2,2"], "b.a\na.b\n", "a.b\nb.a\n"),
+    (["-z", "-k1,1"], "b\0a\0", "a\0b\0"),
+]
+# Words that are wrong, and the one that is named.
+WRONG_FIELDS = [
+    (["-k0"], "'0'"),
+    (["-k1.0"], "'1.0'"),
+    (["-k1x"], "'1x'"),
+    (["-k1,"], "'1,'"),
+    (["-k1."], "'1.'"),
+    (["-k1.b"], "'1.b'"),
+    (["-k1b2"], "'1b2'"),
+    (["-t", ""], "''"),
+    (["-t..", "-k1"], "'..'"),
+    (["-c", "-k1"], "--check"),
+]
+
+
+def wrong_fields(program, letters):
+    found = []
+    for words, given, printed in FIELDS:
+        ran = run(program, over(letters, "sort", "3", *words), given.encode())
+        if ran.came_to() != (0, printed.encode(), b""):
+            found.append(f"sort {words}: {ran}; wanted: {printed!r}")
+    for words, named in WRONG_FIELDS:
+        ran = run(program, over(letters, "sort", "3", *words), b"a\n")
+        if ran.status != 2 or ran.output or named.encode() not in ran.faults:
+            found.append(f"sort {words}: {ran}; wanted: status 2, and {named} named")
+    return found
+
+
+def place(chance, letters):
+    """A place of a key, with a character or without."""
+    return f"{chance.randint(1, 4)}" + (f".{chance.randint(1, 4)}" if chance.random() < 0.4 else "") + letters
+
+
+def key(chance):
+    letters = ["".join(it for it in "bnr" if chance.random() < 0.25) for _ in range(2)]
+    first = place(chance, letters[0])
+    return first + ("," + place(chance, letters[1]) if chance.random() < 0.7 else "")
+
+
+def line(chance):
+    return "".join(chance.choice("  --..0011223789abc") for _ in range(chance.randint(0, 14)))
+
+
+def sorted_by_gnu(words, given):
+    return subprocess.run(["sort", *words], input=given, stdout=subprocess.PIPE, env={**os.environ, "LC_ALL": "C"}, check=True).stdout
+
+
+def unlike_gnu(program, letters, times=120):
+    """Sorts of random lines that differ from those by bytes. The characters of these lines have primary weights in the order of
+    their bytes, so the two orders are one."""
+    chance, found = random.Random(46), []
+    for _ in range(times):
+        words = [f"-k{key(chance)}" for _ in range(chance.randint(1, 3))]
+        words += [chance.choice(["-t.", "-t-", "-t "])] * (chance.random() < 0.7) + [it for it in ("-r", "-s", "-u") if chance.random() < 0.25]
+        given = "".join(f"{line(chance)}\n" for _ in range(40)).encode()
+        ran = run(program, over(letters, "sort", "1", *words), given)
+        if ran.came_to() != (0, sorted_by_gnu(words, given), b""):
+            found.append(f"sort {words} of {given!r}: {ran}")
+    return found
+
+
+# ---- the run of all, and programs with a fault
+
+FAULTY = [
+    ("no accent read", 'case $1 in why) printf "=\\tno level differs\\n"; exit 0;; esac; exec "$COLLATE" "$@"',
+     wrong_explanations),
+    ("lines by their bytes alone", '"$COLLATE" "$@" | LC_ALL=C sort', lambda program, letters: unlike_gnu(program, letters, 10)),
+]
+
+
+def faults_missed(room, program, letters):
+    found = []
+    for at, (what, text, wrong) in enumerate(FAULTY):
+        found += [f"not found: {what}"] * (not wrong(wrapped(room, f"lines{at}", program, text), letters))
+    return found
+
+
+def check_lines(report, room, program, letters):
+    report.say("collate-cldr: explanations and reasons", wrong_explanations(program, letters), len(EXPLAINED) + len(REASONS))
+    report.say("collate-cldr: sorts by fields", wrong_fields(program, letters), len(FIELDS) + len(WRONG_FIELDS))
+    report.say("collate-cldr: sorts by fields as those of GNU sort", unlike_gnu(program, letters), 120)
+    report.say("collate-cldr: programs with a fault in lines are found", faults_missed(room, program, letters), len(FAULTY))
