@@ -82,7 +82,8 @@ impl<'c, 'd, T: CountedText> KeyElements<'c, 'd, T> {
         }
     }
 
-    /// The next element at a long piece.
+    /// The next element at a long piece. Out of line: its locals are large.
+    #[inline(never)]
     fn go_on(&mut self) -> Result<Option<CollationElement>, AllocError>
         ensures next { IfOk result (λ next. key_elements_left T.text self.old
             ≡ option_to_list next ++ key_elements_left T.text self.new) }

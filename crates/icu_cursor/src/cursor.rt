@@ -119,14 +119,26 @@ impl<'c, 'd, T: EncodedText> ElementCursor<'c, 'd, T> {
         let tables = self.tables;
         let facts = tables.facts(c)?;
         match facts.kind {
-            FactsKind::Starters if facts.count == 1 => {
-                self.text = rest;
-                self.recent.push(c);
-                let elements = &facts.elements[..];
-                Some(elements[0])
-            }
+            FactsKind::Starters if facts.count == 1 => self.take_one(c, facts, rest),
             _ => None,
         }
+    }
+
+    /// The element of a character that has one. Nothing stands ready then, and nothing is stored of what does.
+    #[inline(always)]
+    fn take_one(&mut self, c: char, facts: &CharFacts, rest: T) -> Option<CollationElement>
+        requires nothing { HasNothingReady self.old }
+        requires text { T.text self.old.text ≡ c ∷ T.text rest }
+        requires stands { StandsBefore (cursor_reading self.old.tables.now) c
+            (char_elements facts.now) (T.text rest) }
+        requires one { facts.now.count ≡ 1 }
+        ensures next { cursor_gives T.text self.old
+            ≡ option_to_list result ++ cursor_gives T.text self.new }
+    {
+        self.text = rest;
+        self.recent.push(c);
+        let elements = &facts.elements[..];
+        Some(elements[0])
     }
 
     /// The first element of the next character, which isn't ASCII, where it is read by itself.
@@ -171,6 +183,9 @@ impl<'c, 'd, T: EncodedText> ElementCursor<'c, 'd, T> {
     {
         if !stands_before(self.tables, facts, rest) {
             return self.take_base(c, facts, rest);
+        }
+        if facts.count == 1 {
+            return self.take_one(c, facts, rest);
         }
         self.read_facts(c, facts, rest)
     }

@@ -133,9 +133,15 @@ fn is_second(first: u8, byte: u8) -> bool
     ensures lead { IsTrue result → (0xE0 ≤ first) × (first ≤ 0xEF) × (0x80 ≤ byte) }
     ensures second { IsTrue result → second first byte ≡ true }
 {
-    let most = first >= 0xE1 && first <= 0xEC && byte <= 0xBF;
-    let lowest = first == 0xE0 && byte >= 0xA0 && byte <= 0xBF;
-    byte >= 0x80 && (most || lowest || (first == 0xED && byte <= 0x9F))
+    if byte < 0x80 || byte > 0xBF {
+        return false;
+    }
+    match first {
+        0xE1..=0xEC => true,
+        0xE0 => byte >= 0xA0,
+        0xED => byte <= 0x9F,
+        _ => false,
+    }
 }
 
 /// The first character of UTF-8 that begins with a well-formed one of two bytes.
@@ -175,13 +181,14 @@ fn split_first_decoded(bytes: &[u8]) -> Option<(char, &[u8])>
     ensures { MatchOption result (utf8_text bytes.now ≡ [])
         (λ p. utf8_text bytes.now ≡ p.0 ∷ utf8_text p.1.now) }
 {
-    if let Some(found) = split_first_two(bytes) {
-        return Some(found);
+    let found = match bytes {
+        [first, ..] if *first >= 0xE0 => split_first_three(bytes),
+        _ => split_first_two(bytes),
+    };
+    match found {
+        Some(found) => Some(found),
+        None => split_first_piece(bytes),
     }
-    if let Some(found) = split_first_three(bytes) {
-        return Some(found);
-    }
-    split_first_piece(bytes)
 }
 
 /// The first character of any bytes, which are decoded, and the bytes after it.

@@ -3,10 +3,10 @@ use Rattle.unicode_normalization.specs.Order.{is_reorderable}
 use Rattle.icu_short_text.proofs.OrderPlaceLemmas.{placed_inside, placed_first}
 use Rattle.icu_short_text.proofs.order_place.place.Goals as goal
 
-pub returns-then-not-is_reorderable-clause-place :
-    goal.returns-then-not-is_reorderable-clause-place
-returns-then-not-is_reorderable-clause-place c =
-    let stops = sym c.if-not-is_reorderable.ensures in
+pub returns-then-not-goes_before-clause-place :
+    goal.returns-then-not-goes_before-clause-place
+returns-then-not-goes_before-clause-place c =
+    let stops = sym (c.if-not-goes_before.ensures c.args.c c.canonical_combining_class-class.ensures) in
     let at = ap (λ a. is_reorderable a c.args.c) (sym c.index-out-at.is) in
     placed_inside _ _ _ _ c.back-test.true c.back.invariant.0 (at ∙ stops) c.back.invariant.1 c.requires.ordered
 
