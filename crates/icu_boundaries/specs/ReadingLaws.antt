@@ -6,7 +6,9 @@ use Rattle.unicode_normalization.specs.Decompose.{decompose}
 use Rattle.unicode_normalization.specs.Order.{is_starter}
 use Rattle.unicode_normalization.specs.Forms.{nfd}
 use Rattle.unicode_normalization.specs.Hangul.{is_syllable}
+use Rattle.icu_entries.specs.declared.entry.EntryKind.TheVariants.{Digit}
 use Rattle.icu_entries.specs.Elements.{Element}
+use Rattle.icu_entries.specs.Entries.{kind_of}
 use Rattle.icu_collation_data.specs.Data.{context_of}
 use Rattle.icu_provider.specs.Tables.{entry_of, jamo_base, jamo_limit}
 use Rattle.icu_elements.specs.TextElements.{Reading, continues_number, digit_of_char, begins_with_mark, number_elements, step, consumed, last_two, elements_after, elements_of}
@@ -99,12 +101,12 @@ FirstStartersLead =
     (reading : Reading) (before : List ℕ) (c s : ℕ) (ts cs : List ℕ) → decompose Nfd c ≡ s ∷ ts → is_starter s ≡ true → is_alone reading s ≡ true
     → (rest : List Element) × (elements_after reading before (nfd (c ∷ cs)) ≡ elements_of_char reading.tables s ++ rest)
 
--- A run of digits is one number, where digits are read as numbers: each goes on a number, what follows does not, and no
--- mark follows the first directly.
+-- A run of digits is one number, where digits are read as numbers: the first has a digit's entry itself, each goes on a
+-- number, what follows does not, and no mark follows the first directly.
 abbrev pub DigitRunsAreNumbers : Type 0
 DigitRunsAreNumbers =
     (reading : Reading) (lead : ℕ) (before : List ℕ) (d : ℕ) (ds text : List ℕ) → reading.numeric ≡ Some lead
-    → list_all (continues_number reading.tables) (d ∷ ds) ≡ true → ends_run reading.tables text ≡ true → begins_with_mark (ds ++ text) ≡ false
+    → kind_of (entry_of reading.tables d).entry ≡ Digit → list_all (continues_number reading.tables) (d ∷ ds) ≡ true → ends_run reading.tables text ≡ true → begins_with_mark (ds ++ text) ≡ false
     → elements_after reading before (d ∷ ds ++ text) ≡ number_elements lead (map (digit_of_char reading.tables) (d ∷ ds)) ++ elements_after reading (last_two before (d ∷ ds)) text
 
 -- A base of contractions gives what it gives at the end of a text, before a starter that none of its mappings names and

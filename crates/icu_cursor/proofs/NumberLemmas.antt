@@ -7,7 +7,10 @@ use Rattle.std.proofs.Math.ListN.{drop_of_length-le}
 use Rattle.std.proofs.lemmas.List.Folds.{list_all-append}
 use Rattle.unicode_normalization.specs.Forms.{nfd}
 use Rattle.unicode_normalization.proofs.TableFacts.{class_of_latin}
+use Rattle.icu_entries.specs.declared.entry.EntryKind.TheVariants.{Digit}
 use Rattle.icu_entries.specs.Elements.{Element, of_primary}
+use Rattle.icu_entries.specs.Entries.{kind_of}
+use Rattle.icu_provider.specs.Tables.{entry_of}
 use Rattle.icu_levels.specs.Numbers.{number_weights, value_of, without_first_zeros, longest_number, run_weights}
 use Rattle.icu_numbers.proofs.DigitRunLemmas.{run_turn}
 use Rattle.icu_elements.specs.TextElements.{Reading, continues_number, digit_of_char, begins_with_mark, number_elements, last_two, elements_after}
@@ -52,14 +55,14 @@ low_piece : (cs : List ℕ) → list_all (λ c. nat_lt c 0xC0) cs ≡ true → n
 low_piece cs low = ap nfd (sym (append-nil cs)) ∙ low_text cs [] low ∙ ap (λ (l : List ℕ). cs ++ l) nfd-nil
 
 -- a text of digits is one number
-digits_alone : (reading : Reading) (lead : ℕ) (c : ℕ) (cs before : List ℕ) → reading.numeric ≡ Some lead → list_all (λ c. nat_lt c 0xC0) (c ∷ cs) ≡ true
+digits_alone : (reading : Reading) (lead : ℕ) (c : ℕ) (cs before : List ℕ) → reading.numeric ≡ Some lead → kind_of (entry_of reading.tables c).entry ≡ Digit → list_all (λ c. nat_lt c 0xC0) (c ∷ cs) ≡ true
     → list_all (continues_number reading.tables) (c ∷ cs) ≡ true
     → elements_after reading before (nfd (c ∷ cs)) ≡ number_elements lead (map (digit_of_char reading.tables) (c ∷ cs))
-digits_alone reading lead c cs before numeric low continues =
+digits_alone reading lead c cs before numeric own low continues =
     let parts = and_parts (nat_lt c 0xC0) _ low in
     let es = number_elements lead (map (digit_of_char reading.tables) (c ∷ cs)) in
     ap (elements_after reading before) (low_piece (c ∷ cs) low)
-    ∙ elements_after-digits reading lead before c cs [] numeric continues refl (unmarked cs parts.1)
+    ∙ elements_after-digits reading lead before c cs [] numeric own continues refl (unmarked cs parts.1)
     ∙ ap (λ (l : List Element). es ++ l) (elements_after_nil reading (last_two before (c ∷ cs)))
     ∙ append-nil es
 
@@ -73,7 +76,7 @@ number_piece reading lead c d text rest digits es numeric is run boundary given 
   elements = λ before.
       given
       ∙ ap (number_elements lead) (run.values ∙ ap (λ (e : ℕ). e ∷ map (digit_of_char reading.tables) run.chars) (sym is.value))
-      ∙ sym (digits_alone reading lead c run.chars before numeric (and_from _ _ (lt-ltb c 0xC0 is.low) run.low) (and_from _ _ is.continues run.continues));
+      ∙ sym (digits_alone reading lead c run.chars before numeric is.own (and_from _ _ (lt-ltb c 0xC0 is.low) run.low) (and_from _ _ is.continues run.continues));
 }
 
 -- ---- short ones

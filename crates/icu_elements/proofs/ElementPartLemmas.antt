@@ -96,8 +96,10 @@ continues_number-decimal : (tables : Tables) → HasDigits tables → (x : ℕ) 
 unfolding has_digit
 continues_number-decimal tables reachable x on read =
     let h = entry_of tables x in
-    let head : IsTrue (has_digit h.entry) = reachable_from-head (λ e. IsTrue (has_digit e)) h.home h.entry (entry_of-reachable (λ home c e. IsTrue (has_digit e)) tables reachable x read.scalar) in
-    decimal _ (digit_from_run (kind_of h.entry) _ _ on head)
+    let m = match_of h [] [] in
+    let led = match_of-reachable (λ e. IsTrue (has_digit e)) (λ _. Unit {0}) h [] [] (entry_of-reachable (λ home c e. IsTrue (has_digit e)) tables reachable x read.scalar) tt in
+    let head : IsTrue (has_digit m.entry) = reachable_digit-head (λ e. IsTrue (has_digit e)) h.home m.entry led.entry in
+    decimal _ (digit_from_run (kind_of m.entry) _ _ on head)
 
 -- ---- steps
 

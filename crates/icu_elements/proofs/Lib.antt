@@ -1,18 +1,19 @@
+mod WorkedReachable
+mod WorkedTexts
+pub mod AheadLemmas
 pub mod CollationElementsLemmas
+pub mod Computing
 pub mod DecomposedLemmas
 pub mod ElementPartLemmas
 pub mod ElementSourceLemmas
-pub mod ReadableLemmas
-pub mod ReachableTextLemmas
-pub mod StepLemmas
 pub mod EnoughLemmas
-pub mod ReadsAheadLemmas
-pub mod AheadLemmas
-pub mod StreamLemmas
-pub mod StepReaderLemmas
+pub mod MatchedAloneLemmas
+pub mod ReachableTextLemmas
+pub mod ReadableLemmas
 pub mod ReaderLemmas
+pub mod ReadsAheadLemmas
+pub mod StepLemmas
+pub mod StepReaderLemmas
+pub mod StreamLemmas
 pub mod TakenDigitLemmas
-pub mod Computing
 pub mod WorkedReadings
-mod WorkedTexts
-mod WorkedReachable

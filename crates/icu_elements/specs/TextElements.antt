@@ -43,18 +43,22 @@ is_diacritic_above (c ∷ cs) = c == 0x300 || c == 0x301 || c == 0x303
 abbrev pub is_silent_dot : Bool → ℕ → List ℕ → Bool
 is_silent_dot lithuanian c text = lithuanian && c == 0x307 && is_diacritic_above text
 
--- a character that goes on a number: no diacritic, and its own entry is a digit's
+-- the entry that a character comes to with nothing before it and nothing after it
+abbrev pub entry_alone : Tables → ℕ → ℕ
+entry_alone tables c = (match_of (entry_of tables c) [] []).entry
+
+-- a character that goes on a number: no diacritic, and alone it comes to a digit's entry
 abbrev pub continues_number : Tables → ℕ → Bool
-continues_number tables c = not (is_some (diacritic_of tables c)) && is_digit_kind (kind_of (entry_of tables c).entry)
+continues_number tables c = not (is_some (diacritic_of tables c)) && is_digit_kind (kind_of (entry_alone tables c))
 
 -- a text that begins with a character of another class than 0
 abbrev pub begins_with_mark : List ℕ → Bool
 begins_with_mark [] = false
 begins_with_mark (c ∷ cs) = is_nonstarter c
 
--- the digit that a character has by its own entry
+-- the digit that a character is alone
 abbrev pub digit_of_char : Tables → ℕ → ℕ
-digit_of_char tables c = digit_value (entry_of tables c).entry
+digit_of_char tables c = digit_value (entry_alone tables c)
 
 -- the elements of a run of digits
 abbrev pub number_elements : ℕ → List ℕ → List Element

@@ -8,6 +8,7 @@ ghost use Rattle.icu_collation_data.specs.StoredData.{data_of};
 ghost use Rattle.icu_checks.specs.Checked.{checked_tables};
 ghost use Rattle.icu_matches.specs.WellFormedEntries.{IsWellFormedFrom};
 
+use crate::matched_alone::matched_alone;
 use icu_checks::CheckedTables;
 use icu_collation_data::CollationData;
 use icu_entries::{CollationElement32, EntryKind};
@@ -76,7 +77,7 @@ impl<'d> ElementTables<'d> {
         self.entry(c).ce32.kind()
     }
 
-    /// The digit of a character that goes on a number: no diacritic, and its own entry is a digit's.
+    /// The digit of a character that goes on a number: no diacritic, and alone it comes to a digit's entry.
     #[tactic(auto, using(crate::proofs::TakenDigitLemmas::other_kind))]
     pub fn digit(self, c: char) -> Option<u8>
         ensures value { let tables = element_tables self.entry in
@@ -86,7 +87,8 @@ impl<'d> ElementTables<'d> {
         if self.diacritic(c).is_some() {
             return None;
         }
-        let ce32 = self.entry(c).ce32;
+        let own = self.entry(c);
+        let ce32 = matched_alone(own.home, c, own.ce32);
         match ce32.kind() {
             EntryKind::Digit => Some(ce32.digit()),
             _ => None,

@@ -8,6 +8,7 @@ pub mod element_reader;
 pub mod element_tables;
 pub mod laws;
 pub mod look_up;
+mod matched_alone;
 pub mod read;
 mod reader;
 pub mod step_reader;

@@ -1,3 +1,4 @@
+pub mod DigitCharLemmas
 mod NamedLemmas
 mod TableLemmas
 mod DigitEntryLemmas

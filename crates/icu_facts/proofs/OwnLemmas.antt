@@ -1,12 +1,13 @@
 -- Characters that give the elements of their entries wherever they stand.
-use Rattle.std.proofs.Common.{◌≡◌, ℕ, ◌+◌, ◌*◌, ◌<◌, ◌≤◌, Bool, true, false, not, ◌&&◌, ◌==◌, [], is_some, refl, arith}
+use Rattle.std.proofs.Common.{◌≡◌, ℕ, ◌+◌, ◌*◌, ◌<◌, ◌≤◌, Bool, true, false, not, ◌&&◌, ◌==◌, [], is_some, refl, sym, subst, arith}
 use Rattle.std.proofs.lemmas.Bool.{and_parts, and_from, and_right, or_right, not_from_false, ne_eqb}
 use Rattle.icu_entries.specs.declared.entry.EntryKind.{EntryKind}
 use Rattle.icu_entries.specs.declared.entry.EntryKind.TheVariants.{Prefix}
 use Rattle.icu_entries.specs.Entries.{kind_of}
 use Rattle.icu_provider.specs.Tables.{diacritic_of, entry_of}
-use Rattle.icu_elements.specs.TextElements.{Reading, is_digit_kind}
+use Rattle.icu_elements.specs.TextElements.{Reading, is_digit_kind, entry_alone}
 use Rattle.icu_boundaries.specs.Alone.{is_alone, is_dot, names_no_context}
+use Rattle.icu_facts.proofs.DigitCharLemmas.{own_alone}
 use Rattle.icu_boundaries.specs.Cuts.{is_named, is_named_by_tailoring, is_prefix_kind}
 use Rattle.icu_facts.specs.BoundaryTables.{HasBoundaryBefore}
 use Rattle.icu_facts.specs.KeptFacts.{IsOwn}
@@ -39,7 +40,8 @@ own_by_entry reading c plain root tailoring lone =
         root = root;
         tailoring = tailoring;
         no_prefix = no_prefix_kind kind parts.0;
-        no_number = no_digit (is_some reading.numeric) (not (is_some (diacritic_of reading.tables c))) (is_digit_kind kind) parts.1;
+        no_number = no_digit (is_some reading.numeric) (not (is_some (diacritic_of reading.tables c))) (is_digit_kind (kind_of (entry_alone reading.tables c)))
+            (subst (λ (e : ℕ). not (is_some reading.numeric && is_digit_kind (kind_of e)) ≡ true) (sym (own_alone reading.tables c parts.0)) parts.1);
       };
     }
 

@@ -6,7 +6,10 @@ use Rattle.ucd_normal.specs.declared.forms.Form.TheVariants.{Nfd}
 use Rattle.unicode_normalization.specs.Decompose.{decompose}
 use Rattle.unicode_normalization.specs.Forms.{nfd}
 use Rattle.unicode_normalization.specs.Order.{is_starter, is_nonstarter}
+use Rattle.icu_entries.specs.declared.entry.EntryKind.TheVariants.{Digit}
 use Rattle.icu_entries.specs.Elements.{Element}
+use Rattle.icu_entries.specs.Entries.{kind_of}
+use Rattle.icu_provider.specs.Tables.{entry_of}
 use Rattle.icu_elements.specs.TextElements.{Reading, continues_number, digit_of_char, elements_after}
 use Rattle.icu_boundaries.specs.Alone.{context_after, elements_by_char, elements_of_char, is_alone}
 use Rattle.icu_boundaries.specs.Cuts.{IsBoundary}
@@ -71,9 +74,10 @@ pub record HasLeadingPrimary (reading : Reading) (c : ℕ) (primary : ℕ) : Typ
 pub record IsBase (reading : Reading) (c : ℕ) (l : CharFacts) : Type 0 where
   pub at_end : (before : List ℕ) → elements_after reading before (nfd (c ∷ [])) ≡ char_elements l
 
--- a digit that decomposes to itself, goes on numbers, and has this value there
+-- a digit that decomposes to itself, has a digit's entry itself, goes on numbers, and has this value there
 pub record IsNumberDigit (reading : Reading) (c digit : ℕ) : Type 0 where
   pub low : c < 0xC0
+  pub own : kind_of (entry_of reading.tables c).entry ≡ Digit
   pub continues : continues_number reading.tables c ≡ true
   pub value : digit_of_char reading.tables c ≡ digit
   pub decimal : digit < 10

@@ -73,6 +73,15 @@ impl<'d> Boundaries<'d> {
         self.named.has_in_block(index)
     }
 
+    /// Whether a character goes on a number, where digits are read as numbers.
+    #[tactic(auto, unfolding(crate::specs::BoundaryTables::boundary_reading))]
+    fn goes_on_number(&self, c: char) -> bool
+        ensures { let reading = boundary_reading self.now in
+            result ≡ (is_some reading.numeric && continues_number reading.tables c) }
+    {
+        self.reading.numeric_primary.is_some() && self.reading.tables.digit(c).is_some()
+    }
+
     /// Whether a character's entry looks at what stands before, or may go on a number.
     #[tactic(auto, unfolding(crate::specs::BoundaryTables::boundary_reading))]
     fn looks_around(&self, c: char) -> bool
@@ -82,7 +91,7 @@ impl<'d> Boundaries<'d> {
     {
         match self.reading.tables.kind(c) {
             EntryKind::Prefix => true,
-            EntryKind::Digit => self.reading.numeric_primary.is_some(),
+            EntryKind::Digit | EntryKind::Contraction => self.goes_on_number(c),
             _ => false,
         }
     }

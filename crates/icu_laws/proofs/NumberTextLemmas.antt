@@ -31,7 +31,7 @@ use Rattle.icu_text_order.proofs.NumberLists.{number_all, run_leads}
 use Rattle.icu_text_order.proofs.PrimaryWeights.{reachable_primaries}
 use Rattle.icu_text_order.proofs.SpecialBounds.{numeric_low}
 use Rattle.icu_laws.specs.NumberTexts.{IsNumberText, IsDigitText, digits_in}
-use Rattle.icu_laws.proofs.DigitTextLemmas.{digits_give, digits_decimal}
+use Rattle.icu_laws.proofs.DigitTextLemmas.{some_digit, digits_give, digits_decimal}
 use Rattle.icu_laws.proofs.EquivalentLemmas.{uncounted_tie}
 use Rattle.icu_laws.proofs.StrengthLemmas.{stays}
 
@@ -123,10 +123,10 @@ module _ (collation : Collation) (well_formed : IsWellFormedTables collation.tab
 
   pub digits_are_number : settings.numeric ≡ true → (t : List ℕ) → IsText t → IsDigitText all t → IsNumberText collation t (digits_in all t)
   digits_are_number on t text is = record {
-    elements = digits_give (reading_by collation) numeric (numbers_on settings.numeric numeric on) (nfd t) is.some is.characters;
+    elements = digits_give (reading_by collation) numeric (numbers_on settings.numeric numeric on) (nfd t) is.first is.characters;
     short = record {
       digits = digits_decimal all.tables (well_formed_readable all well_formed) (nfd t) (IsDecomposedText-nfd t text) is.characters;
-      some = subst (λ n. 0 < n) (sym (length-map (nfd t) (digit_of_char all.tables))) is.some;
+      some = subst (λ n. 0 < n) (sym (length-map (nfd t) (digit_of_char all.tables))) (some_digit all.tables (nfd t) is.first);
       short = is.short;
     };
   }

@@ -22,7 +22,7 @@ use Rattle.icu_laws.specs.NumberTexts.{IsDigitText, digits_in}
 of_digits : IsDigitText mini (48 ∷ 49 ∷ 50 ∷ [])
 unfolding icu_text_order
 of_digits = record {
-  some = lit< tt;
+  first = refl;
   characters = (
     record { continues = refl; starter = refl },
     (record { continues = refl; starter = refl }, (record { continues = refl; starter = refl }, tt)),

@@ -1,13 +1,14 @@
 -- Texts that are read as one number (UTS #35 part 5, "Setting Options" on numeric).
-use Rattle.std.specs.Prelude.{ℕ, ◌≡◌, ◌<◌, ◌≤◌, List, length, map, IsTrue}
+use Rattle.std.specs.Prelude.{ℕ, Bool, false, ◌≡◌, ◌≤◌, List, [], ◌∷◌, length, map, IsTrue}
 use Rattle.std.specs.List.{AllByRecursion}
 use Rattle.unicode_normalization.specs.Forms.{nfd}
 use Rattle.unicode_normalization.specs.Order.{is_starter}
 use Rattle.icu_levels.specs.Numbers.{without_first_zeros, longest_number}
 use Rattle.icu_levels.specs.NumberLaws.{IsShortRun}
-use Rattle.icu_provider.specs.Tables.{Tables}
+use Rattle.icu_entries.specs.Entries.{kind_of}
+use Rattle.icu_provider.specs.Tables.{Tables, entry_of}
 use Rattle.icu_provider.specs.CollatorTables.{CollatorTables}
-use Rattle.icu_elements.specs.TextElements.{continues_number, digit_of_char, number_elements, elements_of}
+use Rattle.icu_elements.specs.TextElements.{is_digit_kind, continues_number, digit_of_char, number_elements, elements_of}
 use Rattle.icu_weighting.specs.Collations.{Collation}
 use Rattle.icu_text_order.specs.TextOrder.{reading_by}
 
@@ -25,8 +26,13 @@ pub record IsDigitCharacter (tables : Tables) (c : ℕ) : Type 0 where
 abbrev pub digits_in : CollatorTables → List ℕ → List ℕ
 digits_in all text = map (digit_of_char all.tables) (nfd text)
 
+-- a text that begins with a character which has a digit's entry itself
+abbrev pub begins_with_digit : Tables → List ℕ → Bool
+begins_with_digit tables [] = false
+begins_with_digit tables (c ∷ cs) = is_digit_kind (kind_of (entry_of tables c).entry)
+
 -- a text of digits alone, at most 254 after its first zeros
 pub record IsDigitText (all : CollatorTables) (text : List ℕ) : Type 0 where
-  pub some : 0 < length (nfd text)
+  pub first : IsTrue (begins_with_digit all.tables (nfd text))
   pub characters : AllByRecursion (IsDigitCharacter all.tables) (nfd text)
   pub short : length (without_first_zeros (digits_in all text)) ≤ longest_number

@@ -2,4 +2,4 @@ use Rattle.icu_boundaries.proofs.NumberRunLemmas.{elements_after-digits}
 use Rattle.icu_boundaries.proofs.laws.digit_runs_are_numbers.Goals as goal
 
 pub returns : goal.returns
-returns g = λ reading lead before d ds text is all ends unmarked. elements_after-digits reading lead before d ds text is all ends unmarked
+returns g = λ reading lead before d ds text is own all ends unmarked. elements_after-digits reading lead before d ds text is own all ends unmarked
