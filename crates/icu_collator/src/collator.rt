@@ -185,6 +185,20 @@ impl Collator {
         })
     }
 
+    /// The tables, as they were checked together.
+    pub fn checked_tables(&self) -> &CheckedTables
+        ensures { checked_tables result.now ≡ tables_kept self.now }
+    {
+        &self.tables
+    }
+
+    /// The settings, of which each is that of the first source that set it.
+    pub fn settings(&self) -> CollatorOptionsBitField
+        ensures { values_of result ≡ settings_kept self.now }
+    {
+        self.settings
+    }
+
     /// The same collator, borrowed: copies nothing of the tables. What each comparison asks of the settings is worked
     /// out here, so that one borrowed collator serves for many comparisons.
     pub fn as_borrowed(&self) -> CollatorBorrowed<'_>
@@ -288,6 +302,13 @@ impl<'a> CollatorBorrowed<'a> {
         self.tables.are_well_formed();
     }
 
+    /// The tables, as they were checked together.
+    pub fn checked_tables(&self) -> &'a CheckedTables
+        ensures { checked_tables result.now ≡ tables_borrowed self.now }
+    {
+        self.tables
+    }
+
     /// The tables that elements are read from.
     pub fn tables(&self) -> ElementTables<'a>
         ensures { element_tables result ≡ (tables_borrowed self.now).tables }
@@ -335,8 +356,8 @@ impl<'a> CollatorBorrowed<'a> {
         self.form
     }
 
-    /// The last primary weight of the groups that are variable, or 0 where none is.
-    pub(crate) fn last_variable(&self) -> u32
+    /// The last primary weight of the groups that are variable (UTS #10, "Variable Weighting"), or 0 where none is.
+    pub fn last_variable(&self) -> u32
         ensures { result ≡ last_variable_by (collation_borrowed self.now) }
     {
         self.last_variable

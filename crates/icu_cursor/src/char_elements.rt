@@ -5,12 +5,13 @@ ghost use Rattle.icu_facts.specs.FewElements.{few_elements};
 ghost use Rattle.icu_facts.specs.KeptFacts.{char_elements};
 
 use crate::CharFacts;
+use crate::ready_place::ReadyPlace;
 use icu_entries::CollationElement;
 use icu_facts::FewElements;
 
 /// The elements of a character that were not given yet.
 #[derive(Debug, Clone, Copy)]
-pub(crate) struct CharElements {
+pub struct CharElements {
     elements: [CollationElement; 3],
     count: u8,
     next: u8,
@@ -45,24 +46,6 @@ impl CharElements {
         }
     }
 
-    /// The first element of a character, where none of another is left. The others are kept.
-    #[inline(always)]
-    pub(crate) fn begin(&mut self, facts: &CharFacts) -> Option<CollationElement>
-        requires { elements_ready self.old ≡ [] }
-        ensures { char_elements facts.now ≡ option_to_list result ++ elements_ready self.new }
-    {
-        if facts.count == 0 {
-            return None;
-        }
-        let elements = &facts.elements[..];
-        let first = elements[0];
-        if facts.count == 1 {
-            return Some(first);
-        }
-        *self = CharElements::after_first(facts);
-        Some(first)
-    }
-
     /// A few elements.
     #[inline(always)]
     #[tactic(auto, unfolding(crate::specs::inner::Ready::elements_ready, icu_facts::specs::FewElements::few_elements))]
@@ -75,31 +58,40 @@ impl CharElements {
             next: 0,
         }
     }
+}
 
-    /// The first of a few elements, where none of others is left. The others of them are kept.
+impl ReadyPlace for CharElements {
+    ghost use Rattle.icu_cursor.specs.inner.Ready.{elements_ready};
+
+    ghost ready = { elements_ready };
+
+    #[inline(always)]
+    fn is_empty(&self) -> bool {
+        self.next >= self.count
+    }
+
+    #[inline(always)]
+    fn begin(&mut self, facts: &CharFacts) -> Option<CollationElement> {
+        if facts.count == 0 {
+            return None;
+        }
+        let elements = &facts.elements[..];
+        let first = elements[0];
+        if facts.count == 1 {
+            return Some(first);
+        }
+        *self = CharElements::after_first(facts);
+        Some(first)
+    }
+
     #[inline]
-    pub(crate) fn begin_few(&mut self, few: &FewElements) -> Option<CollationElement>
-        requires { elements_ready self.old ≡ [] }
-        ensures { few_elements few.now ≡ option_to_list result ++ elements_ready self.new }
-    {
+    fn begin_few(&mut self, few: &FewElements) -> Option<CollationElement> {
         *self = CharElements::of_few(few);
         self.take_first()
     }
 
-    /// Whether none is left.
     #[inline(always)]
-    pub(crate) fn is_empty(&self) -> bool
-        ensures { IsTrue result → elements_ready self.now ≡ [] }
-    {
-        self.next >= self.count
-    }
-
-    /// The first of them, which is given.
-    #[inline(always)]
-    pub(crate) fn take_first(&mut self) -> Option<CollationElement>
-        ensures next { elements_ready self.old ≡ option_to_list result ++ elements_ready self.new }
-        ensures end { result ≡ None → elements_ready self.old ≡ [] }
-    {
+    fn take_first(&mut self) -> Option<CollationElement> {
         if self.next >= self.count {
             return None;
         }

@@ -11,6 +11,7 @@ ghost use Rattle.icu_cursor.specs.inner.Standing.{Serves, StandsAnywhere};
 
 use crate::char_elements::CharElements;
 use crate::cursor_tables::CursorTables;
+use crate::ready_place::ReadyPlace;
 use crate::stands::stands_before;
 use crate::unjoined::is_unjoined;
 use crate::{CharFacts, FactsKind, Kept};

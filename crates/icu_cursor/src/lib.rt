@@ -2,7 +2,7 @@
 //! stand by themselves are read from what is kept of them, and all else piece by piece.
 #![tactic(auto)]
 
-mod char_elements;
+pub mod char_elements;
 pub mod cursor;
 pub mod cursor_tables;
 mod digit_run;
@@ -12,15 +12,18 @@ pub mod first_chars;
 mod last_characters;
 mod long_piece;
 mod piece;
-mod ready_elements;
+pub mod ready_elements;
+pub mod ready_place;
 mod short_piece;
 mod stands;
 pub mod steady_cursor;
 mod unjoined;
 
+pub use char_elements::CharElements;
 pub use cursor::{ElementCursor, LongPiece};
 pub use cursor_tables::CursorTables;
 pub use facts_cursor::FactsCursor;
 pub use first_chars::FirstChars;
 pub use icu_facts::{Boundaries, CharFacts, FactsKind, Kept, KeptFacts, NamedCharacters, facts_of};
+pub use ready_place::ReadyPlace;
 pub use steady_cursor::SteadyCursor;

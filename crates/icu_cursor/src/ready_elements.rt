@@ -15,6 +15,7 @@ use crate::CharFacts;
 use crate::char_elements::CharElements;
 use crate::cursor_tables::CursorTables;
 use crate::last_characters::LastCharacters;
+use crate::ready_place::ReadyPlace;
 use crate::short_piece::begin_short;
 use icu_elements::{RecentChars, TextReading};
 use icu_encodings::EncodedText;
@@ -26,7 +27,7 @@ use icu_steady_numbers::SteadyNumber;
 
 /// The elements that were read and not given yet: a few of a character, or those of a short piece or of a number.
 #[derive(Debug, Clone, Copy)]
-pub(crate) struct ReadyElements<'d> {
+pub struct ReadyElements<'d> {
     pub(crate) few: CharElements,
     pub(crate) piece: SteadyElements<'d, ShortText>,
     /// Whether the piece may have some left.
@@ -62,36 +63,15 @@ impl<'d> ReadyElements<'d> {
         }
     }
 
-    /// Whether none is left. `false` says nothing.
-    #[inline(always)]
-    pub(crate) fn is_empty(&self) -> bool
-        ensures { IsTrue result → all_ready self.now ≡ [] }
-    {
-        !self.may_be_left
-    }
-
-    /// The first element of a character, where none is left. The others are kept.
-    #[inline(always)]
-    pub(crate) fn begin(&mut self, facts: &CharFacts) -> Option<CollationElement>
-        requires { all_ready self.old ≡ [] }
-        ensures { char_elements facts.now ≡ option_to_list result ++ all_ready self.new }
-    {
-        self.may_be_left = true;
-        let first = self.few.begin(facts);
-        self.may_be_left = !self.few.is_empty();
-        first
-    }
-
-    /// The first of a few elements, where none is left. The others of them are kept.
+    /// Those of a character.
     #[inline]
-    pub(crate) fn begin_few(&mut self, few: &FewElements) -> Option<CollationElement>
-        requires { all_ready self.old ≡ [] }
-        ensures { few_elements few.now ≡ option_to_list result ++ all_ready self.new }
+    pub(crate) fn of_char(few: CharElements, reading: TextReading<'d>) -> ReadyElements<'d>
+        ensures { all_ready result ≡ elements_ready few }
     {
-        self.may_be_left = true;
-        let first = self.few.begin_few(few);
-        self.may_be_left = !self.few.is_empty();
-        first
+        let mut all = ReadyElements::none(reading);
+        all.may_be_left = true;
+        all.few = few;
+        all
     }
 
     /// The first element of a number, where none is left. The others are kept.
@@ -149,13 +129,36 @@ impl<'d> ReadyElements<'d> {
         self.may_be_left = self.in_piece;
         next
     }
+}
 
-    /// The first of them, which is given.
+impl<'d> ReadyPlace for ReadyElements<'d> {
+    ghost use Rattle.icu_cursor.specs.inner.AllReady.{all_ready};
+
+    ghost ready = { all_ready };
+
     #[inline(always)]
-    pub(crate) fn take_first(&mut self) -> Option<CollationElement>
-        ensures next { all_ready self.old ≡ option_to_list result ++ all_ready self.new }
-        ensures end { result ≡ None → all_ready self.new ≡ [] }
-    {
+    fn is_empty(&self) -> bool {
+        !self.may_be_left
+    }
+
+    #[inline(always)]
+    fn begin(&mut self, facts: &CharFacts) -> Option<CollationElement> {
+        self.may_be_left = true;
+        let first = self.few.begin(facts);
+        self.may_be_left = !self.few.is_empty();
+        first
+    }
+
+    #[inline]
+    fn begin_few(&mut self, few: &FewElements) -> Option<CollationElement> {
+        self.may_be_left = true;
+        let first = self.few.begin_few(few);
+        self.may_be_left = !self.few.is_empty();
+        first
+    }
+
+    #[inline(always)]
+    fn take_first(&mut self) -> Option<CollationElement> {
         if !self.may_be_left {
             return None;
         }

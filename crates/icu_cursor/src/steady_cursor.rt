@@ -2,6 +2,8 @@
 
 ghost use Rattle.std.specs.Prelude.{◌≡◌, ◌<◌, ◌++◌, [], None, MatchBool, length, option_to_list};
 ghost use Rattle.icu_cursor.specs.Cursors.{cursor_gives};
+ghost use Rattle.icu_cursor.specs.inner.AllReady.{all_ready};
+ghost use Rattle.icu_cursor.specs.inner.Unread.{HasNothingReady};
 ghost use Rattle.icu_cursor.specs.SteadyCursors.{piece_gives};
 
 use crate::cursor::{ElementCursor, LongPiece};
@@ -23,7 +25,6 @@ where
 
 impl<'c, 'd, T: CountedText> SteadyCursor<'c, 'd, T> {
     ghost use Rattle.icu_cursor.specs.SteadyCursors.{steady_gives};
-    ghost use Rattle.icu_cursor.specs.inner.Unread.{HasNothingReady};
 
     /// All elements that a cursor still gives.
     pub fn new(cursor: ElementCursor<'c, 'd, T>) -> SteadyCursor<'c, 'd, T>
@@ -60,7 +61,7 @@ impl<'c, 'd, T: CountedText> SteadyCursor<'c, 'd, T> {
     /// Begins to read the piece that comes next, where there is one. Returns whether there is: else no element is left.
     #[inline(never)]
     fn begin_piece(&mut self) -> bool
-        requires nothing { HasNothingReady self.old.plain }
+        requires nothing { HasNothingReady all_ready self.old.plain }
         requires piece { piece_gives T.text self.old.piece ≡ [] }
         ensures same { steady_gives T.text self.new ≡ steady_gives T.text self.old }
         ensures shorter { MatchBool result

@@ -5,6 +5,7 @@ ghost use Rattle.icu_fingerprint.specs.FormLaws.{HasFingerprint};
 ghost use Rattle.icu_fingerprint.specs.FingerprintForms.{collation_made, setting_words, version_words};
 ghost use Rattle.icu_fingerprint.specs.inner.HandedWords.{HandsWords, HandsTables};
 ghost use Rattle.icu_options.specs.FlaggedSettings.{values_of};
+ghost use Rattle.icu_weighting.specs.CheckedCollations.{collation_of};
 
 use crate::data_form::{put_data, put_reordering, put_tailoring};
 use crate::form_words::{put, put_u16s, put_u32s};
@@ -54,12 +55,24 @@ fn put_tables(hasher: &mut Sha256, tables: &CheckedTables)
     put_reordering(hasher, tables.reordering());
 }
 
-/// The fingerprint of the collator that these tables, preferences and options make (`Collator::from_checked_tables`):
-/// the SHA-256 of its form, which is that of the tables as they are stored, of the settings, and of the versions that
-/// keys depend on. The locale and the type of `preferences` aren't read. Does not allocate.
+/// The fingerprint of a collator with these tables and settings: the SHA-256 of its form, which is that of the tables
+/// as they are stored, of the settings, and of the versions that keys depend on. Does not allocate.
 ///
 /// Where a fingerprint that was stored beside keys differs, make the keys anew: by other tables or settings they may be
 /// in another order. Tables that say the same but are stored otherwise have another fingerprint.
+pub fn fingerprint_by(tables: &CheckedTables, settings: CollatorOptionsBitField) -> [u8; 32]
+    ensures { HasFingerprint (collation_of tables.now settings) result }
+{
+    let mut hasher = Sha256::new();
+    put_versions(&mut hasher);
+    put_settings(&mut hasher, settings);
+    put_tables(&mut hasher, tables);
+    hasher.finalize()
+}
+
+/// The fingerprint of the collator that these tables, preferences and options make
+/// (`Collator::from_checked_tables`), as `fingerprint_by` makes it. The locale and the type of `preferences` aren't
+/// read. Does not allocate.
 pub fn fingerprint(
     tables: &CheckedTables,
     preferences: CollatorPreferences<'_>,
@@ -68,10 +81,6 @@ pub fn fingerprint(
     ensures { HasFingerprint
         (collation_made (checked_tables tables.now) options preferences.entry) result }
 {
-    let mut hasher = Sha256::new();
-    put_versions(&mut hasher);
     let settings = merged_options(options, preferences, tables.metadata().settings());
-    put_settings(&mut hasher, settings);
-    put_tables(&mut hasher, tables);
-    hasher.finalize()
+    fingerprint_by(tables, settings)
 }

@@ -8,4 +8,4 @@ mod form_words;
 pub mod laws;
 mod setting_numbers;
 
-pub use fingerprint_of::fingerprint;
+pub use fingerprint_of::{fingerprint, fingerprint_by};

@@ -11,7 +11,7 @@ ghost use Rattle.icu_store.specs.Stores.{printed_collation};
 use icu_checks::CheckedTables;
 use icu_collator::Collator;
 use icu_entries::DataError;
-use icu_fingerprint::fingerprint;
+use icu_fingerprint::fingerprint_by;
 use icu_options::{CollatorOptions, CollatorPreferences};
 use std::alloc::Global;
 
@@ -23,9 +23,17 @@ pub struct PrintedCollator {
 }
 
 impl PrintedCollator {
+    /// A collator with its fingerprint. Does not allocate.
+    pub fn new(collator: Collator) -> PrintedCollator
+        ensures collation { printed_collation result ≡ collation_kept collator }
+        ensures fingerprint { HasFingerprint (printed_collation result) result.print }
+    {
+        let print = fingerprint_by(collator.checked_tables(), collator.settings());
+        PrintedCollator { collator, print }
+    }
+
     /// The collator of tables that were checked together, with its fingerprint: `Collator::from_checked_tables` and
-    /// `fingerprint` in one call, over the same tables, preferences and options. `NoMemory` says that an allocation
-    /// failed.
+    /// `PrintedCollator::new` in one call. `NoMemory` says that an allocation failed.
     pub fn from_checked_tables(
         alloc: Global,
         tables: CheckedTables,
@@ -37,9 +45,8 @@ impl PrintedCollator {
         ensures fingerprint { IfOk result (λ p. HasFingerprint (printed_collation p) p.print) }
         ensures memory { IfErr result (λ e. e.kind ≡ NoMemory) }
     {
-        let print = fingerprint(&tables, preferences, options);
         let collator = Collator::from_checked_tables(alloc, tables, preferences, options)?;
-        Ok(PrintedCollator { collator, print })
+        Ok(PrintedCollator::new(collator))
     }
 
     /// The collator.

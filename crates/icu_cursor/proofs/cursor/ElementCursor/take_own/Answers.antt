@@ -1,9 +1,9 @@
-use Rattle.icu_cursor.specs.Cursors.{cursor_reading, cursor_gives}
+use Rattle.icu_cursor.specs.Cursors.{cursor_reading, gives_with}
 use Rattle.icu_cursor.proofs.CursorLemmas.{one_read}
 use Rattle.icu_cursor.proofs.cursor.ElementCursor.take_own.Goals as goal
 
 pub returns : goal.returns
-unfolding cursor_gives
+unfolding gives_with
 returns g c =
     let rest = g.T.EncodedText.text c.args.rest in record {
       next = one_read (cursor_reading c.args.self.now.tables.now) _ _ c.requires.nothing c.args.c _ _ rest _ c.in_ok-element.element

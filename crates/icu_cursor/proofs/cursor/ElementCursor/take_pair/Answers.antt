@@ -1,10 +1,10 @@
 use Rattle.std.proofs.Common.{option_to_list}
-use Rattle.icu_cursor.specs.Cursors.{cursor_reading, cursor_gives}
+use Rattle.icu_cursor.specs.Cursors.{cursor_reading, gives_with}
 use Rattle.icu_cursor.proofs.CursorLemmas.{pair_begun}
 use Rattle.icu_cursor.proofs.cursor.ElementCursor.take_pair.Goals as goal
 
 pub returns : goal.returns
-unfolding cursor_gives
+unfolding gives_with
 returns g c =
     let text = g.T.EncodedText.text in record {
       next = pair_begun (cursor_reading c.args.self.now.tables.now) _ _ c.requires.nothing c.args.joined.0 c.args.joined.1 _ _ (text c.args.rest) (text c.args.after) _ _

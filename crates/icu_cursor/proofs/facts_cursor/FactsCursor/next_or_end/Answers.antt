@@ -1,4 +1,4 @@
-use Rattle.std.proofs.Common.{rules, ◌≡◌, ◌++◌, List, ap, refl}
+use Rattle.std.proofs.Common.{rules, ◌≡◌, ◌++◌, List, ap, refl, ◌∙◌}
 use Rattle.unicode_normalization.specs.Forms.{nfd}
 use Rattle.icu_entries.specs.Elements.{Element}
 use Rattle.icu_elements.specs.TextElements.{elements_after}
@@ -25,4 +25,5 @@ returns-in-Some-split_first_char g c =
 pub returns-in-None : goal.returns-in-None
 unfolding facts_give
 returns-in-None g c =
-    nothing_goes_on (cursor_reading c.args.self.now.tables.now) _ (g.T.EncodedText.text c.args.self.now.text) (c.in_default.ensures.end refl) c.in-None.ensures
+    let same : elements_ready c.args.self.now.ready ≡ elements_ready c.take_first.new.self = search rules in
+    nothing_goes_on (cursor_reading c.args.self.now.tables.now) _ (g.T.EncodedText.text c.args.self.now.text) (same ∙ c.in_default.ensures.end refl) c.in-None.ensures

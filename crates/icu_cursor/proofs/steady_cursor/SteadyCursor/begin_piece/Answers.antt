@@ -1,12 +1,12 @@
 use Rattle.std.proofs.Common.{◌++◌, ◌∙◌, List, refl, sym, ap, ap₂}
 use Rattle.icu_entries.specs.Elements.{Element}
-use Rattle.icu_cursor.specs.Cursors.{cursor_reading, cursor_gives}
+use Rattle.icu_cursor.specs.Cursors.{cursor_reading, cursor_gives, gives_with}
 use Rattle.icu_cursor.specs.inner.ReadCharacters.{context_read}
 use Rattle.icu_cursor.proofs.CursorLemmas.{all_read, next_piece_begun}
 use Rattle.icu_cursor.proofs.steady_cursor.SteadyCursor.begin_piece.Goals as goal
 
 pub returns-in_default-clause-shorter : goal.returns-in_default-clause-shorter
-unfolding cursor_gives
+unfolding gives_with
 returns-in_default-clause-shorter g c =
     let plain = c.args.self.now.plain in
     ap₂ (λ (es fs : List Element). es ++ fs) c.requires.piece
@@ -17,7 +17,7 @@ returns-in_default-clause-same g c =
     ap (λ (es : List Element). es ++ cursor_gives g.T.EncodedText.text c.args.self.now.plain) (c.end_piece.ensures ∙ sym c.requires.piece)
 
 pub returns-clause-same : goal.returns-clause-same
-unfolding cursor_gives
+unfolding gives_with
 returns-clause-same g c =
     let text = g.T.EncodedText.text in
     let plain = c.args.self.now.plain in

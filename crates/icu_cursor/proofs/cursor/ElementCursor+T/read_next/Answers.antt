@@ -1,10 +1,10 @@
 use Rattle.std.proofs.Common.{◌++◌, option_to_list, ap, sym, ◌∙◌}
-use Rattle.icu_cursor.specs.Cursors.{cursor_gives}
+use Rattle.icu_cursor.specs.Cursors.{cursor_gives, gives_with}
 use Rattle.icu_cursor.proofs.CursorLemmas.{all_read}
-use Rattle.icu_cursor.proofs.cursor.ElementCursor.read_next.Goals as goal
+use Rattle.icu_cursor.proofs.cursor.ElementCursor+T.read_next.Goals as goal
 
 pub returns-in_default-split_first_char-clause-end : goal.returns-in_default-split_first_char-clause-end
-unfolding cursor_gives
+unfolding gives_with
 returns-in_default-split_first_char-clause-end g c =
     let gives = cursor_gives g.T.EncodedText.text c.take_ready.new.self in
     λ _.

@@ -3,7 +3,7 @@ use Rattle.std.proofs.Common.{List, sym, subst}
 use Rattle.icu_entries.specs.Elements.{Element}
 use Rattle.icu_cursor.specs.Cursors.{cursor_reading}
 use Rattle.icu_cursor.specs.inner.Standing.{StandsBefore}
-use Rattle.icu_cursor.proofs.cursor.ElementCursor.read_own_elements.Goals as goal
+use Rattle.icu_cursor.proofs.cursor.ElementCursor+T.read_own_elements.Goals as goal
 
 pub read_few-requires-clause-stands : goal.read_few-requires-clause-stands
 read_few-requires-clause-stands g c =

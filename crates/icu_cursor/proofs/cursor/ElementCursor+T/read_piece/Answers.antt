@@ -2,13 +2,13 @@ use Rattle.std.proofs.Common.{List, ◌++◌, refl, sym, ap, ◌∙◌}
 use Rattle.unicode_normalization.specs.Forms.{nfd}
 use Rattle.icu_entries.specs.Elements.{Element}
 use Rattle.icu_elements.specs.TextElements.{elements_after}
-use Rattle.icu_cursor.specs.Cursors.{cursor_reading, cursor_gives}
+use Rattle.icu_cursor.specs.Cursors.{cursor_reading, gives_with}
 use Rattle.icu_cursor.specs.inner.ReadCharacters.{context_read}
 use Rattle.icu_cursor.proofs.CursorLemmas.{begun_first}
-use Rattle.icu_cursor.proofs.cursor.ElementCursor.read_piece.Goals as goal
+use Rattle.icu_cursor.proofs.cursor.ElementCursor+T.read_piece.Goals as goal
 
 pub returns-in_default-clause-stays : goal.returns-in_default-clause-stays
-unfolding cursor_gives
+unfolding gives_with
 returns-in_default-clause-stays g c =
     let cursor = c.args.self.now in
     let unread = elements_after (cursor_reading cursor.tables.now) (context_read cursor.recent) (nfd (g.T.EncodedText.text cursor.text)) in
@@ -20,7 +20,7 @@ returns-in_default-clause-stays g c =
     }
 
 pub returns-clause-next : goal.returns-clause-next
-unfolding cursor_gives
+unfolding gives_with
 returns-clause-next g c =
     let cursor = c.args.self.now in
     begun_first (cursor_reading cursor.tables.now) _ (context_read cursor.recent) c.requires.nothing (g.T.EncodedText.text cursor.text) _ (g.T.EncodedText.text c.in-Some.left) _ c.requires.text c.in-Some.ensures.begun

@@ -1,7 +1,7 @@
 use Rattle.std.proofs.Common.{rules}
 use Rattle.icu_cursor.specs.inner.Ready.{elements_ready}
 use Rattle.icu_cursor.proofs.ReadyLemmas.{next_taken, none_taken}
-use Rattle.icu_cursor.proofs.char_elements.CharElements.take_first.Goals as goal
+use Rattle.icu_cursor.proofs.char_elements.CharElementsReadyPlace.take_first.Goals as goal
 
 pub returns-then-self-clause-end : goal.returns-then-self-clause-end
 unfolding elements_ready

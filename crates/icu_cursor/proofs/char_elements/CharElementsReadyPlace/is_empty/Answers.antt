@@ -1,7 +1,7 @@
 use Rattle.std.proofs.Common.{rules}
 use Rattle.icu_cursor.specs.inner.Ready.{elements_ready}
 use Rattle.icu_cursor.proofs.ReadyLemmas.{none_taken}
-use Rattle.icu_cursor.proofs.char_elements.CharElements.is_empty.Goals as goal
+use Rattle.icu_cursor.proofs.char_elements.CharElementsReadyPlace.is_empty.Goals as goal
 
 pub returns : goal.returns
 unfolding elements_ready

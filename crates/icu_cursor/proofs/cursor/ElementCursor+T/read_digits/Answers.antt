@@ -1,13 +1,13 @@
 use Rattle.std.proofs.Common.{option_to_list, map}
 use Rattle.icu_entries.specs.Elements.{of_primary}
 use Rattle.icu_steady_numbers.specs.SteadyNumbers.{weights_left}
-use Rattle.icu_cursor.specs.Cursors.{cursor_reading, cursor_gives}
+use Rattle.icu_cursor.specs.Cursors.{cursor_reading, gives_with}
 use Rattle.icu_cursor.specs.inner.ReadCharacters.{context_read}
 use Rattle.icu_cursor.proofs.CursorLemmas.{number_read}
-use Rattle.icu_cursor.proofs.cursor.ElementCursor.read_digits.Goals as goal
+use Rattle.icu_cursor.proofs.cursor.ElementCursor+T.read_digits.Goals as goal
 
 pub returns-clause-next : goal.returns-clause-next
-unfolding cursor_gives
+unfolding gives_with
 returns-clause-next g c =
     let read = c.in-Some-read_number.read in
     number_read (cursor_reading c.args.self.now.tables.now) _ (context_read c.args.self.now.recent) c.requires.nothing (g.T.EncodedText.text c.args.self.now.text) _

@@ -1,9 +1,9 @@
 use Rattle.std.proofs.Common.{option_to_list}
 use Rattle.icu_cursor.proofs.ReadyLemmas.{both_empty, kept_alone, flag_of_empty}
-use Rattle.icu_cursor.proofs.ready_elements.ReadyElements.begin_few.Goals as goal
+use Rattle.icu_cursor.proofs.ready_elements.ReadyElementsReadyPlace.begin.Goals as goal
 
-pub begin_few-first-requires : goal.begin_few-first-requires
-begin_few-first-requires c = (both_empty _ _ c.requires).0
+pub begin-first-requires : goal.begin-first-requires
+begin-first-requires c = (both_empty _ _ c.requires).0
 
 pub invariant_of-self : goal.invariant_of-self
 invariant_of-self c = record {
@@ -12,4 +12,4 @@ invariant_of-self c = record {
 }
 
 pub returns : goal.returns
-returns c = kept_alone _ (option_to_list c.begin_few-first.result) _ _ (both_empty _ _ c.requires).1 c.begin_few-first.ensures
+returns c = kept_alone _ (option_to_list c.begin-first.result) _ _ (both_empty _ _ c.requires).1 c.begin-first.ensures

@@ -1,6 +1,6 @@
 use Rattle.std.proofs.Common.{◌≡◌, ◌≤◌, length}
 use Rattle.icu_cursor.specs.Cursors.{cursor_gives}
-use Rattle.icu_cursor.proofs.cursor.ElementCursor.read_next.Given as goal
+use Rattle.icu_cursor.proofs.cursor.ElementCursor+T.read_next.Given as goal
 
 -- nothing is lost, and no more is to be read
 abbrev pub invariant-turns : goal.invariant-turns
