@@ -37,6 +37,23 @@ SIGNED = [
     (["-l", "zh-Hant"], "a z", ">"),
     (["-l", "zh-TW"], "a z", ">"),
     (["-l", "zh-TW-u-co-pinyin"], "b z", ">"),
+    # Ideographs: by blocks and code points, and by radicals and strokes in the types of Chinese, in which those of no line of a radical
+    # stand behind the others.
+    (["-l", "und"], "七 丁", ">"),
+    (["-l", "und"], "㐀 丁", ">"),
+    (["-l", "sv"], "㐀 丁", ">"),
+    (["-l", "und"], "一 丁", "<"),
+    (["-l", "zh-u-co-unihan"], "一 㐀", "<"),
+    (["-l", "zh-u-co-unihan"], "㐀 七", "<"),
+    (["-l", "zh-u-co-unihan"], "七 丁", "<"),
+    (["-l", "zh-u-co-unihan"], "丁 丂", "<"),
+    (["-l", "zh-u-co-unihan"], "丂 丅", "<"),
+    (["-l", "zh-u-co-unihan"], "丅 㐁", "<"),
+    (["-l", "zh-u-co-unihan"], "㐁 丄", "<"),
+    (["-l", "zh-u-co-unihan"], "丄 丆", "<"),
+    (["-l", "zh-u-co-unihan"], "z c", "<"),
+    (["-l", "zh"], "㐁 丄", "<"),
+    (["-l", "zh-Hant"], "㐀 丁", "<"),
     # Of conjoining jamo, which have a table of their own, by themselves and in syllables.
     (["-l", "und"], "ᄀ c", ">"),
     (["-l", "ko-u-co-search"], "ᄀ c", "<"),
@@ -62,6 +79,12 @@ SIGNED = [
     (["-l", "fr-u-kb"], "àa aà", "<"),
     (["-l", "fr-CA-u-kb-false"], "àa aà", ">"),
     (["-l", "und-u-kb"], "àa aà", "<"),
+    # Pairs that ICU's comparison orders otherwise than its keys, or whose canonically equivalent texts it parts: accents from the end, a
+    # shifted character before marks, and a composed letter.
+    (["-l", "tc"], "\u0301äB \u0301ää", "<"),
+    (["-l", "und", "--alternate=shifted", "--strength=4"], "-\u030e -\u030c", "="),
+    (["-l", "tc-u-co-horned"], "\u01a1\u0302 o\u031b\u0302", "="),
+    (["-l", "tc-u-co-horned"], "\u01a1\u0302 \u01a1", ">"),
     # Settings: of options before those of the tag, and those before the rules'.
     (["-l", "da"], "A a", "<"),
     (["-l", "da"], "å z", ">"),
@@ -88,6 +111,15 @@ REFUSED = [
 ]
 # Files that are cut off, or are of another kind.
 DAMAGED = {"xa": "<ldml>\n\t<collations", "xb": "<ldml><other/></ldml>\n"}
+# Lines of radicals in place of those of the root's file, for a type that stands by them, and what is said of the file.
+RADICALS = [
+    ("[radical 1=⼀一 一]\n[radical end]", "line 5: expected `:` before the ideographs of a radical\n"),
+    ("[radical 1=⼀一:一-]\n[radical end]", "line 5: expected an ideograph on both sides of `-`\n"),
+    ("[radical 1=⼀一:-一]\n[radical end]", "line 5: expected an ideograph on both sides of `-`\n"),
+    ("[radical 1=⼀一:一]\n[radical 2=⼁丅:七-丁]\n[radical end]", "line 6: expected a range that ascends\n"),
+    ("[radical 1=⼀一:一\n[radical end]", "line 5: expected `]`\n"),
+    ("[radical 1=⼀一:一]", "at the end: expected lines [radical ..] and [radical end]\n"),
+]
 # Tags that are none.
 NO_TAGS = [
     ("sv_SE", "collate-cldr: locale sv_SE: character 0: expected a language of two, three or five to eight letters\n"),
@@ -122,8 +154,8 @@ nb\tstandard
 no\tstandard
 ta\tstandard circle wrong
 tb\tstandard unsaid room
-zh\tpinyin stroke
-zh-Hant\tstroke pinyin
+zh\tpinyin stroke unihan
+zh-Hant\tstroke pinyin unihan
 """.splitlines()
 
 
@@ -141,6 +173,23 @@ def wrong_signs(program):
     return found
 
 
+def wrong_radicals(program, folder):
+    """Which wrong lines of radicals aren't refused as they should be, where ideographs stand by them; elsewhere they aren't looked at."""
+    path, found = f"{folder}/common/uca/FractionalUCA.txt", []
+    with open(path, encoding="utf-8") as it:
+        whole = it.read()
+    first, last = whole.index("[radical 1"), whole.index("[radical end]") + len("[radical end]")
+    for lines, said in RADICALS:
+        with open(path, "w", encoding="utf-8") as it:
+            it.write(whole[:first] + lines + whole[last:])
+        ran = run_in(program, ["compare", "--cldr", folder, "-l", "zh-u-co-unihan", "a", "b"])
+        if ran.came_to() != (3, b"", f"{path}: {said}".encode()):
+            found.append(f"{lines!r}: {ran}; wanted: {said!r}")
+    with open(path, "w", encoding="utf-8") as it:
+        it.write(whole)
+    return found
+
+
 def wrong_refusals(program, room):
     folder, found = os.path.join(room, "cldr"), []
     shutil.copytree(FOLDER, folder)
@@ -151,6 +200,7 @@ def wrong_refusals(program, room):
         ran = run_in(program, ["compare", "--cldr", folder, "-l", tag, "a", "b"])
         if ran.came_to() != (3, b"", said.encode()):
             found.append(f"{tag}: {ran}; wanted: {said!r}")
+    found += wrong_radicals(program, folder)
     os.remove(f"{folder}{COLLATION}root.xml")
     ran = run_in(program, ["compare", "--cldr", folder, "-l", "sv", "a", "b"])
     if ran.status != 3 or not ran.faults.startswith(f"{folder}{COLLATION}root.xml: not opened;".encode()):
@@ -185,7 +235,7 @@ def wrong_sorts(program):
 
 def check_locales(report, room, program):
     report.say("collate-cldr: languages and their settings", wrong_signs(program), len(SIGNED) + len(ENVIRONMENTS))
-    refusals = len(REFUSED) + len(NO_TAGS) + 1
+    refusals = len(REFUSED) + len(NO_TAGS) + len(RADICALS) + 1
     report.say("collate-cldr: rules and files that are refused", wrong_refusals(program, room), refusals)
     report.say("collate-cldr: locales that are listed", wrong_lists(program), 1)
     report.say("collate-cldr: lines by languages", wrong_sorts(program), 3)

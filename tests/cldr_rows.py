@@ -1,88 +1,178 @@
 #!/usr/bin/env python3
-"""tests/cldr_rows.py PROGRAM [FOLDER]: the orders of CLDR's locales and types, as the program `collate-cldr` has them.
+"""tests/cldr_rows.py PROGRAM [FOLDER [TABLE]]: the orders of CLDR's locales and types, as the program `collate-cldr` has them.
 
-tests/cldr_rows.txt has a row of texts for each locale and type whose rules say something, in the order that ICU 72 gives them by the
-rules of CLDR 41, with the level of each difference. The program is asked whether they stand in order, and differ at that level or
-before; FOLDER is that of CLDR's data. The rules of `sa` are a proposal (`alt="proposed"`), for which no tag asks, so they have no row.
-It prints each type that is refused with what is said of it, each row that isn't in order, and
-counts and times. Its status is 1 where a row isn't in order, or nothing is. It isn't part of the gate."""
+tests/cldr_rows.txt has rows of texts for each locale and type whose rules say something, and tests/cldr_exemplars.txt the letters of
+each locale that has such rules, in the order that the keys of ICU 72 give them by the rules of CLDR 41, with the level of each
+difference. (The last row has canonically equivalent texts, which ICU parts by `vi`. Its comparison contradicts its keys in the two rows
+before.) The program is asked for the sort keys at each strength, which have to differ from that level on and no earlier, and by `check` whether it
+compares the texts so. FOLDER is that of CLDR's data. A row with `proposed` behind the name is of rules that are a proposal
+(`alt="proposed"`), which no tag asks for: it is asked of a copy of the files in which these rules are accepted.
+
+It prints each type that is refused with what is said of it, each row that isn't in order, and counts and times. TABLE is written:
+for each locale what its types take, in seconds of processor and in memory at most, from start to end of a comparison. Its status is 1
+where a row isn't in order, a type is refused, or nothing is asked. It isn't part of the gate."""
 import os
 import re
+import shutil
 import subprocess
 import sys
-import time
-from collections import Counter
+import tempfile
+from collections import namedtuple
 
 HERE = os.path.dirname(os.path.realpath(__file__))
-LEVELS = {"<": "1", "<<": "2", "<<<": "3"}
+STRENGTHS = "1234"
 ESCAPE = re.compile(r"\\u([0-9A-Fa-f]{4})|\\U([0-9A-Fa-f]{8})")
 # Types, as tags name them.
 KEYWORDS = {"phonebook": "phonebk", "traditional": "trad", "dictionary": "dict", "gb2312han": "gb2312"}
+COLLATION = re.compile(r"<collation\s[^>]*>")
+TYPE = re.compile(r"""\stype\s*=\s*["']([^"']*)["']""")
+PROPOSED = re.compile(r"""\salt\s*=\s*["']proposed["']""")
+# A row: the locale and the type, whether these rules are a proposal, and the texts, each with the sign before it (the first with "").
+Row = namedtuple("Row", "name is_proposed parts")
 
 
-def rows():
-    with open(os.path.join(HERE, "cldr_rows.txt"), encoding="utf-8") as it:
+def rows(file):
+    with open(os.path.join(HERE, file), encoding="utf-8") as it:
         for line in it:
-            name, _, row = line.rstrip("\n").partition(" => ")
-            locale, _, kind = name.partition("/")
-            yield name, tag_of(locale, kind), parts_of(row)
+            said, _, row = line.rstrip("\n").partition(" => ")
+            name, _, mark = said.partition(" ")
+            yield Row(name, mark == "proposed", parts_of(row))
 
 
-def tag_of(locale, kind):
+def tag_of(name):
+    locale, _, kind = name.partition("/")
     locale = "und" if locale == "root" else locale.replace("_", "-")
     return f"{locale}-u-co-{KEYWORDS.get(kind, kind)}"
 
 
 def parts_of(row):
-    """The texts of a row, each with the sign before it; the first one with none."""
     text = ESCAPE.sub(lambda it: chr(int(it[1] or it[2], 16)), row)
     words = re.split(r" (<|<<|<<<|<<<<|=) ", text)
-    return list(zip([None, *words[1::2]], words[::2]))
+    return list(zip(["", *words[1::2]], words[::2]))
 
 
-def leading(parts, most):
-    """The texts that differ from the one before at this level or an earlier one."""
-    return [text for sign, text in parts if sign is None or (sign != "=" and len(sign) <= most)]
+def accepted(text):
+    """A file of collations in which proposals are accepted, in place of those of their types."""
+    proposed = {TYPE.search(it)[1] for it in COLLATION.findall(text) if PROPOSED.search(it)}
+
+    def turned(it):
+        if PROPOSED.search(it[0]):
+            return PROPOSED.sub("", it[0])
+        return it[0][:-1] + ' alt="replaced">' if TYPE.search(it[0])[1] in proposed else it[0]
+
+    return COLLATION.sub(turned, text)
 
 
-def asked(command, tag, options, texts):
+def copy_accepted(folder, copy):
+    """Writes the files of collations, with proposals accepted, beside the root's data."""
+    os.makedirs(os.path.join(copy, "common", "collation"))
+    os.symlink(os.path.abspath(os.path.join(folder, "common", "uca")), os.path.join(copy, "common", "uca"))
+    for name in os.listdir(os.path.join(folder, "common", "collation")):
+        source = os.path.abspath(os.path.join(folder, "common", "collation", name))
+        with open(source, encoding="utf-8") as it:
+            text = it.read()
+        if name.endswith(".xml") and PROPOSED.search(text):
+            with open(os.path.join(copy, "common", "collation", name), "w", encoding="utf-8") as it:
+                it.write(accepted(text))
+        else:
+            os.symlink(source, os.path.join(copy, "common", "collation", name))
+
+
+def asked(words, texts):
     given = "".join(f"{it}\0" for it in texts).encode("utf-8", "surrogatepass")
-    return subprocess.run([*command, "-z", "-l", tag, *options], input=given, capture_output=True, check=False)
+    return subprocess.run(words, input=given, capture_output=True, check=False)
 
 
-def wrong_levels(program, folder, tag, parts):
-    """The levels at which texts of a row don't stand in order, each behind the one before; or what refuses the type."""
-    command, wrong = [program, "check", "--cldr", folder], []
-    ran = asked(command, tag, ["-s"], [text for _, text in parts])
-    if ran.returncode not in (0, 1):
-        return None, ran.stderr.decode().strip()
-    wrong += ["all"] * ran.returncode
-    for sign, strength in LEVELS.items():
-        ran = asked(command, tag, ["-u", "--strength", strength], leading(parts, len(sign)))
-        wrong += [f"{sign}: {ran.stderr.decode(errors='replace').strip()}"] * bool(ran.returncode)
+def is_as_said(sign, strength, first, second):
+    """Whether two keys at a strength are as a sign says."""
+    return first < second if sign != "=" and len(sign) <= int(strength) else first == second
+
+
+def wrong_pairs(program, folder, row):
+    """The pairs of a row whose keys aren't as their sign says, and whether texts are out of order by comparison; or what refuses the
+    type."""
+    texts, wrong = [text for _, text in row.parts], []
+    options = ["--cldr", folder, "-z", "-l", tag_of(row.name)]
+    for strength in STRENGTHS:
+        ran = asked([program, "keys", *options, "--strength", strength], texts)
+        if ran.returncode:
+            return None, ran.stderr.decode(errors="replace").strip()
+        keys = [bytes.fromhex(it.partition(b"\t")[0].decode()) for it in ran.stdout.split(b"\0")[:-1]]
+        pairs = zip(row.parts, row.parts[1:], keys, keys[1:])
+        wrong += [f"{a[1]} {b[0]} {b[1]} at {strength}" for a, b, x, y in pairs if not is_as_said(b[0], strength, x, y)]
+        if len(keys) != len(texts):
+            wrong.append(f"{len(keys)} keys of {len(texts)} texts")
+    if asked([program, "check", *options, "-s", "--strength", "4"], texts).returncode:
+        wrong.append("out of order by comparison")
     return wrong, ""
 
 
-def main(program, folder="/usr/share/unicode/cldr"):
-    refused, wrong, good, pairs, slowest = Counter(), 0, 0, 0, []
-    for name, tag, parts in rows():
-        began = time.time()
-        found, said = wrong_levels(program, folder, tag, parts)
-        slowest.append(((time.time() - began) / (4 if found is not None else 1), name))
+def cost(program, folder, tag):
+    """The processor time and the memory at most of a comparison, from start to end: the least of three runs."""
+    costs = []
+    for _ in range(3):
+        it = subprocess.Popen([program, "compare", "--cldr", folder, "-l", tag, "a", "b"], stdout=subprocess.DEVNULL)
+        _, _, used = os.wait4(it.pid, 0)
+        it.returncode = 0
+        costs.append((used.ru_utime + used.ru_stime, used.ru_maxrss))
+    return min(costs)
+
+
+def table(costs):
+    """What the types of each locale take, as a table of Markdown, and the sums."""
+    lines, by_locale = ["| Locale | Types, each with seconds and megabytes |", "|---|---|"], {}
+    for name, (seconds, kilobytes) in costs.items():
+        locale, _, kind = name.partition("/")
+        by_locale.setdefault(locale.replace("_", "-"), []).append(f"`{kind}` {seconds:.2f} s, {kilobytes / 1000:.0f} MB")
+    lines += [f"| `{locale}` | {'; '.join(types)} |" for locale, types in sorted(by_locale.items())]
+    return "\n".join(lines) + "\n"
+
+
+class Count:
+    """What was found of a file's rows."""
+
+    def __init__(self):
+        self.names, self.pairs, self.wrong, self.refused, self.rows = set(), 0, 0, 0, 0
+
+    def add(self, row, found, said):
+        self.rows += 1
+        label = f"{row.name}{' proposed' if row.is_proposed else ''}"
         if found is None:
-            print(f"{name}: refused: {said}")
-            refused[said.rpartition(": ")[2]] += 1
+            self.refused += 1
+            print(f"{label}: refused: {said}", flush=True)
         elif found:
-            print(f"{name}: not in order: {found}")
-            wrong += 1
+            self.wrong += 1
+            print(f"{label}: not in order: {found[:10]}", flush=True)
         else:
-            good, pairs = good + 1, pairs + len(parts) - 1
-    for why, count in refused.most_common():
-        print(f"refused {count}: {why}")
-    times = sorted(slowest, reverse=True)
-    print(f"seconds for a run: {sum(it for it, _ in times) / len(times):.2f}; at most", *(f"{name} {it:.2f}" for it, name in times[:3]))
-    print(f"{len(times)} types: {good} in order ({pairs} pairs), {wrong} not, {refused.total()} refused")
-    return int(wrong > 0 or not good)
+            self.names.add(row.name)
+            self.pairs += len(row.parts) - 1
+
+    def say(self, file):
+        print(f"{file}: {self.rows} rows, {self.wrong} not in order, {self.refused} refused; "
+              f"{len(self.names)} types in order ({self.pairs} pairs)", flush=True)
+        return self.wrong or self.refused or not self.names
+
+
+def main(program, folder="/usr/share/unicode/cldr", written=None):
+    copy, costs, failed = tempfile.mkdtemp(), {}, False
+    try:
+        copy_accepted(folder, os.path.join(copy, "cldr"))
+        for file in ["cldr_rows.txt", "cldr_exemplars.txt"]:
+            count = Count()
+            for row in rows(file):
+                data = os.path.join(copy, "cldr") if row.is_proposed else folder
+                count.add(row, *wrong_pairs(program, data, row))
+                if row.name not in costs:
+                    costs[row.name] = cost(program, data, tag_of(row.name))
+            failed = bool(count.say(file)) or failed
+    finally:
+        shutil.rmtree(copy)
+    for seconds, name in sorted(((it[0], name) for name, it in costs.items()), reverse=True)[:3]:
+        print(f"{name}: {seconds:.2f} seconds of processor, {costs[name][1] / 1000:.0f} MB")
+    if written:
+        with open(written, "w", encoding="utf-8") as it:
+            it.write(table(costs))
+    return int(failed)
 
 
 if __name__ == "__main__":

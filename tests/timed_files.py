@@ -64,9 +64,9 @@ def begun_alike(number):
 
 
 def of_ideographs(size):
-    """As many ranges as a line may have, each of one ideograph, and elements that name the last of them."""
-    ranges = " ".join(f"{0x3400 + 2 * at:04X}" for at in range(256))
-    last = f"[U+{0x3400 + 2 * 255:04X}]"
+    """Many ranges, each of one ideograph, and elements that name the last of them."""
+    ranges = " ".join(f"{0x3400 + 2 * at:04X}" for at in range(9_000))
+    last = f"[U+{0x3400 + 2 * 8_999:04X}]"
     return [f"[Unified_Ideograph {ranges}]", *lines_in(size - len(ranges), lambda it: f"{OTHERS + it:X}; {31 * last}")]
 
 

@@ -23,6 +23,16 @@ pub(crate) struct LocaleRules {
     pub(crate) rules: Rules,
     /// The tag, where it reorders scripts.
     pub(crate) reordering_tag: Option<String>,
+    /// Whether ideographs that no rule names stand by radicals and strokes.
+    pub(crate) by_radicals: bool,
+}
+
+/// Whether a type of collation is one of Chinese, in which ideographs that no rule names stand by radicals and strokes.
+fn is_by_radicals(collation_type: &str) -> bool {
+    matches!(
+        collation_type,
+        "unihan" | "pinyin" | "stroke" | "zhuyin" | "gb2312han" | "big5han"
+    )
 }
 
 /// What a message names a collation by.
@@ -114,12 +124,13 @@ pub(crate) fn rules_of<R: Files + AllocGlobal>(
 ) -> Result<LocaleRules, ProgramError> {
     let alloc = rt.alloc();
     let files = files_of_collation(rt, folder, &asked.name)?;
-    let (source, text) = match taken_collation(files.as_slice(), &asked.name) {
+    let (source, text, by_radicals) = match taken_collation(files.as_slice(), &asked.name) {
         Some(found) => (
             source_of(alloc, folder, found)?,
             found.collation.rules.clone()?,
+            is_by_radicals(found.collation.collation_type.as_str()),
         ),
-        None => (asked.word.clone()?, String::new(alloc)),
+        None => (asked.word.clone()?, String::new(alloc), false),
     };
     let reordering_tag = reordering_tag(asked)?;
     match rules_of_text(alloc, files.as_slice(), text.as_str(), asked) {
@@ -128,6 +139,7 @@ pub(crate) fn rules_of<R: Files + AllocGlobal>(
             text,
             rules,
             reordering_tag,
+            by_radicals,
         }),
         Err(error) => Err(unread(alloc, source.as_str(), text.as_str(), error)),
     }

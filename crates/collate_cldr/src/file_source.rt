@@ -8,7 +8,7 @@ ghost use Rattle.collate_cldr.specs.Files.{ComparesAs, IsLineOf};
 
 use crate::choice::Chosen;
 use collate_commands::ProgramError;
-use icu_cldr::{CldrRoot, ReadError, read_root};
+use icu_cldr::{CldrRoot, IdeographOrder, ReadError, read_root_by};
 use icu_collator::Collator;
 use icu_entries::{DataError, DataErrorKind};
 use icu_options::Strength;
@@ -50,13 +50,9 @@ pub(crate) fn refused_by<E: Display>(alloc: Global, file: &str, error: &E) -> Pr
     }
 }
 
-/// Reads the tables of a file.
-pub(crate) fn read_file<R: Files + AllocGlobal>(
-    rt: &R,
-    file: &str,
-) -> Result<CldrRoot, ProgramError>
-    ensures root { IfOk result (λ root. IsRoot (root_tables root)) }
-    ensures refused { IfErr result (IsCollatorError (IsLineOf file.now)) }
+/// Opens a file of the root's data.
+fn opened<R: Files + AllocGlobal>(rt: &R, file: &str) -> Result<BufReader<R::File>, ProgramError>
+    ensures { IfErr result (IsCollatorError (IsLineOf file.now)) }
 {
     let Ok(opened) = fs::open(rt, file) else {
         return Err(refused(
@@ -68,10 +64,51 @@ pub(crate) fn read_file<R: Files + AllocGlobal>(
     let Ok(reader) = BufReader::new(rt.alloc(), opened) else {
         return Err(ProgramError::NoMemory);
     };
-    match read_root(rt.alloc(), reader) {
+    Ok(reader)
+}
+
+/// What an error of a file that isn't read comes to.
+fn unread(alloc: Global, file: &str, error: ReadError) -> ProgramError
+    ensures { IsCollatorError (IsLineOf file.now) result }
+{
+    match error {
+        ReadError::NoMemory => ProgramError::NoMemory,
+        error => refused_by(alloc, file, &error),
+    }
+}
+
+/// The order of ideographs: by the radicals of a file, or by code points.
+fn ideograph_order<R: Files + AllocGlobal>(
+    rt: &R,
+    file: &str,
+    by_radicals: bool,
+) -> Result<IdeographOrder, ProgramError>
+    ensures { IfErr result (IsCollatorError (IsLineOf file.now)) }
+{
+    if !by_radicals {
+        return Ok(IdeographOrder::code_point(rt.alloc()));
+    }
+    let reader = opened(rt, file)?;
+    match IdeographOrder::radical_stroke(rt.alloc(), reader) {
+        Ok(order) => Ok(order),
+        Err(error) => Err(unread(rt.alloc(), file, error)),
+    }
+}
+
+/// Reads the tables of a file, in which ideographs stand by radicals and strokes, or by code points.
+pub(crate) fn read_file<R: Files + AllocGlobal>(
+    rt: &R,
+    file: &str,
+    by_radicals: bool,
+) -> Result<CldrRoot, ProgramError>
+    ensures root { IfOk result (λ root. IsRoot (root_tables root)) }
+    ensures refused { IfErr result (IsCollatorError (IsLineOf file.now)) }
+{
+    let order = ideograph_order(rt, file, by_radicals)?;
+    let reader = opened(rt, file)?;
+    match read_root_by(rt.alloc(), &order, reader) {
         Ok(root) => Ok(root),
-        Err(ReadError::NoMemory) => Err(ProgramError::NoMemory),
-        Err(error) => Err(refused_by(rt.alloc(), file, &error)),
+        Err(error) => Err(unread(rt.alloc(), file, error)),
     }
 }
 

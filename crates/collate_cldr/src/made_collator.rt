@@ -42,7 +42,11 @@ fn collator_by<R: Files + Env + AllocGlobal>(
     ensures { IfOk result (λ c. IsWellFormedTables (tables_kept c)) }
 {
     let file = root_file(rt, matches)?;
-    let root = read_file(rt, file.as_str())?;
+    let by_radicals = match rules {
+        Some(rules) => rules.by_radicals,
+        None => false,
+    };
+    let root = read_file(rt, file.as_str(), by_radicals)?;
     match rules {
         Some(rules) => tailored_collator(rt.alloc(), root, file.as_str(), rules, chosen, strength),
         None => root_collator(rt.alloc(), root, file.as_str(), chosen, strength),

@@ -127,7 +127,7 @@ fn print_versions<R: Files + Env + AllocGlobal, W: Write>(
     ensures { IfOk result (λ status. status ≤ 3) }
 {
     let file = root_file(rt, matches)?;
-    let root = read_file(rt, file.as_str())?;
+    let root = read_file(rt, file.as_str(), false)?;
     let unicode = match root.version() {
         Some(version) => version,
         None => "of an unknown version",

@@ -28,6 +28,7 @@ use Rattle.icu_cldr.specs.declared.error.Missing.TheVariants.{End}
 use Rattle.icu_cldr.specs.declared.error.ReadError.{ReadError}
 use Rattle.icu_cldr.specs.declared.error.ReadError.TheVariants as errors
 use Rattle.icu_cldr.specs.declared.file_facts.FileFacts.{FileFacts}
+use Rattle.icu_cldr.specs.declared.ideographs.CharRange.{CharRange}
 use Rattle.icu_cldr.specs.declared.line.Line.{Line}
 use Rattle.icu_cldr.specs.declared.line.Line.TheVariants as says
 use Rattle.icu_cldr.specs.declared.mapping.Mapping.{Mapping}
@@ -98,21 +99,21 @@ module _ (c : Collected) (all : CollatorTables) (nothing : HasNothing c) (keeps 
   all_stand (l ∷ ls) (x ∷ xs) are has = (one_stands l x are.0 has.0, all_stand ls xs are.1 has.1)
 
 -- all lines of known bytes stand in the tables
-pub file_stands : (c : Collected) (all : CollatorTables) (facts : FileFacts) → HasNothing c → KeepsMappings c all → MakesSpecials c.special all.special
+pub file_stands : (first : List CharRange) (c : Collected) (all : CollatorTables) (facts : FileFacts) → HasNothing c → KeepsMappings c all → MakesSpecials c.special all.special
     → HasUnmapped c → LeavesUnmapped c all → facts ≡ c.facts → list_any fixes_last c.facts.fixed.items ≡ true
-    → (known : Option (List ℕ)) → IfSome known (TakesFile c) → IfSome known (λ bytes. SaysFile bytes all facts)
-file_stands c all facts nothing keeps makes has leaves same ends None takes = tt
-file_stands c all facts nothing keeps makes has leaves same ends (Some bytes) (lines, said, are, takes) = record {
+    → (known : Option (List ℕ)) → IfSome known (TakesFile first c) → IfSome known (λ bytes. SaysFile first bytes all facts)
+file_stands first c all facts nothing keeps makes has leaves same ends None takes = tt
+file_stands first c all facts nothing keeps makes has leaves same ends (Some bytes) (lines, said, are, takes) = record {
   lines = lines;
   said = said;
   are_lines = are;
   say = takes.0;
-  stand = all_stand c all nothing keeps (ideograph_weight (ideographs_of said))
-      (λ x p h. sym (weights_are c.ideographs (ideographs_of said) x takes.2) ∙ h) lines said takes.0 takes.1;
+  stand = all_stand c all nothing keeps (ideograph_weight (ideographs_of first said))
+      (λ x p h. sym (weights_are c.ideographs (ideographs_of first said) x takes.2) ∙ h) lines said takes.0 takes.1;
   specials = specials_said c.special all.special said takes.3 makes;
   says_facts = subst (λ f. SaysFacts f said) (sym same) takes.5;
   ended = subst (λ (f : FileFacts). list_any fixes_last f.fixed.items ≡ true) (sym same) ends;
-  unmapped = λ x scalar none. subst (GivesUnmapped all.tables.root x) (weights_are c.ideographs (ideographs_of said) x takes.2)
+  unmapped = λ x scalar none. subst (GivesUnmapped all.tables.root x) (weights_are c.ideographs (ideographs_of first said) x takes.2)
       (leaves has x scalar (takes.4 x none));
 }
 
@@ -139,6 +140,7 @@ other_right bytes errors.NoMemory h = tt
 other_right bytes errors.Empty h = absurd h
 other_right bytes (errors.ReadFailed kind) h = tt
 other_right bytes (errors.Missing End) h = absurd h
+other_right bytes (errors.Missing missing.Radicals) h = tt
 other_right bytes (errors.Missing missing.NumericLead) h = tt
 other_right bytes (errors.Missing missing.Punctuation) h = tt
 other_right bytes (errors.Missing missing.Symbols) h = tt
@@ -160,13 +162,13 @@ empty_refused (Some bytes) [] are none = are
 empty_refused (Some bytes) (l ∷ ls) are none = cc
 
 -- a file whose lines were taken in without its last one is cut off
-pub cut_refused : (c : Collected) (known : Option (List ℕ)) (lines : List (List ℕ)) (said : List Line) → IfSome known (λ bytes. AreLines bytes lines)
-    → 0 < length lines → TakesLines c lines said → list_any fixes_last c.facts.fixed.items ≡ false
+pub cut_refused : (first : List CharRange) (c : Collected) (known : Option (List ℕ)) (lines : List (List ℕ)) (said : List Line) → IfSome known (λ bytes. AreLines bytes lines)
+    → 0 < length lines → TakesLines first c lines said → list_any fixes_last c.facts.fixed.items ≡ false
     → IfSome known (λ bytes. IsRightlyRefused bytes (errors.Missing End))
 unfolding AreLines
-cut_refused c None lines said are some takes none = tt
-cut_refused c (Some bytes) [] said are some takes none = absurd (omega arith)
-cut_refused c (Some bytes) (l ∷ ls) said are some takes none = record {
+cut_refused first c None lines said are some takes none = tt
+cut_refused first c (Some bytes) [] said are some takes none = absurd (omega arith)
+cut_refused first c (Some bytes) (l ∷ ls) said are some takes none = record {
   lines = l ∷ ls;
   said = said;
   some = are.0;

@@ -2,7 +2,8 @@
 use Rattle.std.proofs.Common.{◌≡◌, ℕ, ◌≤◌, Bool, true, false, List, ◌∷◌, Option, Some, None, refl, sym, ap, ◌∙◌, arith, if◌then◌else◌}
 use Rattle.std.specs.Prelude.{◌&&◌, nat_le, IfSome}
 use Rattle.std.proofs.lemmas.Bool.Decides.{nat_tests}
-use Rattle.icu_cldr.specs.Ideographs.{primary_among, primary_in, ideograph_weight_in, HasNoIdeographs}
+use Rattle.icu_cldr.specs.RangeWeights.{primary_among, ideograph_weight_in}
+use Rattle.icu_cldr.specs.Ideographs.{primary_in, HasNoIdeographs}
 use Rattle.icu_cldr.specs.declared.ideograph_weights.IdeographWeights.{IdeographWeights}
 use Rattle.icu_cldr.specs.declared.ideograph_weights.WeightedRange.{WeightedRange}
 

@@ -15,7 +15,8 @@ use Rattle.icu_entries.proofs.OffsetLemmas.{ordinal_of_weight_at}
 use Rattle.icu_collation_data.specs.Data.{Data, data_element}
 use Rattle.icu_entries.specs.EncodedEntries.{implicit_entry}
 use Rattle.icu_table_builder.specs.Building.{and_elements, empty_data, set_in}
-use Rattle.icu_cldr.specs.Ideographs.{HasNoIdeographs, ideograph_weight_in, primary_among, primary_in}
+use Rattle.icu_cldr.specs.RangeWeights.{ideograph_weight_in, primary_among}
+use Rattle.icu_cldr.specs.Ideographs.{HasNoIdeographs, primary_in}
 use Rattle.icu_cldr.specs.Unmapped.{GivesUnmapped, GivesWeight}
 use Rattle.icu_cldr.specs.inner.IdeographValues.{GivesOrKeeps, SetsBelow, SetsRange}
 use Rattle.icu_mapping_entries.specs.GrownLists.{Extends, HasMoreLists}

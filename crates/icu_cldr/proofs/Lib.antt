@@ -9,6 +9,9 @@ pub mod TakenLemmas
 pub mod CompressedLeadLemmas
 pub mod FileLineLemmas
 pub mod IdeographLemmas
+pub mod RangePlaceLemmas
+pub mod RadicalLineLemmas
+pub mod RadicalOrderLemmas
 pub mod WeightedRangeLemmas
 pub mod DigitRangeLemmas
 pub mod CountedDigitLemmas

@@ -1,5 +1,5 @@
 -- What was taken in stays.
-use Rattle.std.proofs.Common.{◌≡◌, ℕ, ◌+◌, ◌-◌, ◌<◌, Bool, true, false, List, [], ◌∷◌, ◌++◌, Option, Some, None, refl, sym, ap, subst, ◌∙◌, length, map, arith, option_map, suc}
+use Rattle.std.proofs.Common.{◌≡◌, ℕ, ◌<◌, Bool, true, false, List, [], ◌∷◌, ◌++◌, Option, Some, None, refl, sym, ap, subst, ◌∙◌, length, map, arith, option_map, suc}
 use Rattle.std.specs.Prelude.{IfSome, OnOk, Result, Ok, Err, ◌==◌, ◌&&◌, ◌||◌, bytes_eq, reverse}
 use Rattle.std.proofs.lemmas.Bool.Decides.{nat_tests}
 use Rattle.icu_table_builder.specs.Building.{built_data}
@@ -25,6 +25,7 @@ use Rattle.icu_cldr.specs.declared.collected.Collected.{Collected}
 use Rattle.icu_cldr.specs.declared.fractional_element.FractionalElement.{FractionalElement}
 use Rattle.icu_cldr.specs.declared.fractional_element.Primary.{Primary}
 use Rattle.icu_cldr.specs.declared.fractional_element.Primary.TheVariants.{Weight, OfIdeograph}
+use Rattle.icu_cldr.specs.declared.ideographs.CharRange.{CharRange}
 use Rattle.icu_cldr.specs.declared.line.Line.{Line}
 use Rattle.icu_cldr.specs.declared.line.Line.TheVariants as says
 use Rattle.icu_cldr.specs.declared.mapping.Mapping.{Mapping}
@@ -137,14 +138,14 @@ kept_by_ideographs plain new_plain around new_around said same x none h = record
 }
 
 -- the lines that were taken in, and one more
-pub lines_stay : (old new : Collected) (lines : List (List ℕ)) (said : List Line) (line : List ℕ) (one : Line) → Grows old new
-    → TakesLines old lines said → LineSays line one → HasSaid new one → AddsIdeographs old.ideographs new.ideographs one
+pub lines_stay : (first : List CharRange) (old new : Collected) (lines : List (List ℕ)) (said : List Line) (line : List ℕ) (one : Line) → Grows old new
+    → TakesLines first old lines said → LineSays line one → HasSaid new one → AddsIdeographs first old.ideographs new.ideographs one
     → AddsSpecial old.special new.special one → KeepsUnmapped old new one → AddsFacts old.facts new.facts one
-    → TakesLines new (lines ++ line ∷ []) (said ++ one ∷ [])
-lines_stay old new lines said line one grows all is has adds specials kept facts = (
+    → TakesLines first new (lines ++ line ∷ []) (said ++ one ∷ [])
+lines_stay first old new lines said line one grows all is has adds specials kept facts = (
   says_more lines said line one all.0 is,
   has_more old new said one grows all.1 has,
-  ideographs_more old.ideographs new.ideographs said all.2 one adds,
+  ideographs_more first old.ideographs new.ideographs said all.2 one adds,
   specials_more old.special new.special said all.3 one specials,
   maps_more old new said one all.4 kept,
   facts_more old.facts new.facts said all.5 one facts,
@@ -165,10 +166,10 @@ counts_lines [] number counts some = absurd (omega arith)
 counts_lines (l ∷ ls) number counts some = omega arith
 
 -- all lines of known bytes
-pub takes_file : (c : Collected) (known : Option (List ℕ)) (lines : List (List ℕ)) (said : List Line) → IfSome known (λ bytes. AreLines bytes lines)
-    → TakesLines c lines said → IfSome known (TakesFile c)
-takes_file c None lines said are all = tt
-takes_file c (Some bytes) lines said are all = (lines, said, are, all)
+pub takes_file : (first : List CharRange) (c : Collected) (known : Option (List ℕ)) (lines : List (List ℕ)) (said : List Line) → IfSome known (λ bytes. AreLines bytes lines)
+    → TakesLines first c lines said → IfSome known (TakesFile first c)
+takes_file first c None lines said are all = tt
+takes_file first c (Some bytes) lines said are all = (lines, said, are, all)
 
 -- nothing was taken in
 pub grows_not : (c : Collected) → Grows c c

@@ -4,7 +4,8 @@ use Rattle.std.specs.Prelude.{◌&&◌, nat_le, min, option_map}
 use Rattle.std.proofs.lemmas.List.{append-nil}
 use Rattle.icu_entries.specs.Weights.{weight_at}
 use Rattle.icu_cldr.specs.IdeographOrder.{first_ordinal, ideograph_count, ideograph_weight, ideographs_before, ideographs_of, ranges_of}
-use Rattle.icu_cldr.specs.Ideographs.{HasNoIdeographs, primary_among, primary_in}
+use Rattle.icu_cldr.specs.RangeWeights.{primary_among}
+use Rattle.icu_cldr.specs.Ideographs.{HasNoIdeographs, primary_in}
 use Rattle.icu_cldr.specs.inner.WeightedRanges.{AddsIdeographs, HasIdeographs, weighted_from}
 use Rattle.icu_cldr.specs.declared.ideograph_weights.IdeographWeights.{IdeographWeights}
 use Rattle.icu_cldr.specs.declared.ideograph_weights.WeightedRange.{WeightedRange}
@@ -95,29 +96,31 @@ unfolding weighted_from
 none_weighted ordinal [] h = refl
 none_weighted ordinal (r ∷ rs) h = cc
 
-ranges_more : (said : List Line) (one : Line) → ideographs_of (said ++ one ∷ []) ≡ ideographs_of said ++ ranges_of one
+ranges_more : (first : List CharRange) (said : List Line) (one : Line) → ideographs_of first (said ++ one ∷ []) ≡ ideographs_of first said ++ ranges_of first one
 unfolding ideographs_of
-ranges_more [] one = append-nil (ranges_of one)
-ranges_more (x ∷ xs) one = ap (λ rs. ranges_of x ++ rs) (ranges_more xs one) ∙ sym (append_assoc (ranges_of x) (ideographs_of xs) (ranges_of one))
+ranges_more first [] one = append-nil (ranges_of first one)
+ranges_more first (x ∷ xs) one =
+    ap (λ rs. ranges_of first x ++ rs) (ranges_more first xs one)
+    ∙ sym (append_assoc (ranges_of first x) (ideographs_of first xs) (ranges_of first one))
 
 -- no line has ideographs so far
-pub none_said : (ideographs : IdeographWeights) → HasNoIdeographs ideographs → HasIdeographs ideographs (ideographs_of [])
+pub none_said : (first : List CharRange) (ideographs : IdeographWeights) → HasNoIdeographs ideographs → HasIdeographs ideographs (ideographs_of first [])
 unfolding weighted_from ideographs_of
-none_said ideographs none = none
+none_said first ideographs none = none
 
-module _ (old new : IdeographWeights) (said : List Line) (has : HasIdeographs old (ideographs_of said)) where
-  same_ranges : (one : Line) → ranges_of one ≡ [] → new ≡ old → HasIdeographs new (ideographs_of (said ++ one ∷ []))
+module _ (first : List CharRange) (old new : IdeographWeights) (said : List Line) (has : HasIdeographs old (ideographs_of first said)) where
+  same_ranges : (one : Line) → ranges_of first one ≡ [] → new ≡ old → HasIdeographs new (ideographs_of first (said ++ one ∷ []))
   same_ranges one none same =
-      let ranges : ideographs_of (said ++ one ∷ []) ≡ ideographs_of said =
-      ranges_more said one ∙ ap (λ rs. ideographs_of said ++ rs) none ∙ append-nil (ideographs_of said) in
-      subst (HasIdeographs new) (sym ranges) (subst (λ w. HasIdeographs w (ideographs_of said)) (sym same) has)
+      let ranges : ideographs_of first (said ++ one ∷ []) ≡ ideographs_of first said =
+      ranges_more first said one ∙ ap (λ rs. ideographs_of first said ++ rs) none ∙ append-nil (ideographs_of first said) in
+      subst (HasIdeographs new) (sym ranges) (subst (λ w. HasIdeographs w (ideographs_of first said)) (sym same) has)
 
   -- one line more
-  pub ideographs_more : (one : Line) → AddsIdeographs old new one → HasIdeographs new (ideographs_of (said ++ one ∷ []))
+  pub ideographs_more : (one : Line) → AddsIdeographs first old new one → HasIdeographs new (ideographs_of first (said ++ one ∷ []))
   ideographs_more (says.Ideographs ranges) adds =
-      let none : ideographs_of said ≡ [] = none_weighted (first_ordinal (ideographs_of said)) (ideographs_of said) (sym has ∙ adds.0) in
-      let all : ideographs_of (said ++ says.Ideographs ranges ∷ []) ≡ ranges.items =
-      ranges_more said (says.Ideographs ranges) ∙ ap (λ rs. rs ++ ranges.items) none in
+      let none : ideographs_of first said ≡ [] = none_weighted (first_ordinal (ideographs_of first said)) (ideographs_of first said) (sym has ∙ adds.0) in
+      let all : ideographs_of first (said ++ says.Ideographs ranges ∷ []) ≡ first ++ ranges.items =
+      ranges_more first said (says.Ideographs ranges) ∙ ap (λ rs. rs ++ (first ++ ranges.items)) none in
       subst (HasIdeographs new) (sym all) adds.1
   ideographs_more says.Nothing adds = same_ranges says.Nothing refl adds
   ideographs_more (says.Version v) adds = same_ranges (says.Version v) refl adds

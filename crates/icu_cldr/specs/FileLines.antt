@@ -12,3 +12,7 @@ abbrev pub LinesRead : Option (List ℕ) → List (List ℕ) → Option (List �
 LinesRead None done left = Unit {0}
 LinesRead (Some bytes) done None = ⊥
 LinesRead (Some bytes) done (Some left) = (more : List (List ℕ)) → AreLines left more → AreLines bytes (done ++ more)
+
+-- bytes begin with these lines
+abbrev pub BeginsWithLines : List ℕ → List (List ℕ) → Type 0
+BeginsWithLines bytes lines = (left : List ℕ) × ((more : List (List ℕ)) → AreLines left more → AreLines bytes (lines ++ more))

@@ -18,6 +18,7 @@ use Rattle.icu_cldr.specs.Unmapped.{GivesUnmapped, maps_first}
 use Rattle.icu_cldr.specs.WrittenLines.{LineSays}
 use Rattle.icu_cldr.specs.WrittenMappings.{is_without_context}
 use Rattle.icu_cldr.specs.declared.file_facts.FileFacts.{FileFacts}
+use Rattle.icu_cldr.specs.declared.ideographs.CharRange.{CharRange}
 use Rattle.icu_cldr.specs.declared.line.Line.{Line}
 use Rattle.icu_cldr.specs.declared.line.Line.TheVariants as says
 use Rattle.icu_cldr.specs.declared.mapping.Mapping.{Mapping}
@@ -40,17 +41,17 @@ StandsIn of_ideograph all (says.Mapping m) = GivesMapping of_ideograph all.table
 StandsIn of_ideograph all _ = Unit {0}
 
 -- The tables say what each line of a file says, where elements `U+X` have the weights of ideographs by the ranges that
--- the file's line has, and their special primary weights are those of the lines. A character that no line maps has the
--- weight of an ideograph, or its entry is implicit. What is kept of the file is what its lines say, and one of them is
--- the last of a file, so that the file isn't cut off.
-pub record SaysFile (bytes : List ℕ) (all : CollatorTables) (facts : FileFacts) : Type 0 where
+-- stand before all others and those that the file's line has, and their special primary weights are those of the lines.
+-- A character that no line maps has the weight of an ideograph, or its entry is implicit. What is kept of the file is
+-- what its lines say, and one of them is the last of a file, so that the file isn't cut off.
+pub record SaysFile (first : List CharRange) (bytes : List ℕ) (all : CollatorTables) (facts : FileFacts) : Type 0 where
   pub lines : List (List ℕ)
   pub said : List Line
   pub are_lines : AreLines bytes lines
   pub say : AllZip LineSays lines said
-  pub stand : AllByRecursion (StandsIn (ideograph_weight (ideographs_of said)) all) said
+  pub stand : AllByRecursion (StandsIn (ideograph_weight (ideographs_of first said)) all) said
   pub specials : SaysSpecials all.special said
   pub says_facts : SaysFacts facts said
   pub ended : list_any fixes_last facts.fixed.items ≡ true
   pub unmapped : (c : ℕ) → IsScalar c → list_any (maps_first c) said ≡ false
-      → GivesUnmapped all.tables.root c (ideograph_weight (ideographs_of said) c)
+      → GivesUnmapped all.tables.root c (ideograph_weight (ideographs_of first said) c)

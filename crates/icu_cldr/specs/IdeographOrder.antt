@@ -1,6 +1,8 @@
--- The primary weights of ideographs, by the ranges that a line has (UTS #35 part 5, "Root Collation Data Files").
+-- The primary weights of ideographs, by the ranges that stand before all others and those that a line has (UTS #35 part
+-- 5, "Root Collation Data Files").
 use Rattle.std.specs.Prelude.{ℕ, ◌+◌, ◌-◌, ◌*◌, ◌/◌, ◌&&◌, nat_le, false, List, [], ◌∷◌, ◌++◌, Option, Some, None, option_map, if◌then◌else◌}
 use Rattle.icu_entries.specs.Weights.{weight_at}
+use Rattle.icu_cldr.specs.declared.ideograph_order.IdeographOrder.{IdeographOrder}
 use Rattle.icu_cldr.specs.declared.ideographs.CharRange.{CharRange}
 use Rattle.icu_cldr.specs.declared.line.Line.{Line}
 use Rattle.icu_cldr.specs.declared.line.Line.TheVariants as says
@@ -30,12 +32,16 @@ first_ordinal ranges = 64516 * first_ideograph_lead (ideograph_count ranges)
 abbrev pub ideograph_weight : List CharRange → ℕ → Option ℕ
 ideograph_weight ranges c = option_map (λ n. weight_at false (first_ordinal ranges + 2 * n)) (ideographs_before ranges c)
 
--- the ranges of ideographs that a line has
-abbrev pub ranges_of : Line → List CharRange
-ranges_of (says.Ideographs ranges) = ranges.items
-ranges_of _ = []
+-- the ideographs that stand before all others
+unfoldable pub first_ideographs : IdeographOrder → List CharRange
+first_ideographs order = order.first.items
+
+-- the ranges of ideographs that a line has, behind those that stand before all others
+abbrev pub ranges_of : List CharRange → Line → List CharRange
+ranges_of first (says.Ideographs ranges) = first ++ ranges.items
+ranges_of first _ = []
 
 -- those that lines have
-unfoldable pub ideographs_of : List Line → List CharRange
-ideographs_of [] = []
-ideographs_of (line ∷ lines) = ranges_of line ++ ideographs_of lines
+unfoldable pub ideographs_of : List CharRange → List Line → List CharRange
+ideographs_of first [] = []
+ideographs_of first (line ∷ lines) = ranges_of first line ++ ideographs_of first lines

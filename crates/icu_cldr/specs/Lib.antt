@@ -12,8 +12,11 @@ pub mod Ranges
 pub mod Errors
 pub mod Roots
 pub mod LineElements
+pub mod RangeWeights
 pub mod Ideographs
 pub mod IdeographOrder
+pub mod RadicalLines
+pub mod RadicalOrder
 pub mod CharacterEntries
 pub mod SaidSpecials
 pub mod Unmapped

@@ -11,3 +11,5 @@ pub mod Digits
 pub mod RootValues
 pub mod Resolved
 pub mod WeightedRanges
+pub mod RangePlaces
+pub mod RadicalParts

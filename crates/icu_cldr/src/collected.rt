@@ -1,5 +1,5 @@
 //! What the lines said so far.
-ghost use Rattle.std.specs.Prelude.{◌≡◌, ◌+◌, ◌<◌, [], IfSome, IfOk, OnOk};
+ghost use Rattle.std.specs.Prelude.{◌≡◌, ◌+◌, ◌<◌, ◌++◌, [], IfSome, IfOk, OnOk};
 ghost use Rattle.icu_cldr.specs.inner.Diacritics.{SaysOfMark};
 
 use crate::character_entries::{CharacterContexts, CharacterEntries, add_entry};
@@ -82,6 +82,20 @@ fn set_diacritic(
     Ok(())
 }
 
+/// Ranges and others behind them.
+fn joined(
+    alloc: Global,
+    first: &[CharRange],
+    ranges: &[CharRange],
+) -> Result<Vec<CharRange>, AllocError>
+    ensures { IfOk result (λ all. all.items ≡ first.now ++ ranges.now) }
+{
+    let mut all = Vec::new(alloc);
+    all.extend_from_slice(first)?;
+    all.extend_from_slice(ranges)?;
+    Ok(all)
+}
+
 impl Collected {
     ghost use Rattle.icu_cldr.specs.FileFacts.{SaysFacts};
     ghost use Rattle.icu_cldr.specs.Ideographs.{HasNoIdeographs};
@@ -112,22 +126,26 @@ impl Collected {
         })
     }
 
-    /// Takes in what a line says.
-    pub(crate) fn read_line(&mut self, line: &str) -> Result<(), UnnumberedError>
-        ensures taken { OnOk result (IsTaken self.old self.new line.now) }
+    /// Takes in what a line says. These ideographs stand before those of a line.
+    pub(crate) fn read_line(
+        &mut self,
+        first: &[CharRange],
+        line: &str,
+    ) -> Result<(), UnnumberedError>
+        ensures taken { OnOk result (IsTaken first.now self.old self.new line.now) }
         ensures grows { OnOk result (Grows self.old self.new) }
         ensures unmapped { OnOk result (HasUnmapped self.old → HasUnmapped self.new) }
     {
         let said = Line::parse(self.alloc, line)?;
-        self.take_in(said)?;
+        self.take_in(first, said)?;
         Ok(())
     }
 
     /// Takes in what a line said.
-    fn take_in(&mut self, said: Line) -> Result<(), UnnumberedError>
+    fn take_in(&mut self, first: &[CharRange], said: Line) -> Result<(), UnnumberedError>
         ensures has { OnOk result (HasSaid self.new said) }
         ensures ideographs { OnOk result
-            (AddsIdeographs self.old.ideographs self.new.ideographs said) }
+            (AddsIdeographs first.now self.old.ideographs self.new.ideographs said) }
         ensures special { OnOk result (AddsSpecial self.old.special self.new.special said) }
         ensures facts { OnOk result (AddsFacts self.old.facts self.new.facts said) }
         ensures others { OnOk result (KeepsUnmapped self.old self.new said) }
@@ -151,15 +169,19 @@ impl Collected {
             }
             Line::LeadByte(_) => Ok(()),
             Line::NumericLead(_) => Ok(()),
-            Line::Ideographs(ranges) => self.add_ideographs(ranges.as_slice()),
+            Line::Ideographs(ranges) => self.add_ideographs(first, ranges.as_slice()),
             Line::Mapping(mapping) => self.add_mapping(mapping),
         }
     }
 
-    /// Takes in the ideographs.
-    fn add_ideographs(&mut self, ranges: &[CharRange]) -> Result<(), UnnumberedError>
+    /// Takes in the ideographs of a line, behind the first ones.
+    fn add_ideographs(
+        &mut self,
+        first: &[CharRange],
+        ranges: &[CharRange],
+    ) -> Result<(), UnnumberedError>
         ensures none { OnOk result (HasNoIdeographs self.old.ideographs) }
-        ensures has { OnOk result (HasIdeographs self.new.ideographs ranges.now) }
+        ensures has { OnOk result (HasIdeographs self.new.ideographs (first.now ++ ranges.now)) }
         ensures special { OnOk result (self.new.special ≡ self.old.special) }
         ensures facts { OnOk result (self.new.facts ≡ self.old.facts) }
         ensures kept { OnOk result ((self.new.entries ≡ self.old.entries)
@@ -170,7 +192,8 @@ impl Collected {
         if !self.ideographs.is_empty() {
             return Err(UnnumberedError::Refused(LineErrorKind::Repeated));
         }
-        let ideographs = IdeographWeights::assign(self.alloc, ranges)?;
+        let all = joined(self.alloc, first, ranges)?;
+        let ideographs = IdeographWeights::assign(self.alloc, all.as_slice())?;
         set_ideographs(&mut self.builder, ideographs.ranges())?;
         self.ideographs = ideographs;
         Ok(())

@@ -27,9 +27,6 @@ pub enum LineErrorKind {
     /// The ideographs don't fit below the implicit weights.
     #[error("expected fewer ideographs")]
     FewerIdeographs,
-    /// There are more than 256 ranges of ideographs.
-    #[error("expected at most 256 ranges of ideographs")]
-    FewerRanges,
     /// A mapping has more than 31 elements.
     #[error("expected at most 31 elements")]
     FewerElements,
@@ -49,6 +46,9 @@ pub enum Missing {
     /// each file, so a file without it is cut off.
     #[error("the file is cut off: expected its last line, [fixed first ignorable tertiary byte 3C]")]
     End,
+    /// The lines with the ideographs of each radical, and the one behind them.
+    #[error("expected lines [radical ..] and [radical end]")]
+    Radicals,
     /// The mapping of U+FDD0 and "4", which has the lead byte of numbers.
     #[error("expected a line with the lead byte of numbers, FDD0 0034")]
     NumericLead,

@@ -46,6 +46,12 @@ pub enum Expected {
     /// A range whose last character isn't below its first.
     #[error("expected a range that ascends")]
     AscendingRange,
+    /// A `:` before the ideographs of a radical.
+    #[error("expected `:` before the ideographs of a radical")]
+    Colon,
+    /// A character on both sides of the `-` of a range of ideographs.
+    #[error("expected an ideograph on both sides of `-`")]
+    RangeEnd,
 }
 
 /// Why a line is refused.

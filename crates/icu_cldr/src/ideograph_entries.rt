@@ -2,7 +2,7 @@
 ghost use Rattle.std.specs.Prelude.{◌≡◌, ◌==◌, ℕ, false, OnOk};
 ghost use Rattle.std.specs.Char.{IsScalar};
 ghost use Rattle.icu_table_builder.specs.Building.{built_data};
-ghost use Rattle.icu_cldr.specs.Ideographs.{ideograph_weight_in, primary_among};
+ghost use Rattle.icu_cldr.specs.RangeWeights.{ideograph_weight_in, primary_among};
 ghost use Rattle.icu_cldr.specs.Unmapped.{GivesWeight};
 ghost use Rattle.icu_cldr.specs.inner.IdeographValues.{GivesOrKeeps, SetsRange};
 ghost use Rattle.icu_mapping_entries.specs.GrownLists.{HasMoreLists};

@@ -3,9 +3,11 @@ ghost use Rattle.std.specs.Prelude.{◌≡◌, ◌+◌, ◌-◌, ◌*◌, ◌%�
 ghost use Rattle.std.specs.Bool.{OnTrue};
 ghost use Rattle.icu_entries.specs.Weights.{weight_at};
 ghost use Rattle.icu_cldr.specs.IdeographOrder.{first_ideograph_lead, first_ordinal, ideograph_count};
+ghost use Rattle.icu_cldr.specs.inner.RangePlaces.{Finds};
 
 use crate::CharRange;
 use crate::error::{LineErrorKind, UnnumberedError};
+use crate::range_places::places_of;
 use std::alloc::Global;
 
 /// The lead byte of implicit weights.
@@ -20,9 +22,6 @@ const WEIGHTS_PER_LEAD: u32 = 254 * 254;
 /// How many weights of three bytes an ideograph takes: its own, and one that is left for tailorings.
 pub(crate) const STEP: u32 = 2;
 
-/// How many ranges of ideographs a line may have, since an ideograph is looked for in each.
-const MOST_RANGES: usize = 256;
-
 /// Ideographs that follow one another, and the ordinal of the first one's weight among all weights of three bytes.
 #[derive(Debug, Clone, Copy, PartialEq)]
 pub(crate) struct WeightedRange {
@@ -35,6 +34,9 @@ pub(crate) struct WeightedRange {
 #[derive(Debug, Drop)]
 pub(crate) struct IdeographWeights {
     ranges: Vec<WeightedRange>,
+    /// Of each code the number of the first range that has it, from 1 on, or 0.
+    places: Vec<u32>,
+    ghost finds: { Finds places.items ranges.items },
 }
 
 /// The weight of three bytes with an ordinal.
@@ -102,6 +104,7 @@ impl IdeographWeights {
     {
         IdeographWeights {
             ranges: Vec::new(alloc),
+            places: Vec::new(alloc),
         }
     }
 
@@ -119,9 +122,6 @@ impl IdeographWeights {
     ) -> Result<IdeographWeights, UnnumberedError>
         ensures { IfOk result (λ w. HasIdeographs w ranges.now) }
     {
-        if ranges.len() > MOST_RANGES {
-            return Err(UnnumberedError::Refused(LineErrorKind::FewerRanges));
-        }
         let Some(mut ordinal) = first_ordinal(ranges) else {
             return Err(UnnumberedError::Refused(LineErrorKind::FewerIdeographs));
         };
@@ -131,7 +131,11 @@ impl IdeographWeights {
             weighted.push(WeightedRange { range, ordinal })?;
             ordinal = ordinal.saturating_add(char_count(range).saturating_mul(STEP));
         }
-        Ok(IdeographWeights { ranges: weighted })
+        let places = places_of(alloc, weighted.as_slice())?;
+        Ok(IdeographWeights {
+            ranges: weighted,
+            places,
+        })
     }
 
     /// The ranges.
@@ -145,17 +149,13 @@ impl IdeographWeights {
     pub(crate) fn primary(&self, c: char) -> Option<u32>
         ensures { IfSome result (λ p. primary_in self.now c ≡ Some p) }
     {
-        for weighted in self.ranges.iter() {
-            if weighted.range.contains(c) {
-                return weighted.primary(c);
-            }
-        }
-        None
+        let place = self.places.get(c as usize).copied()?.checked_sub(1)?;
+        self.ranges.get(place as usize)?.primary(c)
     }
 }
 
 impl WeightedRange {
-    ghost use Rattle.icu_cldr.specs.Ideographs.{ideograph_weight_in};
+    ghost use Rattle.icu_cldr.specs.RangeWeights.{ideograph_weight_in};
 
     /// The primary weight of a character of the range.
     pub(crate) fn primary(self, c: char) -> Option<u32>

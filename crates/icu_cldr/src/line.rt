@@ -54,7 +54,7 @@ pub enum Line {
 }
 
 /// What stands before the comment of a line.
-fn before_comment(line: &str) -> &str
+pub(crate) fn before_comment(line: &str) -> &str
     ensures { result.now ≡ before_first (λ b. b == 35) line.now }
 {
     match line.split_once('#') {

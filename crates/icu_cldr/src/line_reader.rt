@@ -6,13 +6,14 @@ ghost use Rattle.icu_cldr.specs.FixedBytes.{fixes_last};
 ghost use Rattle.icu_cldr.specs.inner.Taken.{TakesFile, HasNothing};
 ghost use Rattle.icu_cldr.specs.inner.TakenCharacters.{HasUnmapped};
 
+use crate::CharRange;
 use crate::collected::Collected;
 use crate::error::{LineErrorKind, Missing, ReadError, UnnumberedError};
 use std::alloc::Global;
 use std::io::{BufRead, ErrorKind};
 
 /// What a read that fails is, at this line.
-fn failed(kind: ErrorKind, line: u64) -> ReadError
+pub(crate) fn failed(kind: ErrorKind, line: u64) -> ReadError
     requires { 0 < line }
     ensures { IsOtherError result }
 {
@@ -23,12 +24,13 @@ fn failed(kind: ErrorKind, line: u64) -> ReadError
     }
 }
 
-/// What the lines of a reader say, if one of them is the last of a file.
+/// What the lines of a reader say, if one of them is the last of a file. These ideographs stand before those of a line.
 pub(crate) fn collect_lines<R: BufRead + Drop>(
     alloc: Global,
+    first: &[CharRange],
     reader: R,
 ) -> Result<Collected, ReadError>
-    ensures taken { IfOk result (λ c. IfSome (R.remaining reader) (TakesFile c)) }
+    ensures taken { IfOk result (λ c. IfSome (R.remaining reader) (TakesFile first.now c)) }
     ensures nothing { IfOk result HasNothing }
     ensures unmapped { IfOk result HasUnmapped }
     ensures ended { IfOk result (λ c. list_any fixes_last c.facts.fixed.items ≡ true) }
@@ -44,7 +46,7 @@ pub(crate) fn collect_lines<R: BufRead + Drop>(
             Ok(line) => line,
             Err(error) => return Err(failed(error.kind(), number)),
         };
-        if let Err(error) = collected.read_line(line.as_str()) {
+        if let Err(error) = collected.read_line(first, line.as_str()) {
             return Err(error.at(number));
         }
     }

@@ -1,12 +1,14 @@
 //! The root collation as a provider.
-ghost use Rattle.std.specs.Prelude.{◌≡◌, IfOk, IfErr, IfSome, MatchOption, None, Some, option_map, string_bytes};
+ghost use Rattle.std.specs.Prelude.{◌≡◌, [], IfOk, IfErr, IfSome, MatchOption, None, Some, option_map, string_bytes};
 ghost use Rattle.icu_provider.specs.OwnedTables.{owned_tables};
 ghost use Rattle.icu_cldr.specs.Errors.{IsNumbered, IsRightlyRefused};
 ghost use Rattle.icu_cldr.specs.FileRoots.{SaysFile};
+ghost use Rattle.icu_cldr.specs.IdeographOrder.{first_ideographs};
 ghost use Rattle.icu_cldr.specs.Roots.{IsRoot, root_facts, root_tables};
 
 use crate::error::ReadError;
 use crate::file_facts::FileFacts;
+use crate::ideograph_order::IdeographOrder;
 use crate::line_reader::collect_lines;
 use icu_provider::{FixedLoads, FixedProvider, OwnedTables};
 use std::alloc::Global;
@@ -25,12 +27,28 @@ pub struct CldrRoot {
 pub fn read_root<R: BufRead + Drop>(alloc: Global, reader: R) -> Result<CldrRoot, ReadError>
     ensures root { IfOk result (λ r. IsRoot (root_tables r)) }
     ensures says { IfOk result (λ r.
-        IfSome (R.remaining reader) (λ bytes. SaysFile bytes (root_tables r) (root_facts r))) }
+        IfSome (R.remaining reader) (λ bytes. SaysFile [] bytes (root_tables r) (root_facts r))) }
     ensures numbered { IfErr result IsNumbered }
     ensures refused { IfErr result (λ e.
         IfSome (R.remaining reader) (λ bytes. IsRightlyRefused bytes e)) }
 {
-    collect_lines(alloc, reader)?.finish()
+    collect_lines(alloc, &[], reader)?.finish()
+}
+
+/// Reads the root collation as `read_root` does, with ideographs in another order.
+pub fn read_root_by<R: BufRead + Drop>(
+    alloc: Global,
+    order: &IdeographOrder,
+    reader: R,
+) -> Result<CldrRoot, ReadError>
+    ensures root { IfOk result (λ r. IsRoot (root_tables r)) }
+    ensures says { IfOk result (λ r. IfSome (R.remaining reader)
+        (λ bytes. SaysFile (first_ideographs order.now) bytes (root_tables r) (root_facts r))) }
+    ensures numbered { IfErr result IsNumbered }
+    ensures refused { IfErr result (λ e.
+        IfSome (R.remaining reader) (λ bytes. IsRightlyRefused bytes e)) }
+{
+    collect_lines(alloc, order.first_ranges(), reader)?.finish()
 }
 
 impl CldrRoot {

@@ -2,7 +2,7 @@
 use Rattle.std.specs.Prelude.{◌≡◌, ℕ, ◌&&◌, nat_le, nat_lt, Option, Some, None, MatchBool}
 use Rattle.std.specs.Char.{IsScalar}
 use Rattle.icu_collation_data.specs.Data.{Data}
-use Rattle.icu_cldr.specs.Ideographs.{ideograph_weight_in}
+use Rattle.icu_cldr.specs.RangeWeights.{ideograph_weight_in}
 use Rattle.icu_cldr.specs.Unmapped.{GivesWeight}
 use Rattle.icu_cldr.specs.declared.ideograph_weights.WeightedRange.{WeightedRange}
 

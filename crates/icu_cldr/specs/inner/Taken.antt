@@ -20,6 +20,7 @@ use Rattle.icu_cldr.specs.inner.TakenCharacters.{KeepsUnmapped, MapsOnly}
 use Rattle.icu_cldr.specs.inner.WeightedRanges.{AddsIdeographs, HasIdeographs}
 use Rattle.icu_cldr.specs.declared.collected.Collected.{Collected}
 use Rattle.icu_cldr.specs.declared.file_facts.FileFacts.{FileFacts}
+use Rattle.icu_cldr.specs.declared.ideographs.CharRange.{CharRange}
 use Rattle.icu_cldr.specs.declared.line.Line.{Line}
 use Rattle.icu_cldr.specs.declared.line.Line.TheVariants as says
 use Rattle.icu_cldr.specs.declared.mapping.Mapping.{Mapping}
@@ -46,8 +47,8 @@ AddsFacts old new (says.Reserved r) =
 AddsFacts old new _ = new ≡ old
 
 -- a line was taken in: what it says
-abbrev pub IsTaken : Collected → Collected → List ℕ → Type 0
-IsTaken old new line = (said : Line) × LineSays line said × HasSaid new said × AddsIdeographs old.ideographs new.ideographs said
+abbrev pub IsTaken : List CharRange → Collected → Collected → List ℕ → Type 0
+IsTaken first old new line = (said : Line) × LineSays line said × HasSaid new said × AddsIdeographs first old.ideographs new.ideographs said
     × AddsSpecial old.special new.special said × KeepsUnmapped old new said × AddsFacts old.facts new.facts said
 
 -- what was taken in stays
@@ -61,14 +62,14 @@ abbrev pub HasNothing : Collected → Type 0
 HasNothing c = (x : ℕ) → entry_around c.contexts x [] [] ≡ None
 
 -- what lines say was taken in
-abbrev pub TakesLines : Collected → List (List ℕ) → List Line → Type 0
-TakesLines c lines said =
-    AllZip LineSays lines said × AllByRecursion (HasSaid c) said × HasIdeographs c.ideographs (ideographs_of said)
+abbrev pub TakesLines : List CharRange → Collected → List (List ℕ) → List Line → Type 0
+TakesLines first c lines said =
+    AllZip LineSays lines said × AllByRecursion (HasSaid c) said × HasIdeographs c.ideographs (ideographs_of first said)
     × HasSpecials c.special said × MapsOnly c said × SaysFacts c.facts said
 
 -- what each line of a file says was taken in
-abbrev pub TakesFile : Collected → List ℕ → Type 0
-TakesFile c bytes = (lines : List (List ℕ)) × (said : List Line) × AreLines bytes lines × TakesLines c lines said
+abbrev pub TakesFile : List CharRange → Collected → List ℕ → Type 0
+TakesFile first c bytes = (lines : List (List ℕ)) × (said : List Line) × AreLines bytes lines × TakesLines first c lines said
 
 -- the tables give each mapping that was taken in
 abbrev pub KeepsMappings : Collected → CollatorTables → Type 0

@@ -1,5 +1,5 @@
 -- Ranges of ideographs with the ordinals of their weights.
-use Rattle.std.specs.Prelude.{◌≡◌, ℕ, ◌+◌, ◌-◌, ◌*◌, List, [], ◌∷◌}
+use Rattle.std.specs.Prelude.{◌≡◌, ℕ, ◌+◌, ◌-◌, ◌*◌, List, [], ◌∷◌, ◌++◌}
 use Rattle.icu_cldr.specs.IdeographOrder.{first_ordinal}
 use Rattle.icu_cldr.specs.Ideographs.{HasNoIdeographs}
 use Rattle.icu_cldr.specs.declared.ideograph_weights.IdeographWeights.{IdeographWeights}
@@ -17,7 +17,7 @@ weighted_from ordinal (r ∷ rs) = record { range = r; ordinal = ordinal } ∷ w
 abbrev pub HasIdeographs : IdeographWeights → List CharRange → Type 0
 HasIdeographs ideographs ranges = ideographs.ranges.items ≡ weighted_from (first_ordinal ranges) ranges
 
--- the ideographs of a line that has some are all that there are, and any other line changes none
-abbrev pub AddsIdeographs : IdeographWeights → IdeographWeights → Line → Type 0
-AddsIdeographs old new (says.Ideographs ranges) = HasNoIdeographs old × HasIdeographs new ranges.items
-AddsIdeographs old new _ = new ≡ old
+-- the ideographs of a line that has some, behind the first ones, are all that there are; any other line changes none
+abbrev pub AddsIdeographs : List CharRange → IdeographWeights → IdeographWeights → Line → Type 0
+AddsIdeographs first old new (says.Ideographs ranges) = HasNoIdeographs old × HasIdeographs new (first ++ ranges.items)
+AddsIdeographs first old new _ = new ≡ old

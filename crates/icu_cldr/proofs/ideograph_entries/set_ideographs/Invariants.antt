@@ -1,7 +1,7 @@
 use Rattle.std.proofs.Common.{ℕ, drop}
 use Rattle.std.specs.Char.{IsScalar}
 use Rattle.icu_table_builder.specs.Building.{built_data}
-use Rattle.icu_cldr.specs.Ideographs.{primary_among}
+use Rattle.icu_cldr.specs.RangeWeights.{primary_among}
 use Rattle.icu_cldr.specs.inner.IdeographValues.{GivesOrKeeps}
 use Rattle.icu_mapping_entries.specs.GrownLists.{HasMoreLists}
 use Rattle.icu_cldr.proofs.ideograph_entries.set_ideographs.Given as goal

@@ -1,6 +1,6 @@
 use Rattle.std.proofs.Common.{◌≡◌, ◌+◌, ◌-◌, ◌*◌, ◌<◌, ◌∙◌}
 use Rattle.icu_table_builder.specs.Building.{built_data}
-use Rattle.icu_cldr.specs.Ideographs.{ideograph_weight_in}
+use Rattle.icu_cldr.specs.RangeWeights.{ideograph_weight_in}
 use Rattle.icu_cldr.proofs.IdeographValueLemmas.{range_set}
 use Rattle.icu_cldr.specs.declared.ideograph_weights.WeightedRange.{WeightedRange}
 use Rattle.icu_cldr.proofs.ideograph_entries.set_offset.Goals as goal

@@ -17,7 +17,7 @@ loop-line-init g c =
     record {
       nothing = c.in_ok-collected.ensures.nothing;
       unmapped = c.in_ok-collected.ensures.unmapped;
-      taken = ([], [], refl, subst (λ (left : Option (List ℕ)). LinesRead known [] left) (sym same) (none_read known), (tt, tt, none_said c.in_ok-collected.collected.ideographs c.in_ok-collected.ensures.none, c.in_ok-collected.ensures.specials, c.in_ok-collected.ensures.no_entry, c.in_ok-collected.ensures.facts));
+      taken = ([], [], refl, subst (λ (left : Option (List ℕ)). LinesRead known [] left) (sym same) (none_read known), (tt, tt, none_said c.args.first.now c.in_ok-collected.collected.ideographs c.in_ok-collected.ensures.none, c.in_ok-collected.ensures.specials, c.in_ok-collected.ensures.no_entry, c.in_ok-collected.ensures.facts));
     }
 
 pub loop-line-preserved : goal.loop-line-preserved
@@ -28,7 +28,7 @@ loop-line-preserved g c =
     let old = lines_known_bytes g.R.Read.remaining c.loop-line.line-iterator in
     let new = lines_known_bytes g.R.Read.remaining c.next.new.self in
     let read = IfOk-at_ok _ c.in-Ok.is c.in-Some.ensures.steps.1 in
-    let one = subst (λ (l : List ℕ). IsTaken c.loop-line.collected c.read_line.new.self l) c.as_str.ensures.value c.in_default.ensures.taken in
+    let one = subst (λ (l : List ℕ). IsTaken c.args.first.now c.loop-line.collected c.read_line.new.self l) c.as_str.ensures.value c.in_default.ensures.taken in
     record {
       nothing = λ x. c.in_default.ensures.grows.entries.no_empty x (c.loop-line.invariant.nothing x);
       unmapped = c.in_default.ensures.unmapped c.loop-line.invariant.unmapped;
@@ -37,7 +37,7 @@ loop-line-preserved g c =
         said ++ one.0 ∷ [],
         counts_more lines line c.saturating_add-number.result (search rules),
         more_read (g.R.Read.remaining c.args.reader) old new lines line read.0 read.1 c.loop-line.invariant.taken.3,
-        lines_stay c.loop-line.collected c.read_line.new.self lines said line one.0 c.in_default.ensures.grows c.loop-line.invariant.taken.4 one.1 one.2 one.3 one.4 one.5 one.6,
+        lines_stay c.args.first.now c.loop-line.collected c.read_line.new.self lines said line one.0 c.in_default.ensures.grows c.loop-line.invariant.taken.4 one.1 one.2 one.3 one.4 one.5 one.6,
       );
     }
 
@@ -46,7 +46,7 @@ returns-clause-taken g c =
     let known = g.R.Read.remaining c.args.reader in
     let lines : List (List ℕ) = c.loop-line.invariant.taken.0 in
     let said : List Line = c.loop-line.invariant.taken.1 in
-    takes_file c.loop-line.collected known lines said
+    takes_file c.args.first.now c.loop-line.collected known lines said
     (all_read known (lines_known_bytes g.R.Read.remaining c.loop-line.line-iterator) lines c.in-None.ensures.steps.1 c.loop-line.invariant.taken.3)
     c.loop-line.invariant.taken.4
 
@@ -70,6 +70,6 @@ returns-then-not-has_end-clause-refused g c =
     let lines : List (List ℕ) = c.loop-line.invariant.taken.0 in
     let said : List Line = c.loop-line.invariant.taken.1 in
     let some : 0 < c.loop-line.number = search rules in
-    cut_refused c.loop-line.collected known lines said
+    cut_refused c.args.first.now c.loop-line.collected known lines said
     (all_read known (lines_known_bytes g.R.Read.remaining c.loop-line.line-iterator) lines c.in-None.ensures.steps.1 c.loop-line.invariant.taken.3)
     (counts_lines lines c.loop-line.number c.loop-line.invariant.taken.2 some) c.loop-line.invariant.taken.4 (search rules)

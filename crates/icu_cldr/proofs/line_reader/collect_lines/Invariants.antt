@@ -13,5 +13,5 @@ invariant-loop-line g l = record {
   unmapped : HasUnmapped l.collected;
   taken : (lines : List (List ℕ)) × (said : List Line) × CountsSome l.number lines
       × LinesRead (g.R.Read.remaining l.fn.reader) lines (lines_known_bytes g.R.Read.remaining l.line-iterator)
-      × TakesLines l.collected lines said;
+      × TakesLines l.first l.collected lines said;
 }

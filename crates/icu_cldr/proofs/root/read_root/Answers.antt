@@ -1,5 +1,5 @@
 use Rattle.std.specs.Prelude.{IfSome}
-use Rattle.std.proofs.Common.{◌≡◌}
+use Rattle.std.proofs.Common.{◌≡◌, []}
 use Rattle.icu_cldr.specs.FileRoots.{SaysFile}
 use Rattle.icu_cldr.specs.Roots.{root_facts, root_tables}
 use Rattle.icu_cldr.specs.declared.root.CldrRoot.{CldrRoot}
@@ -18,8 +18,8 @@ returns-clause-says g c =
     (λ (r : CldrRoot). MakesSpecials collected.special (root_tables r).special)
     (λ (r : CldrRoot). LeavesUnmapped collected (root_tables r))
     (λ (r : CldrRoot). root_facts r ≡ collected.facts)
-    (λ (r : CldrRoot). IfSome known (λ bytes. SaysFile bytes (root_tables r) (root_facts r)))
-    (λ r keeps makes leaves facts. file_stands collected (root_tables r) (root_facts r) c.in_ok-collect_lines.ensures.nothing keeps makes
+    (λ (r : CldrRoot). IfSome known (λ bytes. SaysFile [] bytes (root_tables r) (root_facts r)))
+    (λ r keeps makes leaves facts. file_stands [] collected (root_tables r) (root_facts r) c.in_ok-collect_lines.ensures.nothing keeps makes
     c.in_ok-collect_lines.ensures.unmapped leaves facts c.in_ok-collect_lines.ensures.ended known c.in_ok-collect_lines.ensures.taken)
     c.finish.ensures.mappings c.finish.ensures.specials c.finish.ensures.unmapped c.finish.ensures.facts
 
