@@ -66,6 +66,7 @@ LEFT_OUT = {
     ("icu_locale", "LanguageTag::locale"): READERS,
     ("icu_locale", "LanguageTag::parse"): READERS,
     ("icu_locale", "LanguageTag::written"): READERS,
+    ("icu_locale", "in_case_of"): PROGRAM,
     ("icu_locale_rules", "CollationName::of_tag"): PROGRAM,
     ("icu_locale_rules", "import_tags"): PROGRAM,
     ("icu_locale_rules", "rules_of_collation"): PROGRAM,

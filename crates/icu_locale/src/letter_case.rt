@@ -28,9 +28,9 @@ fn in_case(capitals: usize, index: usize, c: char) -> char
     }
 }
 
-/// A subtag in the case of its kind.
+/// A subtag in the case of its kind: a script as `Latn`, a region as `DE`, and all others in lower case.
 #[tactic(auto, unfolding(crate::specs::Subtags::in_case_of))]
-pub(crate) fn in_case_of(alloc: Global, kind: SubtagKind, part: &str) -> Result<String, AllocError>
+pub fn in_case_of(alloc: Global, kind: SubtagKind, part: &str) -> Result<String, AllocError>
     ensures { IfOk result (λ text. string_bytes text ≡ in_case_of kind part.now) }
 {
     let capitals = capitals_of(kind);

@@ -6,13 +6,14 @@
 
 mod keywords;
 pub mod language_tag;
-mod letter_case;
+pub mod letter_case;
 pub mod subtag;
 mod subtag_forms;
 pub mod tag_error;
 pub mod tag_settings;
 
 pub use language_tag::LanguageTag;
+pub use letter_case::in_case_of;
 pub use subtag::{Subtag, SubtagKind};
 pub use tag_error::{TagError, TagErrorKind};
 pub use tag_settings::{TagSettings, UnknownType};

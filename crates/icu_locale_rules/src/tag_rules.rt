@@ -1,8 +1,8 @@
 //! Rules with what the keywords of a tag set, where no option of a collator does.
-ghost use Rattle.std.specs.Prelude.{◌≡◌, IfOk};
-ghost use Rattle.icu_locale_rules.specs.TagRules.{HasReordering, is_backwards, with_backward};
+ghost use Rattle.std.specs.Prelude.{◌≡◌, true, IfErr, IfOk, Some, map, string_bytes};
+ghost use Rattle.icu_locale_rules.specs.TagRules.{HasReordering, group_code, group_of_code, is_backwards, with_backward};
 
-use icu_locale::Subtag;
+use icu_locale::{Subtag, SubtagKind, in_case_of};
 use icu_rules::{PlacedStatement, RuleSetting, Rules, RulesError, Statement};
 use std::alloc::{AllocError, Global};
 
@@ -28,9 +28,12 @@ fn placed_setting(setting: RuleSetting) -> PlacedStatement
 }
 
 /// Rules with the backward secondary level that a tag asks for (`kb`): with `[backwards 2]` behind them, or without it.
+/// Out of memory it may run only where it adds that.
 pub fn with_backward(mut rules: Rules, backward: Option<bool>) -> Result<Rules, RulesError>
-    ensures { IfOk result (λ r. r.statements.items
+    ensures with { IfOk result (λ r. r.statements.items
         ≡ with_backward backward rules.statements.items) }
+    ensures asked { IfErr result (λ _. backward ≡ Some true) }
+    ensures err { IfErr result (λ e. e ≡ RulesError.NoMemory) }
 {
     match backward {
         Some(true) => {
@@ -49,22 +52,22 @@ pub fn with_backward(mut rules: Rules, backward: Option<bool>) -> Result<Rules, 
     }
 }
 
-/// The code of a group, as rules write it: that of a script begins with a capital letter.
-fn group_of(alloc: Global, code: &str) -> Result<String, AllocError> {
-    let mut group = String::new(alloc);
-    let is_script = code.len() == 4;
-    for c in code.chars() {
-        if is_script && group.is_empty() {
-            group.push(c.to_ascii_uppercase())?;
-        } else {
-            group.push(c)?;
-        }
+/// The code of a group, as rules write it: that of a script, of four letters, begins with a capital.
+fn group_of(alloc: Global, code: &str) -> Result<String, AllocError>
+    ensures { IfOk result (λ group. string_bytes group ≡ group_code code.now) }
+{
+    if code.len() == 4 {
+        in_case_of(alloc, SubtagKind::Script, code)
+    } else {
+        String::from_str(alloc, code)
     }
-    Ok(group)
 }
 
 /// The codes of groups, as rules write them.
-fn groups_of(alloc: Global, codes: &[Subtag]) -> Result<Vec<String>, AllocError> {
+fn groups_of(alloc: Global, codes: &[Subtag]) -> Result<Vec<String>, AllocError>
+    ensures { IfOk result (λ groups.
+        map string_bytes groups.items ≡ map group_of_code codes.now) }
+{
     let mut groups = Vec::new(alloc);
     for code in codes {
         let group = group_of(alloc, code.text.as_str())?;
@@ -73,13 +76,15 @@ fn groups_of(alloc: Global, codes: &[Subtag]) -> Result<Vec<String>, AllocError>
     Ok(groups)
 }
 
-/// Rules with the reordering that a tag asks for (`kr`) behind them.
+/// Rules with the reordering that a tag asks for (`kr`) behind them: of these groups, in this order.
 pub fn with_reordering(
     alloc: Global,
     mut rules: Rules,
     codes: &[Subtag],
 ) -> Result<Rules, RulesError>
-    ensures { IfOk result (λ r. HasReordering rules.statements.items r.statements.items) }
+    ensures with { IfOk result (λ r.
+        HasReordering codes.now rules.statements.items r.statements.items) }
+    ensures err { IfErr result (λ e. e ≡ RulesError.NoMemory) }
 {
     let groups = groups_of(alloc, codes)?;
     rules
