@@ -108,6 +108,8 @@ LEFT_OUT = {
     ("line_commands", "write_line_key"): PROGRAM,
     ("line_fields", "push_directed_key"): PROGRAM,
     ("line_fields", "push_number_key"): PROGRAM,
+    ("csv_records", "csv_fields"): NOTHING,
+    ("csv_records", "csv_records"): NOTHING,
     ("field_sorts", "text_sorted_by_fields"): PROGRAM,
     ("order_reasons", "explained_text"): PROGRAM,
     ("order_reasons", "reason_text"): PROGRAM,
