@@ -11,8 +11,8 @@ import crates
 
 DRIVER = "test_driver"
 # What says that a call may fail so, in the type that it returns.
-FAILURES = {"AllocError", "DataError", "LabelsError", "LdmlError", "LineError", "MappingEntriesError", "NumberingError", "ReadError",
-            "ReorderingError", "RuleTablesError", "RulesError", "SortKeyError", "TagError", "TailoredEntriesError", "TailoringError", "XmlError"}
+FAILURES = {"AllocError", "DataError", "FormError", "LabelsError", "LdmlError", "LineError", "MappingEntriesError", "NumberingError", "ReadError",
+            "ReorderingError", "RuleTablesError", "RulesError", "SortKeyError", "TableFileError", "TagError", "TailoredEntriesError", "TailoringError", "XmlError"}
 # Errors that say so within another one, and such as no public call returns.
 WITHIN = {"DataErrorKind", "RuleStepError", "UnplacedError"}
 # A public error, of which one kind is that an allocation failed.
@@ -26,7 +26,7 @@ METHOD = re.compile(r"(?:<[^(]*>)?\(\s*(?:&(?:'\w+ )?)?(?:mut )?self\b")
 VALUES = {"CollatorBorrowed": "as_borrowed"}
 # Programs, and crates of tests: what the driver asks about are libraries.
 OTHERS = {"collate", "collate_cldr", "collate_commands", "collate_index", "sort_names", "test_checked_root", "test_contracts",
-          "test_lists", "test_readers", "test_rule_steps", "test_tailorings", "test_text_search", "test_types", DRIVER}
+          "test_lists", "test_readers", "test_rule_steps", "test_table_files", "test_tailorings", "test_text_search", "test_types", DRIVER}
 KEY, CHECK, FILE, READ, LINE, INDEX = "`key`", "`check`", "`root`", "`next` and `whole`", "`line`", "`names`"
 # Calls to which no question comes: each request of this program, or of this crate, is refused or tested by itself; some are run by
 # the tests of their own crates alone, without a refusal.
@@ -35,6 +35,7 @@ READERS, RULES = "`test_readers`, where no allocation is refused", "`test_rule_s
 ROOTS = "`test_checked_root`, where no allocation is refused"
 TAILORINGS = "`test_tailorings`, where no allocation is refused"
 LISTS = "`test_lists`, where no allocation is refused"
+FILES = "`test_table_files`, where no allocation is refused"
 INDEXES = "the program `collate-index`, whose writes are stopped in turn"
 NAMES = "the program `sort_names`, each of whose requests is refused"
 SEARCHES = "`test_text_search`, where no allocation is refused"
@@ -122,6 +123,19 @@ LEFT_OUT = {
     ("icu_symbolic_mappings", "Mappings::untouched"): TAILORINGS,
     ("icu_symbolic_mappings", "cased_elements"): RULES,
     ("icu_symbolic_mappings", "mappings_behind"): TAILORINGS,
+    ("icu_table_file", "TableFile::read"): FILES,
+    ("icu_table_file", "write"): FILES,
+    ("icu_table_parts", "chars_as_bytes"): FILES,
+    ("icu_table_parts", "chars_from_bytes"): FILES,
+    ("icu_table_parts", "parts_of"): FILES,
+    ("icu_table_parts", "push_part"): FILES,
+    ("icu_table_parts", "u16s_as_bytes"): FILES,
+    ("icu_table_parts", "u16s_from_bytes"): FILES,
+    ("icu_table_parts", "u32s_as_bytes"): FILES,
+    ("icu_table_parts", "u32s_from_bytes"): FILES,
+    ("icu_table_parts", "u64s_as_bytes"): FILES,
+    ("icu_table_parts", "u64s_from_bytes"): FILES,
+    ("icu_table_parts", "with_frame"): FILES,
     ("icu_tailored_entries", "tailored_data"): TAILORINGS,
     ("icu_tailored_entries", "tailored_diacritics"): TAILORINGS,
     ("icu_tailored_entries", "tailored_jamo"): PROGRAM,

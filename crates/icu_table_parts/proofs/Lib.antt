@@ -1,0 +1,4 @@
+pub mod SpeltNumberLemmas
+pub mod SpeltCharLemmas
+pub mod SpeltPartLemmas
+pub mod FrameLemmas
