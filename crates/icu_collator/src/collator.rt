@@ -472,7 +472,7 @@ impl<'a> CollatorBorrowed<'a> {
         let handling = self.settings.alternate_handling();
         HandledKeyText::new(
             self.tables.allocator(),
-            ElementCursor::new(tables, text),
+            ElementCursor::lone(tables, text),
             handling,
             self.last_variable(),
         )
@@ -490,6 +490,6 @@ impl<'a> CollatorBorrowed<'a> {
         ensures { plain_for_key T.text result
             ≡ handled_by (collation_borrowed self.now) (nfd (T.text text)) }
     {
-        PlainKeyText::new(self.tables.allocator(), ElementCursor::new(tables, text))
+        PlainKeyText::new(self.tables.allocator(), ElementCursor::lone(tables, text))
     }
 }

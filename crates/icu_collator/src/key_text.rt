@@ -4,7 +4,7 @@ ghost use Rattle.std.specs.Prelude.{◌≡◌, ◌++◌, [], None, false, IfOk, 
 ghost use Rattle.icu_collator.specs.inner.KeyElements.{steady_elements_left};
 ghost use Rattle.icu_weighting.specs.Handled.{handled, stayed};
 
-use icu_cursor::{ElementCursor, FirstChars, LongPiece, SteadyCursor};
+use icu_cursor::{CharElements, ElementCursor, FirstChars, LongPiece, SteadyCursor};
 use icu_decomposed_text::CountedText;
 use icu_entries::CollationElement;
 use icu_options::AlternateHandling;
@@ -14,7 +14,7 @@ use std::alloc::{AllocError, Global};
 /// The elements of an encoded text by a cursor, and from the first long piece on by one that never stops. That one is
 /// large, so it stands apart.
 #[derive(Drop)]
-pub(crate) struct KeyElements<'c, 'd, T: Copy>
+struct PieceElements<'c, 'd, T: Copy>
 where
     FirstChars<T>: CountedText,
 {
@@ -37,16 +37,16 @@ fn next_of_steady<T: CountedText>(
     }
 }
 
-impl<'c, 'd, T: CountedText> KeyElements<'c, 'd, T> {
+impl<'c, 'd, T: CountedText> PieceElements<'c, 'd, T> {
     ghost use Rattle.icu_cursor.specs.Cursors.{cursor_gives};
-    ghost use Rattle.icu_collator.specs.inner.KeyElements.{key_elements_left};
+    ghost use Rattle.icu_collator.specs.inner.KeyElements.{piece_elements_left};
 
     /// All elements that a cursor still gives.
     #[inline(always)]
-    pub(crate) fn new(alloc: Global, cursor: ElementCursor<'c, 'd, T>) -> KeyElements<'c, 'd, T>
-        ensures { key_elements_left T.text result ≡ cursor_gives T.text cursor.entry }
+    fn new(alloc: Global, cursor: ElementCursor<'c, 'd, T>) -> PieceElements<'c, 'd, T>
+        ensures { piece_elements_left T.text result ≡ cursor_gives T.text cursor.entry }
     {
-        KeyElements {
+        PieceElements {
             alloc,
             cursor: Some(cursor),
             steady: None,
@@ -56,8 +56,8 @@ impl<'c, 'd, T: CountedText> KeyElements<'c, 'd, T> {
     /// The next element, where the cursor gives it at once. `None` says nothing.
     #[inline(always)]
     fn next_at_once(&mut self) -> Option<CollationElement>
-        ensures { key_elements_left T.text self.old
-            ≡ option_to_list result ++ key_elements_left T.text self.new }
+        ensures { piece_elements_left T.text self.old
+            ≡ option_to_list result ++ piece_elements_left T.text self.new }
     {
         match &mut self.cursor {
             Some(cursor) => cursor.next_at_once(),
@@ -69,9 +69,9 @@ impl<'c, 'd, T: CountedText> KeyElements<'c, 'd, T> {
     /// allocation does.
     #[inline(never)]
     fn next_read(&mut self) -> Result<Option<CollationElement>, AllocError>
-        ensures next { IfOk result (λ next. key_elements_left T.text self.old
-            ≡ option_to_list next ++ key_elements_left T.text self.new) }
-        ensures end { IfOk result (λ next. next ≡ None → key_elements_left T.text self.old ≡ []) }
+        ensures next { IfOk result (λ next. piece_elements_left T.text self.old
+            ≡ option_to_list next ++ piece_elements_left T.text self.new) }
+        ensures end { IfOk result (λ next. next ≡ None → piece_elements_left T.text self.old ≡ []) }
     {
         match &mut self.cursor {
             Some(cursor) => match cursor.next_read() {
@@ -85,9 +85,9 @@ impl<'c, 'd, T: CountedText> KeyElements<'c, 'd, T> {
     /// The next element at a long piece. Out of line: its locals are large.
     #[inline(never)]
     fn go_on(&mut self) -> Result<Option<CollationElement>, AllocError>
-        ensures next { IfOk result (λ next. key_elements_left T.text self.old
-            ≡ option_to_list next ++ key_elements_left T.text self.new) }
-        ensures end { IfOk result (λ next. next ≡ None → key_elements_left T.text self.old ≡ []) }
+        ensures next { IfOk result (λ next. piece_elements_left T.text self.old
+            ≡ option_to_list next ++ piece_elements_left T.text self.new) }
+        ensures end { IfOk result (λ next. next ≡ None → piece_elements_left T.text self.old ≡ []) }
     {
         let Some(cursor) = self.cursor.take() else {
             return Ok(next_of_steady(&mut self.steady));
@@ -95,6 +95,79 @@ impl<'c, 'd, T: CountedText> KeyElements<'c, 'd, T> {
         let mut steady = SteadyCursor::new(cursor);
         let next = steady.next();
         self.steady = Some(Box::new(self.alloc, steady)?);
+        Ok(next)
+    }
+}
+
+/// The elements of an encoded text for its key: by a lone cursor, which is small, and from the first piece on by a reader
+/// of pieces, which stands apart.
+#[derive(Drop)]
+pub(crate) struct KeyElements<'c, 'd, T: Copy>
+where
+    FirstChars<T>: CountedText,
+{
+    alloc: Global,
+    lone: ElementCursor<'c, 'd, T, CharElements>,
+    pieces: Option<Box<PieceElements<'c, 'd, T>>>,
+}
+
+impl<'c, 'd, T: CountedText> KeyElements<'c, 'd, T> {
+    ghost use Rattle.icu_cursor.specs.Cursors.{lone_gives};
+    ghost use Rattle.icu_collator.specs.inner.KeyElements.{key_elements_left};
+
+    /// All elements that a lone cursor still gives.
+    #[inline(always)]
+    pub(crate) fn new(
+        alloc: Global,
+        lone: ElementCursor<'c, 'd, T, CharElements>,
+    ) -> KeyElements<'c, 'd, T>
+        ensures { key_elements_left T.text result ≡ lone_gives T.text lone.entry }
+    {
+        KeyElements {
+            alloc,
+            lone,
+            pieces: None,
+        }
+    }
+
+    /// The next element, where a cursor gives it at once. `None` says nothing.
+    #[inline(always)]
+    fn next_at_once(&mut self) -> Option<CollationElement>
+        ensures { key_elements_left T.text self.old
+            ≡ option_to_list result ++ key_elements_left T.text self.new }
+    {
+        match &mut self.pieces {
+            None => self.lone.next_at_once(),
+            Some(pieces) => pieces.next_at_once(),
+        }
+    }
+
+    /// The next element, or `None` after the last one, where no cursor gives it at once. Fails only where an allocation
+    /// does.
+    #[inline(never)]
+    fn next_read(&mut self) -> Result<Option<CollationElement>, AllocError>
+        ensures next { IfOk result (λ next. key_elements_left T.text self.old
+            ≡ option_to_list next ++ key_elements_left T.text self.new) }
+        ensures end { IfOk result (λ next. next ≡ None → key_elements_left T.text self.old ≡ []) }
+    {
+        match &mut self.pieces {
+            Some(pieces) => pieces.next_read(),
+            None if self.lone.is_at_end() => Ok(None),
+            None => self.begin_pieces(),
+        }
+    }
+
+    /// The next element, or `None` after the last one, at the first piece. Out of line: its locals are large.
+    #[inline(never)]
+    fn begin_pieces(&mut self) -> Result<Option<CollationElement>, AllocError>
+        requires { self.old.pieces ≡ None }
+        ensures next { IfOk result (λ next. key_elements_left T.text self.old
+            ≡ option_to_list next ++ key_elements_left T.text self.new) }
+        ensures end { IfOk result (λ next. next ≡ None → key_elements_left T.text self.old ≡ []) }
+    {
+        let mut pieces = PieceElements::new(self.alloc, self.lone.with_pieces());
+        let next = pieces.next_read()?;
+        self.pieces = Some(Box::new(self.alloc, pieces)?);
         Ok(next)
     }
 
@@ -123,20 +196,20 @@ where
 }
 
 impl<'c, 'd, T: CountedText> HandledKeyText<'c, 'd, T> {
-    ghost use Rattle.icu_cursor.specs.Cursors.{cursor_gives};
+    ghost use Rattle.icu_cursor.specs.Cursors.{lone_gives};
     ghost use Rattle.icu_collator.specs.inner.KeyElements.{handled_for_key};
 
-    /// All elements that a cursor still gives. Variable are those with a primary weight above the merge separator's
-    /// and up to `last_variable`: none, where that is 0.
+    /// All elements that a lone cursor still gives. Variable are those with a primary weight above the merge
+    /// separator's and up to `last_variable`: none, where that is 0.
     #[inline(always)]
     pub(crate) fn new(
         alloc: Global,
-        cursor: ElementCursor<'c, 'd, T>,
+        cursor: ElementCursor<'c, 'd, T, CharElements>,
         handling: AlternateHandling,
         last_variable: u32,
     ) -> HandledKeyText<'c, 'd, T>
         ensures { handled_for_key T.text result
-            ≡ handled handling last_variable false (cursor_gives T.text cursor.entry) }
+            ≡ handled handling last_variable false (lone_gives T.text cursor.entry) }
     {
         HandledKeyText {
             elements: KeyElements::new(alloc, cursor),
@@ -172,13 +245,16 @@ where
 }
 
 impl<'c, 'd, T: CountedText> PlainKeyText<'c, 'd, T> {
-    ghost use Rattle.icu_cursor.specs.Cursors.{cursor_gives};
+    ghost use Rattle.icu_cursor.specs.Cursors.{lone_gives};
     ghost use Rattle.icu_collator.specs.inner.KeyElements.{plain_for_key};
 
-    /// All elements that a cursor still gives.
+    /// All elements that a lone cursor still gives.
     #[inline(always)]
-    pub(crate) fn new(alloc: Global, cursor: ElementCursor<'c, 'd, T>) -> PlainKeyText<'c, 'd, T>
-        ensures { plain_for_key T.text result ≡ map stayed (cursor_gives T.text cursor.entry) }
+    pub(crate) fn new(
+        alloc: Global,
+        cursor: ElementCursor<'c, 'd, T, CharElements>,
+    ) -> PlainKeyText<'c, 'd, T>
+        ensures { plain_for_key T.text result ≡ map stayed (lone_gives T.text cursor.entry) }
     {
         PlainKeyText {
             elements: KeyElements::new(alloc, cursor),

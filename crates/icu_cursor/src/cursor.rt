@@ -523,8 +523,8 @@ impl<'c, 'd, T: EncodedText> ElementCursor<'c, 'd, T, CharElements> {
     }
 
     /// Goes on where this one stands, and reads pieces.
-    pub fn with_pieces(self) -> ElementCursor<'c, 'd, T>
-        ensures { cursor_gives T.text result ≡ lone_gives T.text self.entry }
+    pub fn with_pieces(&self) -> ElementCursor<'c, 'd, T>
+        ensures { cursor_gives T.text result ≡ lone_gives T.text self.now }
     {
         ElementCursor {
             tables: self.tables,

@@ -2,9 +2,10 @@ pub mod ShortestLemmas
 pub mod PrimaryCountLemmas
 pub mod LongerPartLemmas
 pub mod PartWalks
-pub mod SureLemmas
 pub mod OverlappingLemmas
 pub mod AllowedLemmas
 pub mod FirstWeightLemmas
 pub mod TextCutLemmas
 pub mod ApartLeadLemmas
+pub mod SilentElementLemmas
+pub mod SilentStartLemmas

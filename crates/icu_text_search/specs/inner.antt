@@ -4,3 +4,5 @@ pub mod PartOutcomes
 pub mod OnePrimaries
 pub mod FirstWeights
 pub mod SearchCuts
+pub mod SilentStarts
+pub mod SilentTexts

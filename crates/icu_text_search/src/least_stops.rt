@@ -1,6 +1,6 @@
 //! Where the least matches of a text end: starts are passed over where little tells that none begins there.
 
-ghost use Rattle.std.specs.Prelude.{◌≡◌, ◌≤◌, IfOk};
+ghost use Rattle.std.specs.Prelude.{◌≡◌, ◌+◌, ◌<◌, ◌≤◌, ℕ, true, IfOk, IsTrue};
 ghost use Rattle.icu_search.specs.LeastMatches.{TellsLeastStop};
 
 use crate::searched_text::SearchedText;
@@ -27,6 +27,26 @@ impl<'s, 'c> SearchedText<'s, 'c> {
         }
     }
 
+    /// Whether each match behind an offset that begins there holds one that begins at the next, since the character
+    /// there gives nothing that counts. False says nothing.
+    fn begins_silently(&self, start: usize) -> bool
+        ensures { IsTrue result → (stop : ℕ) → start < stop → matches_in self.now start stop ≡ true
+            → matches_in self.now (start + 1) stop ≡ true }
+    {
+        let text = self.text.characters();
+        if start >= text.len() {
+            return false;
+        }
+        let (first, rest) = text[start..].split_at(1);
+        if !self.cuts_at(start + 1) {
+            return false;
+        }
+        if !self.is_allowed(start + 1) {
+            return false;
+        }
+        self.searcher.passes_silent(first, rest)
+    }
+
     /// Of the matches that begin at an offset, and end at `last` or before, where the one ends that ends first. Their
     /// first weights may tell that there is none.
     pub(crate) fn least_stop_to(
@@ -40,6 +60,9 @@ impl<'s, 'c> SearchedText<'s, 'c> {
     {
         if self.searcher.equals_empty() {
             return self.shortest_stop_to(start, last);
+        }
+        if self.begins_silently(start) {
+            return Ok(None);
         }
         if self.searcher.begins_otherwise(self.piece_from(start, last)) {
             return Ok(None);

@@ -20,6 +20,7 @@ mod pattern_weights;
 mod search_calls;
 mod searched_text;
 mod searcher;
+mod silent_starts;
 mod text_cuts;
 
 pub use boundary::Boundary;

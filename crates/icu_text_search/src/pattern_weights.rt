@@ -13,11 +13,8 @@ ghost use Rattle.icu_text_search.specs.inner.PrimaryCounts.{primaries_from};
 
 use crate::first_weights::{KnownVariables, known_primaries};
 use icu_collator::CollatorBorrowed;
-use icu_collator::options::AlternateHandling;
 use icu_elements::{CollationElement, TextReading, all_elements};
-use icu_entries::element::MERGE_SEPARATOR_PRIMARY;
 use std::alloc::{AllocError, Global};
-use std::cmp::Ordering;
 
 /// How many of these elements have a primary weight from this one on.
 pub(crate) fn primaries_from(elements: &[CollationElement], least: u32) -> usize
@@ -77,43 +74,11 @@ pub(crate) fn only_primary(
     }
 }
 
-/// The primary weight of a text with one element that comes after the merge separator: the element isn't variable, and
-/// none with a greater weight is.
-pub(crate) fn counted_primary(
-    collator: &CollatorBorrowed<'_>,
-    text: &str,
-    separator: &str,
-) -> Result<Option<u32>, AllocError>
-    ensures { IfOk result (λ o. IfSome o
-        (λ p. last_variable_by (collation_borrowed collator.now) < p)) }
+/// The primary weight from which on none is that of a variable element, if there is one.
+pub(crate) fn first_sure(collator: &CollatorBorrowed<'_>) -> Option<u32>
+    ensures { IfSome result (λ p. last_variable_by (collation_borrowed collator.now) < p) }
 {
-    let Some(least) = only_primary(collator, separator)? else {
-        return Ok(None);
-    };
-    let Some(primary) = only_primary(collator, text)? else {
-        return Ok(None);
-    };
-    if least != MERGE_SEPARATOR_PRIMARY || primary <= least {
-        return Ok(None);
-    }
-    match collator.order(text, separator) {
-        Ordering::Greater => Ok(Some(primary)),
-        Ordering::Less | Ordering::Equal => Ok(None),
-    }
-}
-
-/// A primary weight from which on none is that of a variable element, if one is known: where variable elements are
-/// shifted or blanked, that of a digit.
-pub(crate) fn first_sure(collator: &CollatorBorrowed<'_>) -> Result<Option<u32>, AllocError>
-    ensures { IfOk result (λ o. IfSome o
-        (λ p. last_variable_by (collation_borrowed collator.now) < p)) }
-{
-    match collator.resolved_options().alternate_handling {
-        AlternateHandling::NonIgnorable => Ok(Some(1)),
-        AlternateHandling::Shifted | AlternateHandling::Blanked => {
-            counted_primary(collator, "0", "\u{FFFE}")
-        }
-    }
+    collator.last_variable().checked_add(1)
 }
 
 /// The primary weights with which those of a pattern begin, as far as it is known which of them count.

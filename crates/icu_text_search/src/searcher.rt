@@ -8,10 +8,12 @@ ghost use Rattle.icu_collator.specs.Collators.{collation_borrowed, collation_kep
 ghost use Rattle.icu_elements.specs.Reading.{reading_of};
 ghost use Rattle.icu_elements.specs.TextElements.{elements_of};
 ghost use Rattle.icu_text_order.specs.TextOrder.{reading_by, lists_by, text_order};
-ghost use Rattle.icu_text_order.specs.Forms.{last_variable_by};
+ghost use Rattle.icu_text_order.specs.Forms.{form_by, last_variable_by};
 ghost use Rattle.icu_search.specs.Searches.{found};
 ghost use Rattle.unicode_normalization.specs.Forms.{nfd};
 ghost use Rattle.icu_search.specs.PieceLaws.{BeginsPieces};
+ghost use Rattle.icu_text_search.specs.inner.SilentStarts.{EndsAtTertiaries};
+ghost use Rattle.icu_text_search.specs.inner.SilentTexts.{StartsSilently};
 ghost use Rattle.icu_text_search.specs.inner.FirstWeights.{AreApart, BeginsWith};
 ghost use Rattle.icu_text_search.specs.inner.PartOutcomes.{equals_pattern};
 
@@ -21,6 +23,7 @@ use crate::pattern_weights::{
     fewest_primaries, first_primaries, first_sure, most_primaries, primaries_from,
     reading_of_collator,
 };
+use crate::silent_starts::{ends_at_tertiaries, starts_silently};
 use icu_collator::{Collator, CollatorBorrowed};
 use icu_elements::{CollationElement, TextReading};
 use icu_encodings::{Latin1Text, Utf8Text, Utf16Text};
@@ -137,16 +140,20 @@ impl<'c> Searcher<'c> {
         ensures { IfOk result (λ s. search_of s
             ≡ search_for (collation_kept collator.entry.now) (chars (string_bytes pattern))) }
     {
-        let most = most_primaries(&collator.as_borrowed(), pattern.as_str())?;
-        let sure = first_sure(&collator.as_borrowed())?;
-        let fewest = fewest_primaries(&collator.as_borrowed(), pattern.as_str(), sure)?;
-        let equals_empty = is_empty_text(&collator.as_borrowed(), pattern.as_str());
-        let known = KnownVariables { sure, variable: 0 };
-        let first = first_primaries(alloc, &collator.as_borrowed(), pattern.as_str(), known)?;
-        let apart = apart_leads(alloc, &collator.as_borrowed(), known, first.as_slice())?;
+        let borrowed = collator.as_borrowed();
+        let most = most_primaries(&borrowed, pattern.as_str())?;
+        let sure = first_sure(&borrowed);
+        let fewest = fewest_primaries(&borrowed, pattern.as_str(), sure)?;
+        let equals_empty = is_empty_text(&borrowed, pattern.as_str());
+        let known = KnownVariables {
+            sure,
+            variable: borrowed.last_variable(),
+        };
+        let first = first_primaries(alloc, &borrowed, pattern.as_str(), known)?;
+        let apart = apart_leads(alloc, &borrowed, known, first.as_slice())?;
         Ok(Searcher {
             alloc,
-            collator: collator.as_borrowed(),
+            collator: borrowed,
             pattern,
             sure,
             fewest,
@@ -200,7 +207,7 @@ impl<'c> Searcher<'c> {
     {
         let known = KnownVariables {
             sure: self.sure,
-            variable: 0,
+            variable: self.collator.last_variable(),
         };
         rules_out(
             &self.collator,
@@ -220,6 +227,15 @@ impl<'c> Searcher<'c> {
             .places()
             .has_boundary_before(c)
             && begins_letter(c)
+    }
+
+    /// Whether a match that begins with a character holds one that begins at the next, which the second text begins
+    /// with, where it may be cut there. False says nothing.
+    pub(crate) fn passes_silent(&self, first: &[char], rest: &[char]) -> bool
+        ensures { IsTrue result → let c = (search_of self.now).collation in
+            EndsAtTertiaries (form_by c) × StartsSilently c first.now rest.now }
+    {
+        ends_at_tertiaries(&self.collator) && starts_silently(&self.collator, first, rest)
     }
 
     /// Whether a part of a text with these elements has fewer primary weights than the pattern. It may have fewer where

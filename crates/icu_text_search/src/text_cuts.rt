@@ -13,7 +13,7 @@ impl<'s, 'c> SearchedText<'s, 'c> {
     ghost use Rattle.icu_text_search.specs.SearchedTexts.{char_len_in, searched_in, text_searched};
 
     /// Whether the text may be cut at an offset, before a character of it. False says nothing.
-    fn cuts_at(&self, offset: usize) -> bool
+    pub(crate) fn cuts_at(&self, offset: usize) -> bool
         ensures { IsTrue result → CutsAt (reading_by (searched_in self.now).collation)
             (text_searched self.now) offset }
     {

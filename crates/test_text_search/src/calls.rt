@@ -57,6 +57,8 @@ fn calls(rt: HostRuntime) -> Result<(), Fail> {
     let searcher = Searcher::new(rt.alloc(), &one, "b")?;
     let first = searcher.find("\u{E1}b b")?.expect(&rt, "it is found");
     assert_eq!(rt; (first.start(), first.end()), (2, 3));
+    let range = first.range();
+    assert_eq!(rt; (range.start, range.end), (2, 3));
     assert!(rt; searcher.find("aaa")?.is_none());
     assert!(rt; searcher.is_match("ab")?);
     assert!(rt; !searcher.is_match("aaa")?);

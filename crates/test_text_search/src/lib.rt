@@ -4,6 +4,10 @@
 #[cfg(test)]
 mod calls;
 #[cfg(test)]
+mod long_searches;
+#[cfg(test)]
+mod random_searches;
+#[cfg(test)]
 mod search_rows;
 #[cfg(test)]
 mod searching;

@@ -14,6 +14,6 @@ pub returns : goal.returns
 returns g c =
     let collation = collation_borrowed c.args.self.now in
     let text = nfd (g.T.EncodedText.text c.args.text) in
-    c.new-2.ensures
-    ∙ ap (λ (es : List Element). map stayed es) (c.new.ensures ∙ ap (λ (r : Reading). elements_of r text) c.requires.reading)
+    c.new.ensures
+    ∙ ap (λ (es : List Element). map stayed es) (c.lone.ensures ∙ ap (λ (r : Reading). elements_of r text) c.requires.reading)
     ∙ sym (all_stay collation.settings.alternate_handling (last_variable_by collation) (elements_of (reading_by collation) text) c.requires.plain)

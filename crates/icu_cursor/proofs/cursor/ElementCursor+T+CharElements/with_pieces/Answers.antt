@@ -9,5 +9,5 @@ use Rattle.icu_cursor.proofs.cursor.ElementCursor+T+CharElements.with_pieces.Goa
 pub returns : goal.returns
 unfolding gives_with
 returns g c =
-    let old = c.args.self in
+    let old = c.args.self.now in
     ap (λ (es : List Element). es ++ elements_after (cursor_reading old.tables.now) (context_read old.recent) (nfd (g.T.EncodedText.text old.text))) c.of_char.ensures

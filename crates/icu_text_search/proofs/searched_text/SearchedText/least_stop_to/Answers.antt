@@ -1,5 +1,6 @@
 use Rattle.std.proofs.Common.{sym, ◌∙◌}
 use Rattle.icu_text_search.specs.SearchedTexts.{searched_in, text_searched}
+use Rattle.icu_text_search.proofs.SilentStartLemmas.{told_silent}
 use Rattle.icu_text_search.proofs.TextCutLemmas.{told_ruled_out}
 use Rattle.icu_text_search.proofs.searched_text.SearchedText.least_stop_to.Goals as goal
 
@@ -9,3 +10,8 @@ returns-then-begins_otherwise c =
     told_ruled_out (searched_in t) (text_searched t) c.args.start c.args.last c.piece_from.result.now c.piece_from.ensures
     (c.begins_otherwise.ensures c.if-begins_otherwise.true)
     c.requires.ordered (sym c.equals_empty.ensures ∙ c.if-equals_empty.false)
+
+pub returns-then-begins_silently : goal.returns-then-begins_silently
+returns-then-begins_silently c =
+    let t = c.args.self.now in
+    told_silent (searched_in t) (text_searched t) c.args.start c.args.last (sym c.equals_empty.ensures ∙ c.if-equals_empty.false) (c.begins_silently.ensures c.if-begins_silently.true)
