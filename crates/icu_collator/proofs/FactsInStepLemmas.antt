@@ -1,12 +1,14 @@
 -- Two texts of which characters are read, gone through in step, where no element is variable.
-use Rattle.std.proofs.Common.{◌≡◌, ℕ, List, [], ◌∷◌, map, Option, Some, None, IfSome, Ordering, Less, Equal, Greater, refl, sym, ap, ap₂, subst, ◌∙◌}
+use Rattle.std.proofs.Common.{◌≡◌, ℕ, List, [], ◌∷◌, map, Option, Some, None, IfSome, Ordering, Less, Equal, Greater, true, false, refl, sym, ap, ap₂, subst, ◌∙◌}
 use Rattle.std.specs.Ordering.{ordering_then}
+use Rattle.std.specs.Option.{is_some}
 use Rattle.unicode_normalization.specs.Forms.{nfd}
 use Rattle.icu_entries.specs.Elements.{Element}
 use Rattle.icu_levels.specs.ListOrder.{list_order}
 use Rattle.icu_levels.specs.Keys.{characters_order}
 use Rattle.icu_levels.specs.declared.forms.TertiaryForm.{TertiaryForm}
 use Rattle.icu_levels.proofs.Order.{same_front}
+use Rattle.icu_levels.proofs.Orderings.{then_equal}
 use Rattle.icu_elements.specs.TextElements.{elements_of, elements_after}
 use Rattle.icu_cursor.specs.declared.facts_cursor.FactsCursor.{FactsCursor}
 use Rattle.icu_cursor.specs.FactsCursors.{facts_give, GivesNextOrEnds}
@@ -19,10 +21,10 @@ use Rattle.icu_weighting.specs.declared.handled_element.Handled.TheVariants.{Sta
 use Rattle.icu_text_order.specs.TextOrder.{handled_by, lists_by, reading_by, text_order}
 use Rattle.icu_collator.specs.declared.forward_levels.Level.{Level}
 use Rattle.icu_collator.specs.inner.ElementOrders.{ReadsElementsAlone, elements_order, leading_order}
-use Rattle.icu_collator.specs.inner.FactsInStep.{StepsOn, WeighsOn, plain_left, weights_from}
-use Rattle.icu_collator.specs.inner.InStep.{from_first, order_on, three_order, three_levels, ThreeLevels, IsThreeLevel, StepsBy, StepBoth, DecidesOn}
+use Rattle.icu_collator.specs.inner.FactsInStep.{EndAlike, OrderFrom, StepsOn, WeighsOn, plain_left, weights_from}
+use Rattle.icu_collator.specs.inner.InStep.{from_first, order_from, order_on, three_order, three_levels, ThreeLevels, IsThreeLevel, StepBoth, DecidesOn}
 use Rattle.icu_collator.specs.inner.LevelWeights.{weight_in, level_weights}
-use Rattle.icu_collator.proofs.InStepLemmas.{tied_order, step_both, same_three, second_decides, three_read, weights_of_first, no_weight_of_first}
+use Rattle.icu_collator.proofs.InStepLemmas.{tied_order, same_order, step_both, first_decides, second_decides, three_read, weights_of_first, no_weight_of_first}
 use Rattle.icu_collator.proofs.OrdersInTurn.{all_stay, order_in_two}
 
 -- ---- one element
@@ -34,63 +36,145 @@ steps_on text old new e h = λ before. let next = h before in (next.0, ap (map s
 pub steps_end : {T : Type 0} (text : T → List ℕ) (old new : FactsCursor T) → GivesNextOrEnds text old None new → StepsOn text old None new
 steps_end text old new h = λ before. (before, ap (map stayed) (h before))
 
--- the same element on both sides
-pub same_steps : (levels : ThreeLevels) (one other : Handled) → one ≡ other → StepsBy levels one other Equal
-same_steps levels one other e = record {
-  on_first = λ hs ks. tied_order levels.first (handled_as one) (handled_as other) hs ks (ap (λ h. weight_in levels.first (handled_as h)) e);
-  on_second = λ hs ks. tied_order levels.second (handled_as one) (handled_as other) hs ks (ap (λ h. weight_in levels.second (handled_as h)) e);
-  on_third = λ hs ks. tied_order levels.third (handled_as one) (handled_as other) hs ks (ap (λ h. weight_in levels.third (handled_as h)) e);
-}
-
 -- ---- two texts
 
+some_given : (h : Option Handled) → is_some h ≡ true → (x : Handled) × (h ≡ Some x)
+some_given None e = cc
+some_given (Some x) e = (x, refl)
+
+none_given : (h : Option Handled) → is_some h ≡ false → h ≡ None
+none_given None e = refl
+none_given (Some x) e = cc
+
+pub same_found : (found : Option Ordering) (x y : Ordering) → x ≡ y → IfSome found (λ o. o ≡ x) → IfSome found (λ o. o ≡ y)
+same_found found x y e h = subst (λ (w : Ordering). IfSome found (λ o. o ≡ w)) e h
+
+-- elements that decide on the first level decide
+decided_on_first : (levels : ThreeLevels) (us vs : List HandledElement) (h k : Option Handled) (found : Option Ordering) → IfSome found (λ o. DecidesOn levels.first h k o)
+    → IfSome found (λ o. o ≡ three_order levels Equal (from_first h us) (from_first k vs))
+decided_on_first levels us vs h k None decides = tt
+decided_on_first levels us vs h k (Some o) decides =
+    let d = decides us vs in
+    first_decides levels Equal (from_first h us) (from_first k vs) o d.0 d.1
+
+-- on each level, lists in an order that others have
+by_levels : (levels : ThreeLevels) (third : Ordering) (hs ks us vs : List HandledElement) → ((level : Level) → order_on level hs ks ≡ order_on level us vs)
+    → three_order levels third hs ks ≡ three_order levels third us vs
+by_levels levels third hs ks us vs same = rw (same levels.first, same levels.second, same levels.third) refl
+
+pub all_tie : (levels : ThreeLevels) (third : Ordering) (hs ks : List HandledElement) → ((level : Level) → order_on level hs ks ≡ Equal) → three_order levels third hs ks ≡ third
+all_tie levels third hs ks ties = rw (ties levels.first, ties levels.second, ties levels.third) (then_equal third)
+
 module _ {T U : Type 0} (text : T → List ℕ) (other_text : U → List ℕ) where
-  -- what is left orders as the whole
-  abbrev pub LeavesOrder : ThreeLevels → FactsCursor T → FactsCursor U → Ordering → FactsCursor T → FactsCursor U → Type 0
-  LeavesOrder levels left right third one other =
+  -- what is left orders on each level as the whole
+  abbrev pub OrderAlike : FactsCursor T → FactsCursor U → FactsCursor T → FactsCursor U → Type 0
+  OrderAlike left right one other =
       (b d : List ℕ) → (b' : List ℕ) × (d' : List ℕ)
-      × (three_order levels Equal (plain_left text left b) (plain_left other_text right d) ≡ three_order levels third (plain_left text one b') (plain_left other_text other d'))
+      × ((level : Level) → order_on level (plain_left text left b) (plain_left other_text right d) ≡ order_on level (plain_left text one b') (plain_left other_text other d'))
 
-  pub nothing_compared : (levels : ThreeLevels) (left : FactsCursor T) (right : FactsCursor U) → LeavesOrder levels left right Equal left right
-  nothing_compared levels left right = λ b d. (b, d, refl)
+  pub nothing_passed : (left : FactsCursor T) (right : FactsCursor U) → OrderAlike left right left right
+  nothing_passed left right = λ b d. (b, d, λ level. refl)
 
-  -- a step that both took
-  pub both_step : (levels : ThreeLevels) (left one one' : FactsCursor T) (right other other' : FactsCursor U) (third o : Ordering) (h k : Option Handled)
-      → LeavesOrder levels left right third one other → StepsOn text one h one' → StepsOn other_text other k other' → StepBoth levels h k o
-      → LeavesOrder levels left right (ordering_then third o) one' other'
-  both_step levels left one one' right other other' third o h k so_far s t by = λ b d.
-      let at = so_far b d in
-      let n = s at.0 in
-      let m = t at.1 in (
-        n.0,
-        m.0,
-        at.2 ∙ step_both levels third (plain_left text one at.0) (plain_left other_text other at.1) (plain_left text one' n.0) (plain_left other_text other' m.0) h k o
-            (λ level. ap₂ (order_on level) n.1 m.1) by,
-      )
+  module _ (left one one' : FactsCursor T) (right other other' : FactsCursor U) (h k : Option Handled)
+      (so_far : OrderAlike left right one other) (s : StepsOn text one h one') (t : StepsOn other_text other k other') where
+    -- elements that may differ
+    pub from_pair : OrderFrom text other_text left right h k one' other'
+    from_pair = λ b d.
+        let at = so_far b d in
+        let n = s at.0 in
+        let m = t at.1 in
+        (n.0, m.0, λ level. at.2 level ∙ ap₂ (order_on level) n.1 m.1)
 
-  -- both have ended
-  pub both_ended : (levels : ThreeLevels) (left one one' : FactsCursor T) (right other other' : FactsCursor U) (third : Ordering) (h k : Option Handled)
-      → LeavesOrder levels left right third one other → StepsOn text one h one' → StepsOn other_text other k other' → h ≡ None → k ≡ None
-      → (b d : List ℕ) → third ≡ three_order levels Equal (plain_left text left b) (plain_left other_text right d)
-  both_ended levels left one one' right other other' third h k so_far s t none ended b d =
-      let at = so_far b d in
-      let n = s at.0 in
-      let m = t at.1 in
-      let hs = n.1 ∙ ap (λ x. from_first x (plain_left text one' n.0)) none in
-      let ks = m.1 ∙ ap (λ x. from_first x (plain_left other_text other' m.0)) ended in
-      sym (at.2 ∙ same_three levels third (plain_left text one at.0) (plain_left other_text other at.1) (hs ∙ sym ks))
+    -- the same element
+    pub same_passed : h ≡ k → is_some h ≡ true → OrderAlike left right one' other'
+    same_passed same some = λ b d.
+        let from = from_pair b d in
+        let x = (some_given h some).0 in
+        let is = (some_given h some).1 in (
+          from.0,
+          from.1,
+          λ level. from.2 level
+              ∙ ap₂ (λ (y z : Option Handled). order_from level y z (plain_left text one' from.0) (plain_left other_text other' from.1)) is (sym same ∙ is)
+              ∙ tied_order level (handled_as x) (handled_as x) (plain_left text one' from.0) (plain_left other_text other' from.1) refl,
+        )
 
-  -- they go on out of step
-  pub out_of_step : (levels : ThreeLevels) (left one one' : FactsCursor T) (right other other' : FactsCursor U) (third : Ordering) (h k : Option Handled) (found : Option Ordering)
-      → LeavesOrder levels left right third one other → StepsOn text one h one' → StepsOn other_text other k other'
-      → ((b d : List ℕ) (t : Ordering) → IfSome found (λ o. o ≡ three_order levels t (from_first h (plain_left text one' b)) (from_first k (plain_left other_text other' d))))
-      → (b d : List ℕ) → IfSome found (λ o. o ≡ three_order levels Equal (plain_left text left b) (plain_left other_text right d))
-  out_of_step levels left one one' right other other' third h k None so_far s t by b d = tt
-  out_of_step levels left one one' right other other' third h k (Some o) so_far s t by b d =
-      let at = so_far b d in
-      let n = s at.0 in
-      let m = t at.1 in
-      by n.0 m.0 third ∙ sym (ap₂ (three_order levels third) n.1 m.1) ∙ sym at.2
+    -- both have ended
+    pub ended_alike : h ≡ k → is_some h ≡ false → EndAlike text other_text left right
+    ended_alike same nothing = λ b d level.
+        let from = from_pair b d in
+        let none = none_given h nothing in
+        from.2 level
+        ∙ ap₂ (λ (y z : Option Handled). order_from level y z (plain_left text one' from.0) (plain_left other_text other' from.1)) none (sym same ∙ none)
+        ∙ same_order level [] [] refl
+
+  -- the order of whole texts, from elements on at which they differ
+  module _ (levels : ThreeLevels) (left one : FactsCursor T) (right other : FactsCursor U) (h k : Option Handled) (from : OrderFrom text other_text left right h k one other)
+      (found : Option Ordering) where
+    whole : (b d : List ℕ) → (b' : List ℕ) × (d' : List ℕ)
+        × (three_order levels Equal (plain_left text left b) (plain_left other_text right d)
+        ≡ three_order levels Equal (from_first h (plain_left text one b')) (from_first k (plain_left other_text other d')))
+    whole b d =
+        let at = from b d in
+        (at.0, at.1, by_levels levels Equal (plain_left text left b) (plain_left other_text right d) (from_first h (plain_left text one at.0)) (from_first k (plain_left other_text other at.1)) at.2)
+
+    pub found_from : ((b d : List ℕ) → IfSome found (λ o. o ≡ three_order levels Equal (from_first h (plain_left text one b)) (from_first k (plain_left other_text other d))))
+        → (b d : List ℕ) → IfSome found (λ o. o ≡ three_order levels Equal (plain_left text left b) (plain_left other_text right d))
+    found_from later b d =
+        let at = whole b d in
+        same_found found _ _ (sym at.2) (later at.0 at.1)
+
+    pub pair_decides : IfSome found (λ o. DecidesOn levels.first h k o) → (b d : List ℕ) → IfSome found (λ o. o ≡ three_order levels Equal (plain_left text left b) (plain_left other_text right d))
+    pair_decides decides = found_from (λ b d. decided_on_first levels (plain_left text one b) (plain_left other_text other d) h k found decides)
+
+  -- ---- elements in step
+
+  -- from elements on, what is left orders as from others
+  abbrev pub LeavesOrder : ThreeLevels → FactsCursor T → FactsCursor U → Option Handled → Option Handled → Ordering → FactsCursor T → FactsCursor U → Option Handled → Option Handled → Type 0
+  LeavesOrder levels left right h k third one other h' k' =
+      (b d : List ℕ) → (b' : List ℕ) × (d' : List ℕ)
+      × (three_order levels Equal (from_first h (plain_left text left b)) (from_first k (plain_left other_text right d))
+      ≡ three_order levels third (from_first h' (plain_left text one b')) (from_first k' (plain_left other_text other d')))
+
+  pub nothing_compared : (levels : ThreeLevels) (left : FactsCursor T) (right : FactsCursor U) (h k : Option Handled) → LeavesOrder levels left right h k Equal left right h k
+  nothing_compared levels left right h k = λ b d. (b, d, refl)
+
+  module _ (levels : ThreeLevels) (left one : FactsCursor T) (right other : FactsCursor U) (h k h' k' : Option Handled) (third : Ordering)
+      (so_far : LeavesOrder levels left right h k third one other h' k') where
+    -- a step that both took
+    module _ (o : Ordering) (by : StepBoth levels h' k' o) where
+      stepped : (b d : List ℕ) → (b' : List ℕ) × (d' : List ℕ)
+          × (three_order levels Equal (from_first h (plain_left text left b)) (from_first k (plain_left other_text right d))
+          ≡ three_order levels (ordering_then third o) (plain_left text one b') (plain_left other_text other d'))
+      stepped b d =
+          let at = so_far b d in
+          let us = plain_left text one at.0 in
+          let vs = plain_left other_text other at.1 in
+          (at.0, at.1, at.2 ∙ step_both levels third (from_first h' us) (from_first k' vs) us vs h' k' o (λ level. refl) by)
+
+      pub both_step : (one' : FactsCursor T) (other' : FactsCursor U) (x y : Option Handled) → OrderFrom text other_text one other x y one' other'
+          → LeavesOrder levels left right h k (ordering_then third o) one' other' x y
+      both_step one' other' x y from = λ b d.
+          let at = stepped b d in
+          let n = from at.0 at.1 in (
+            n.0,
+            n.1,
+            at.2 ∙ by_levels levels (ordering_then third o) (plain_left text one at.0) (plain_left other_text other at.1)
+                (from_first x (plain_left text one' n.0)) (from_first y (plain_left other_text other' n.1)) n.2,
+          )
+
+      pub both_ended : EndAlike text other_text one other
+          → (b d : List ℕ) → ordering_then third o ≡ three_order levels Equal (from_first h (plain_left text left b)) (from_first k (plain_left other_text right d))
+      both_ended ended b d =
+          let at = stepped b d in
+          sym (at.2 ∙ all_tie levels (ordering_then third o) (plain_left text one at.0) (plain_left other_text other at.1) (λ level. ended at.0 at.1 level))
+
+    -- they go on out of step
+    pub out_of_step : (found : Option Ordering)
+        → ((b d : List ℕ) (t : Ordering) → IfSome found (λ o. o ≡ three_order levels t (from_first h' (plain_left text one b)) (from_first k' (plain_left other_text other d))))
+        → (b d : List ℕ) → IfSome found (λ o. o ≡ three_order levels Equal (from_first h (plain_left text left b)) (from_first k (plain_left other_text right d)))
+    out_of_step found by b d =
+        let at = so_far b d in
+        same_found found _ _ (sym at.2) (by at.0 at.1 third)
 
 -- where the first level ties, these elements decide on the second one
 pub out_decides : (levels : ThreeLevels) (third : Ordering) (hs ks us vs : List HandledElement) (one other : Option Handled) (found : Option Ordering) → hs ≡ from_first one us → ks ≡ from_first other vs
@@ -141,10 +225,7 @@ module _ (collation : Collation) (plain : ReadsElementsAlone collation) where
       h ∙ ap₂ (three_order (three_levels first form) Equal) (ap (map stayed) e ∙ sym (plain_elements t)) (ap (map stayed) f ∙ sym (plain_elements u))
       ∙ three_read collation (nfd t) (nfd u) first form leads is ∙ sym (elements_are_all t u)
 
--- ---- what a step found
-
-pub same_found : (found : Option Ordering) (x y : Ordering) → x ≡ y → IfSome found (λ o. o ≡ x) → IfSome found (λ o. o ≡ y)
-same_found found x y e h = subst (λ (w : Ordering). IfSome found (λ o. o ≡ w)) e h
+-- ---- weights of a level
 
 module _ (level : Level) where
   -- nothing weighs nothing

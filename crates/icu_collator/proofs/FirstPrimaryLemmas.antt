@@ -1,11 +1,13 @@
 -- What the first characters of two texts decide; and two texts are in the order of what follows a common beginning.
-use Rattle.std.proofs.Common.{◌≡◌, ◌≢◌, ◌<◌, ◌==◌, ◌⊎◌, ◌&&◌, ℕ, Bool, true, false, List, [], ◌∷◌, ◌++◌, map, Option, Some, None, IfSome, Ordering, Less, Equal, Greater, refl, sym, ap, ap₂, subst, ◌∙◌, append_assoc, ⊎_elim, arith, not, if◌then◌else◌}
+use Rattle.std.proofs.Common.{◌≡◌, ◌≢◌, ◌<◌, ◌≤◌, ◌==◌, ◌⊎◌, ◌&&◌, ℕ, Bool, true, false, List, [], ◌∷◌, ◌++◌, map, Option, Some, None, IfSome, Ordering, Less, Equal, Greater, refl, sym, ap, ap₂, subst, ◌∙◌, append_assoc, ⊎_elim, arith, not, if◌then◌else◌}
 use Rattle.std.specs.Ordering.{nat_cmp, ordering_then}
 use Rattle.std.proofs.lemmas.List.{map-append}
 use Rattle.std.proofs.lemmas.Bool.{cases_order, eqb-false}
 use Rattle.std.proofs.lemmas.Bool.Decides.{nat_tests}
 use Rattle.unicode_normalization.specs.Forms.{nfd}
 use Rattle.icu_options.specs.declared.settings.AlternateHandling.{AlternateHandling}
+use Rattle.icu_options.specs.declared.settings.AlternateHandling.TheVariants.{NonIgnorable, Shifted, Blanked}
+use Rattle.icu_entries.specs.ElementConditions.{separator_primary}
 use Rattle.icu_levels.specs.CommonBeginnings.{ReadsForward}
 use Rattle.icu_levels.specs.ListOrder.{list_order}
 use Rattle.icu_levels.proofs.Order.{less_number, more_number, same_front}
@@ -20,7 +22,7 @@ use Rattle.icu_cursor.specs.FactsCursors.{GoesOn, facts_give}
 use Rattle.icu_facts.specs.BoundaryTables.{HasBoundaryBefore}
 use Rattle.icu_weighting.specs.Collations.{Collation}
 use Rattle.icu_weighting.specs.Forms.{form_by, last_variable_by}
-use Rattle.icu_weighting.specs.Handled.{stayed, handled, is_variable, stayed_elements}
+use Rattle.icu_weighting.specs.Handled.{HandledElement, stayed, handled, handled_variable, is_variable, stayed_elements}
 use Rattle.icu_weighting.specs.Levels.{weights, primaries}
 use Rattle.icu_text_order.specs.TextCuts.{begins_with_primary, IsRest, CommonBeginningsDoNotCount}
 use Rattle.icu_text_order.specs.TextOrder.{reading_by, lists_by, text_order}
@@ -62,6 +64,21 @@ no_primary : (collation : Collation) (after : Bool) (x : Element) (xs : List Ele
 unfolding handled weights
 no_primary collation true x xs zero = (true, rw zero refl)
 no_primary collation false x xs zero = (false, rw zero refl)
+
+-- a variable element leaves none that stays
+shifted_goes : (handling : AlternateHandling) (p : ℕ) (hs : List HandledElement) → primaries (stayed_elements (handled_variable handling p ++ hs)) ≡ primaries (stayed_elements hs)
+shifted_goes NonIgnorable p hs = refl
+shifted_goes Shifted p hs = refl
+shifted_goes Blanked p hs = refl
+
+between_is_variable : (last : ℕ) (x : Element) → separator_primary < x.primary → x.primary ≤ last → is_variable last x ≡ true
+between_is_variable last x above below = grind (arith, nat_tests)
+
+-- elements the first of which is variable
+variable_first : (collation : Collation) (after : Bool) (x : Element) (xs : List Element) → is_variable (last_variable_by collation) x ≡ true
+    → primaries_given collation after (x ∷ xs) ≡ primaries_given collation true xs
+unfolding handled
+variable_first collation after x xs is = rw is (shifted_goes collation.settings.alternate_handling x.primary (handled collation.settings.alternate_handling (last_variable_by collation) true xs))
 
 module _ (collation : Collation) (law : FirstStartersLead) (c : ℕ) (cs : List ℕ) (p : ℕ) (h : HasLeadingPrimary (reading_by collation) c p) where
   first_element : (before : List ℕ) → (rest : List Element) × (elements_after (reading_by collation) before (nfd (c ∷ cs)) ≡ h.element ∷ rest)
@@ -179,11 +196,22 @@ module _ (collation : Collation) where
         let next = goes before in
         (next.0, false, ap (primaries_given collation after) next.1 ∙ leading_primary collation after e (facts_give text new next.0) above)
 
-    pub none_next : (old new : FactsCursor T) (e : Element) → GoesOn text old e new → e.primary ≡ 0 → GivesPrimaries collation text old [] new
+    none_next : (old new : FactsCursor T) (e : Element) → GoesOn text old e new → e.primary ≡ 0 → GivesPrimaries collation text old [] new
     none_next old new e goes zero = λ before after.
         let next = goes before in
         let none = no_primary collation after e (facts_give text new next.0) zero in
         (next.0, none.0, ap (primaries_given collation after) next.1 ∙ none.1)
+
+    variable_next : (old new : FactsCursor T) (e : Element) → GoesOn text old e new → is_variable (last_variable_by collation) e ≡ true → GivesPrimaries collation text old [] new
+    variable_next old new e goes is = λ before after.
+        let next = goes before in
+        (next.0, true, ap (primaries_given collation after) next.1 ∙ variable_first collation after e (facts_give text new next.0) is)
+
+    -- an element that doesn't count
+    pub passed_next : (old new : FactsCursor T) (e : Element) → GoesOn text old e new → e.primary ≤ last_variable_by collation
+        → (separator_primary < e.primary) ⊎ (e.primary ≡ 0) → GivesPrimaries collation text old [] new
+    passed_next old new e goes below either =
+        ⊎_elim (λ above. variable_next old new e goes (between_is_variable (last_variable_by collation) e above below)) (none_next old new e goes) either
 
     pub after_none : (old mid new : FactsCursor T) (ps : List ℕ) → GivesPrimaries collation text old [] mid → GivesPrimaries collation text mid ps new → GivesPrimaries collation text old ps new
     after_none old mid new ps h k = λ before after.
@@ -191,13 +219,9 @@ module _ (collation : Collation) where
         let other = k one.0 one.1 in
         (other.0, other.1, one.2 ∙ other.2)
 
-    pub primary_found : (old mid new : FactsCursor T) (e : Element) → GivesPrimaries collation text old [] mid → GoesOn text mid e new → (found : Option ℕ) (p : ℕ) → e.primary ≡ p
-        → IfSome found (λ q. (q ≡ p) × (last_variable_by collation < q)) → IfSome found (λ q. GivesPrimary collation text old q new)
-    primary_found old mid new e h goes None p is known = tt
-    primary_found old mid new e h goes (Some q) p is known =
-        let same : e.primary ≡ q = is ∙ sym known.0 in
-        let above : last_variable_by collation < e.primary = subst (λ x. last_variable_by collation < x) (sym same) known.1 in
-        subst (λ (x : ℕ). GivesPrimary collation text old x new) same (after_none old mid new (e.primary ∷ []) h (primary_next mid new e goes above))
+    pub primary_found : (old mid new : FactsCursor T) (e : Element) → GivesPrimaries collation text old [] mid → GoesOn text mid e new → last_variable_by collation < e.primary
+        → GivesPrimary collation text old e.primary new
+    primary_found old mid new e h goes above = after_none old mid new (e.primary ∷ []) h (primary_next mid new e goes above)
 
     pub nothing_given : (c : FactsCursor T) → GivesPrimaries collation text c [] c
     nothing_given c = λ before after. (before, after, refl)

@@ -1,17 +1,19 @@
 //! Two texts gone through in step by what is kept of their characters, where no element is variable: no text is read
 //! anew, and no cursor is made that may allocate.
 
-ghost use Rattle.std.specs.Prelude.{◌≡◌, ℕ, List, None, IfSome};
+ghost use Rattle.std.specs.Prelude.{◌≡◌, ℕ, List, None, IfSome, MatchOption};
 ghost use Rattle.std.specs.declared.cmp.Ordering.TheVariants.{Equal};
 ghost use Rattle.icu_levels.specs.ListOrder.{list_order};
 ghost use Rattle.icu_collator.specs.inner.InStep.{from_first, order_from, three_order, three_levels, StepBoth, StepsBy};
-ghost use Rattle.icu_collator.specs.inner.FactsInStep.{StepsOn, WeighsOn, plain_left, weights_from};
+ghost use Rattle.icu_collator.specs.inner.FactsInStep.{StepsOn, WeighsOn, plain_left, weights_from, EndAlike, OrderFrom};
+ghost use Rattle.icu_collator.specs.declared.forward_levels.Level.TheVariants.{Primary};
 
 use crate::forward_levels::Level;
 use crate::in_step::{Pair, order_of_pair};
 use icu_cursor::FactsCursor;
 use icu_encodings::EncodedText;
 use icu_levels::forms::TertiaryForm;
+use icu_provider::CollationReordering;
 use icu_weighting::Handled;
 use std::cmp::Ordering;
 
@@ -29,23 +31,6 @@ fn next_stayed<T: EncodedText>(text: &mut FactsCursor<'_, '_, T>) -> Option<Opti
     }
 }
 
-/// The order on the tertiary level of two elements, if those tie on the first and the secondary level: at once where
-/// they are the same.
-#[inline(always)]
-fn order_of_elements(
-    first: Level<'_>,
-    form: TertiaryForm,
-    one: &Handled,
-    other: &Handled,
-) -> Option<Ordering>
-    ensures { IfSome result (λ o. StepsBy (three_levels first.entry form) one.now other.now o) }
-{
-    if *one == *other {
-        return Some(Ordering::Equal);
-    }
-    order_of_pair(first, form, one, other)
-}
-
 /// The order on the tertiary level of the elements that two texts gave, if both gave one, and these tie on the first
 /// and the secondary level.
 #[inline(always)]
@@ -58,32 +43,82 @@ fn order_of_step(
     ensures { IfSome result (λ o. StepBoth (three_levels first.entry form) one.now other.now o) }
 {
     match (*one, *other) {
-        (Some(one), Some(other)) => order_of_elements(first, form, &one, &other),
+        (Some(one), Some(other)) => order_of_pair(first, form, &one, &other),
         _ => None,
     }
+}
+
+/// Goes past the elements that both texts give, and returns the first that differ, or `Some(None)` where both have
+/// ended. `None` says nothing.
+#[inline(always)]
+fn first_unlike<L: EncodedText, R: EncodedText>(
+    left: &mut FactsCursor<'_, '_, L>,
+    right: &mut FactsCursor<'_, '_, R>,
+) -> Option<Option<Pair>>
+    ensures { IfSome result (λ found. MatchOption found
+        (EndAlike L.text R.text left.old right.old)
+        (λ p. OrderFrom L.text R.text left.old right.old p.0 p.1 left.new right.new)) }
+{
+    'pairs: for _ in 0..ELEMENTS_AHEAD {
+        let one = next_stayed(left)?;
+        let other = next_stayed(right)?;
+        if one != other {
+            return Some(Some((one, other)));
+        }
+        if one.is_none() {
+            return Some(None);
+        }
+    }
+    None
 }
 
 /// The order of two texts on three levels, as far as their elements are in step and both texts are known: where they
 /// are no more, primary weights decide, or else these elements on the secondary level. `None` says nothing.
 pub(crate) fn order_in_step<L: EncodedText, R: EncodedText>(
-    first: Level<'_>,
+    reordering: Option<CollationReordering<'_>>,
     form: TertiaryForm,
     left: &mut FactsCursor<'_, '_, L>,
     right: &mut FactsCursor<'_, '_, R>,
 ) -> Option<Ordering>
-    ensures { (b d : List ℕ) → IfSome result (λ o. o ≡ three_order (three_levels first.entry form)
+    ensures { (b d : List ℕ) → IfSome result (λ o.
+        o ≡ three_order (three_levels (Primary reordering.entry) form)
         Equal (plain_left L.text left.old b) (plain_left R.text right.old d)) }
 {
+    let Some(pair) = first_unlike(left, right)? else {
+        return Some(Ordering::Equal);
+    };
+    let decided = Level::Primary(reordering).decide(&pair.0, &pair.1);
+    if decided.is_some() {
+        return decided;
+    }
+    order_from_unlike(reordering, form, pair, left, right)
+}
+
+/// The order from these elements on, which were read last, as far as elements are in step and both texts are known.
+#[inline(never)]
+fn order_from_unlike<L: EncodedText, R: EncodedText>(
+    reordering: Option<CollationReordering<'_>>,
+    form: TertiaryForm,
+    pair: Pair,
+    left: &mut FactsCursor<'_, '_, L>,
+    right: &mut FactsCursor<'_, '_, R>,
+) -> Option<Ordering>
+    ensures { (b d : List ℕ) → IfSome result (λ o.
+        o ≡ three_order (three_levels (Primary reordering.entry) form)
+        Equal (from_first pair.0 (plain_left L.text left.old b))
+        (from_first pair.1 (plain_left R.text right.old d))) }
+{
+    let first = Level::Primary(reordering);
+    let mut pair = pair;
     let mut third = Ordering::Equal;
     'pairs: for _ in 0..ELEMENTS_AHEAD {
-        let one = next_stayed(left)?;
-        let other = next_stayed(right)?;
-        if let (None, None) = (one, other) {
-            return Some(third);
-        }
-        match order_of_step(first, form, &one, &other) {
+        match order_of_step(first, form, &pair.0, &pair.1) {
             Some(order) => third = third.then(order),
-            None => return order_out_of_step(first, form, (one, other), left, right),
+            None => return order_out_of_step(first, form, pair, left, right),
+        }
+        match first_unlike(left, right)? {
+            Some(next) => pair = next,
+            None => return Some(third),
         }
     }
     None
@@ -91,7 +126,7 @@ pub(crate) fn order_in_step<L: EncodedText, R: EncodedText>(
 
 /// The order from elements on that aren't in step: the rest of the first level decides, or, where it ties, these
 /// elements on the secondary one.
-#[inline(never)]
+#[inline(always)]
 fn order_out_of_step<L: EncodedText, R: EncodedText>(
     first: Level<'_>,
     form: TertiaryForm,
@@ -178,6 +213,7 @@ fn order_of_next(one: Option<u64>, other: Option<u64>) -> Option<Ordering>
 
 /// The order of two texts on a level from these elements on, which were read last: none of a text that has ended.
 /// `None` says nothing.
+#[inline(always)]
 fn order_on_level<L: EncodedText, R: EncodedText>(
     level: Level<'_>,
     pair: Pair,

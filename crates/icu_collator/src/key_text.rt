@@ -99,8 +99,8 @@ impl<'c, 'd, T: CountedText> PieceElements<'c, 'd, T> {
     }
 }
 
-/// The elements of an encoded text for its key: by a lone cursor, which is small, and from the first piece on by a reader
-/// of pieces, which stands apart.
+/// The elements of an encoded text for its key: by a lone cursor, which is small, and from the first piece on by a
+/// reader of pieces, which stands apart.
 #[derive(Drop)]
 pub(crate) struct KeyElements<'c, 'd, T: Copy>
 where

@@ -13,16 +13,13 @@ use crate::facts_in_step::order_in_step;
 use crate::first_facts::FirstFacts;
 use icu_cursor::{CursorTables, FactsCursor};
 use icu_encodings::EncodedText;
+use icu_entries::element::MERGE_SEPARATOR_PRIMARY;
 use icu_levels::forms::TertiaryForm;
 use icu_text_order::laws::common_beginnings_do_not_count;
 use std::cmp::Ordering;
 
 /// How many primary weights of two texts are compared by their characters, at most.
 const WEIGHTS_AHEAD: u32 = 6;
-
-/// How many are, before their elements are gone through in step: of texts that differ in letters, the first mostly
-/// decide. A Hangul syllable has three.
-const WEIGHTS_BEFORE_STEPS: u32 = 3;
 
 /// How many elements are passed over to the next primary weight of a text, at most.
 const ELEMENTS_AHEAD: u32 = 3;
@@ -116,26 +113,18 @@ impl<'a> CollatorBorrowed<'a> {
             IfSome result (λ o. o ≡ text_order collation (L.text left) (R.text right)) }
     {
         let tables = self.cursor_tables();
-        let form = self.plain_form();
-        let ahead = if form.is_some() {
-            WEIGHTS_BEFORE_STEPS
-        } else {
-            WEIGHTS_AHEAD
-        };
-        let order = self.order_by_primaries(&tables, ahead, left, right);
-        if order.is_some() {
-            return order;
+        match self.plain_form() {
+            Some(form) => self.order_on_levels(&tables, form, left, right),
+            None => self.order_by_primaries(&tables, left, right),
         }
-        self.order_on_levels(&tables, form?, left, right)
     }
 
-    /// The order of two texts by the first primary weights that differ, among so many, of the characters that they
-    /// begin with.
+    /// The order of two texts by the first primary weights that differ, among a few, of the characters that they begin
+    /// with.
     #[inline(always)]
     fn order_by_primaries<L: EncodedText, R: EncodedText>(
         &self,
         tables: &CursorTables<'a>,
-        ahead: u32,
         left: L,
         right: R,
     ) -> Option<Ordering>
@@ -145,7 +134,7 @@ impl<'a> CollatorBorrowed<'a> {
     {
         let mut one = FactsCursor::new(tables, left);
         let mut other = FactsCursor::new(tables, right);
-        'weights: for _ in 0..ahead {
+        'weights: for _ in 0..WEIGHTS_AHEAD {
             let weight = self.next_primary(&mut one)?;
             let other_weight = self.next_primary(&mut other)?;
             if weight != other_weight {
@@ -172,7 +161,7 @@ impl<'a> CollatorBorrowed<'a> {
     {
         let mut one = FactsCursor::new(tables, left);
         let mut other = FactsCursor::new(tables, right);
-        order_in_step(self.primary_level(), form, &mut one, &mut other)
+        order_in_step(self.tables.reordering(), form, &mut one, &mut other)
     }
 
     /// The next primary weight of the characters of a text, where elements that have it aren't variable.
@@ -183,9 +172,12 @@ impl<'a> CollatorBorrowed<'a> {
         ensures some { IfSome result (λ p. p ≢ 0) }
     {
         'elements: for _ in 0..ELEMENTS_AHEAD {
-            let element = characters.next()?;
-            if element.primary() != 0 {
-                return self.known_primary(element.primary());
+            let primary = characters.next()?.primary();
+            if primary > self.last_variable() {
+                return Some(primary);
+            }
+            if primary != 0 && primary <= MERGE_SEPARATOR_PRIMARY {
+                return None;
             }
         }
         None

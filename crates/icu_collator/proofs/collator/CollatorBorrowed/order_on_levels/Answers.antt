@@ -3,7 +3,9 @@ use Rattle.std.proofs.Common.{◌∙◌, [], ap}
 use Rattle.unicode_normalization.specs.Forms.{nfd}
 use Rattle.icu_elements.specs.TextElements.{Reading, elements_after}
 use Rattle.icu_collator.specs.Collators.{collation_borrowed}
+use Rattle.icu_collator.specs.declared.forward_levels.Level.TheVariants.{Primary}
 use Rattle.icu_collator.proofs.FactsInStepLemmas.{facts_order}
+use Rattle.icu_collator.proofs.InStepLemmas.{leading_read}
 use Rattle.icu_collator.proofs.collator.CollatorBorrowed.order_on_levels.Goals as goal
 
 pub returns : goal.returns
@@ -13,7 +15,7 @@ returns g c =
     let right = g.R.EncodedText.text in
     let t = left c.args.left in
     let u = right c.args.right in
-    facts_order collation c.requires.plain left right c.new-one.result c.new-other.result t u c.primary_level.result c.args.form c.order_in_step.result
+    facts_order collation c.requires.plain left right c.new-one.result c.new-other.result t u (Primary c.reordering.result) c.args.form c.order_in_step.result
     (c.new-one.ensures [] ∙ ap (λ (r : Reading). elements_after r [] (nfd t)) c.requires.reading)
     (c.new-other.ensures [] ∙ ap (λ (r : Reading). elements_after r [] (nfd u)) c.requires.reading)
-    (c.primary_level.ensures (nfd t) (nfd u)) c.requires.form (c.order_in_step.ensures [] [])
+    (leading_read collation (nfd t) (nfd u) c.reordering.result c.reordering.ensures) c.requires.form (c.order_in_step.ensures [] [])
