@@ -43,6 +43,7 @@ int main(void) {
     const UCollationStrength one = UCOL_PRIMARY, two = UCOL_SECONDARY, three = UCOL_TERTIARY;
     printf("ICU %s\n", U_ICU_VERSION);
     row("sv", one, 1, 0, 0, "\\u00C5sa", "\\u00D6sa, \\u00C5sa");
+    row("sv", one, 1, 0, 0, "\\u00C5sa", "O\\u0308sa, A\\u030Asa");
     row("da", one, 1, 0, 0, "\\u00D8st", "\\u00C6st \\u00D8st Aast");
     row("nb", one, 1, 0, 0, "\\u00F8", "\\u00E5");
     row("fi", one, 1, 0, 0, "\\u00E4", "\\u00F6");
@@ -54,6 +55,8 @@ int main(void) {
     row("", three, 0, 0, 0, "\\uAC00", "\\uAC01");
     row("", three, 0, 0, 0, "\\uAC00", "\\u1100\\u1161\\u11A8");
     row("", three, 0, 0, 0, "\\u1100\\u1161", "\\u1100\\u1161\\u11A8");
+    row("", three, 0, 0, 0, "a\\u0302\\u0323", "\\u1EAD");
+    row("", three, 0, 0, 0, "a\\u0323\\u0302", "\\u1EAD");
     row("", two, 1, 0, 0, "\\u0301", "a");
     row("", three, 0, 0, 0, "\\u0928", "\\u0928\\u093F");
     row("", three, 0, 0, 0, "\\u093F", "\\u0928\\u093F");
@@ -70,5 +73,9 @@ int main(void) {
     row("", one, 0, 0, 0, "\\u0E01", "\\u0E40\\u0E01\\u0E32");
     row("", three, 0, 0, 0, "a", "a\\u0301");
     row("", three, 0, 0, 0, "a", "\\u00E1");
+    row("", three, 0, 0, 0, "ab", "a\\u00ADb");
+    row("", three, 0, 0, 0, "a\\u00AD", "ab");
+    row("fr_CA", two, 0, 0, 0, "c\\u00F4t", "c\\u00F4t\\u00E9");
+    row("fr_CA", two, 0, 0, 0, "c\\u00F4t\\u00E9", "cot\\u00E9 c\\u00F4te c\\u00F4t\\u00E9");
     return 0;
 }

@@ -11,8 +11,9 @@ import crates
 
 DRIVER = "test_driver"
 # What says that a call may fail so, in the type that it returns.
-FAILURES = {"AllocError", "DataError", "FormError", "LabelsError", "LdmlError", "LineError", "MappingEntriesError", "NumberingError", "ReadError",
-            "ReorderingError", "RuleTablesError", "RulesError", "SortKeyError", "TableFileError", "TagError", "TailoredEntriesError", "TailoringError", "XmlError"}
+FAILURES = {"AllocError", "CsvError", "DataError", "FieldsError", "FormError", "LabelsError", "LdmlError", "LineError",
+            "MappingEntriesError", "NumberingError", "ReadError", "ReorderingError", "RuleTablesError", "RulesError", "SortKeyError",
+            "TableFileError", "TagError", "TailoredEntriesError", "TailoringError", "XmlError"}
 # Errors that say so within another one, and such as no public call returns.
 WITHIN = {"DataErrorKind", "RuleStepError", "UnplacedError"}
 # A public error, of which one kind is that an allocation failed.
@@ -25,8 +26,9 @@ METHOD = re.compile(r"(?:<[^(]*>)?\(\s*(?:&(?:'\w+ )?)?(?:mut )?self\b")
 # How the driver comes to a value of a type that it doesn't name.
 VALUES = {"CollatorBorrowed": "as_borrowed"}
 # Programs, and crates of tests: what the driver asks about are libraries.
-OTHERS = {"collate", "collate_cldr", "collate_commands", "collate_index", "sort_names", "test_checked_root", "test_contracts",
-          "test_lists", "test_readers", "test_rule_steps", "test_table_files", "test_tailorings", "test_text_search", "test_types", DRIVER}
+OTHERS = {"cldr_collators", "collate", "collate_cldr", "collate_commands", "collate_index", "collate_words", "compiled_tables",
+          "counted_neighbours", "named_files", "sort_names", "test_checked_root", "test_contracts", "test_lists", "test_readers",
+          "test_rule_steps", "test_table_files", "test_tailorings", "test_text_search", "test_types", DRIVER}
 KEY, CHECK, FILE, READ, LINE, INDEX = "`key`", "`check`", "`root`", "`next` and `whole`", "`line`", "`names`"
 # Calls to which no question comes: each request of this program, or of this crate, is refused or tested by itself; some are run by
 # the tests of their own crates alone, without a refusal.
@@ -109,8 +111,18 @@ LEFT_OUT = {
     ("line_commands", "write_line_key"): PROGRAM,
     ("line_fields", "push_directed_key"): PROGRAM,
     ("line_fields", "push_number_key"): PROGRAM,
-    ("csv_records", "csv_fields"): NOTHING,
-    ("csv_records", "csv_records"): NOTHING,
+    ("line_searches", "count_wanted"): PROGRAM,
+    ("line_searches", "matches_of_line"): PROGRAM,
+    ("line_searches", "wanted_text"): PROGRAM,
+    ("csv_records", "csv_fields"): PROGRAM,
+    ("csv_records", "csv_records"): PROGRAM,
+    ("csv_sorts", "column_disorder_text"): PROGRAM,
+    ("csv_sorts", "csv_error_said"): PROGRAM,
+    ("csv_sorts", "columns_of_words"): PROGRAM,
+    ("csv_sorts", "first_column_disorder"): PROGRAM,
+    ("csv_sorts", "print_sorted_by_columns"): PROGRAM,
+    ("csv_sorts", "text_sorted_by_columns"): PROGRAM,
+    ("field_sorts", "sorted_by_keys"): PROGRAM,
     ("field_sorts", "text_sorted_by_fields"): PROGRAM,
     ("order_reasons", "explained_text"): PROGRAM,
     ("order_reasons", "reason_text"): PROGRAM,

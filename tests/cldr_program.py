@@ -2,10 +2,14 @@
 place, pairs that are out of order, and each request refused."""
 import concurrent.futures
 import os
+import re
 
 from cldr_locales import FOLDER, check_locales
+from csv_commands import check_csv
 from line_commands import check_lines
+from shell_jobs import check_shell
 from sweeps import REQUESTS, TOP, Run, built, faults_of, losses_missed, run, run_on_streams, says_refusals, sweep, wrapped
+from table_commands import check_tables
 
 LETTERS = os.path.join(TOP, "crates", "collate_cldr", "data", "letters.txt")
 NAMES = "b\ná\nA\na\nb\n10\n9\n".encode()
@@ -15,6 +19,10 @@ NO_DATA = b": not opened; Debian's package unicode-cldr-core has it, and --root 
 def over(command, strength, *words):
     """A command over the small file, at a strength."""
     return [command, "--root", LETTERS, "--strength", strength, *words]
+
+
+def versions(cldr, file):
+    return f"collate-cldr 0.1\nCLDR {cldr}\nroot collation: Unicode 0, {file}\n".encode()
 
 
 SORT, KEYS, CHECK = over("sort", "3"), over("keys", "3"), over("check", "3")
@@ -77,6 +85,8 @@ RUNS = [
     (["compare", "--cldr", FOLDER, "-l", "und-u-ks-level1", "as", "às"], b"", 0, b"=\n", b""),
     (["compare", "--cldr", FOLDER, "-l", "und-u-ks-level1", "--strength=2", "as", "às"], b"", 1, b"<\n", b""),
     (["compare", "--cldr", FOLDER, "-l", "und-u-kn", "10", "9"], b"", 1, b">\n", b""),
+    (["--version", "--root", LETTERS], b"", 0, versions("of an unknown version", LETTERS), b""),
+    (["--version", "--cldr", FOLDER], b"", 0, versions("41", f"{FOLDER}/common/uca/FractionalUCA.txt"), b""),
     ([], b"", 2, b"", b"collate-cldr: no command; --help says which there are\n"),
 ]
 # Wrong words, and the one that is said to be wrong.
@@ -127,6 +137,40 @@ def wrong_runs(program):
         if ran.status or ran.faults or said.encode() not in ran.output:
             found.append(f"{words}: {ran}; wanted: help with {said}")
     return found
+
+
+# ---- the manual page
+
+MANUAL = os.path.join(TOP, "docs", "COLLATE_CLDR.md")
+COMMANDS_SAID = re.compile(r"(?m)^Commands:\n((?: .*\n)+)")
+
+
+def options_of_help(program):
+    """The options that the program and each of its commands say they take, by the command; `none` is the program without one."""
+    names = re.findall(r"(?m)^  (\w+)", COMMANDS_SAID.search(run(program, ["--help"]).output.decode())[1])
+    words = {"none": ["--help"], **{name: [name, "--help"] for name in names if name != "help"}}
+    lines = {name: re.findall(r"(?m)^ +((?:-\w, )?--[\w-]+)", run(program, it).output.decode()) for name, it in words.items()}
+    return {(name, it) for name, said in lines.items() for line in said for it in line.split(", ")} - {
+        (name, it) for name in words for it in ("-h", "--help")}
+
+
+def options_of_page(page, commands):
+    """The options of the page's table, by the commands that they are for: some that it names, `all`, and all but some."""
+    found = set()
+    for options, said in re.findall(r"(?m)^\| (`-(?:[^|]|\\\|)*?) \| ([^|]*) \|", page):
+        named = set(re.findall(r"`(\w+)`", said)) | {it for it in ("none",) if said.endswith(it)}
+        named = commands - {"none"} - named if said.startswith("all but") else commands - {"none"} | named if said.startswith("all") else named
+        found |= {(name, it) for name in named for it in re.findall(r"`(--?[\w-]+)", options)}
+    return found
+
+
+def wrong_manual(program, page):
+    """Options of commands that the manual page has and no --help, or the other way round."""
+    said = options_of_help(program)
+    listed = options_of_page(page, {name for name, _ in said})
+    unlisted = [f"the synopsis hasn't {name}" for name, _ in said if name != "none" and f"\n    collate-cldr {name} [OPTIONS]" not in page]
+    return ([f"no --help of {name} has {it}" for name, it in sorted(listed - said)]
+            + [f"the manual hasn't {it} of {name}" for name, it in sorted(said - listed)] + sorted(set(unlisted)))
 
 
 def wrong_files(program, room):
@@ -356,6 +400,8 @@ COMMANDS = [
     (KEYS, NAMES, lambda at, count, after: at > count - LAST_ONES),
     (over("explain", "3", "ab"), b"", lambda at, count, after: at > count - LAST_ONES),
     (over("why", "3", "ab", "aB"), b"", lambda at, count, after: at > count - LAST_ONES),
+    (over("search", "1", "--colour=always", "-n", "a"), NAMES, lambda at, count, after: at > count - LAST_ONES),
+    (over("sort", "3", "--csv", "--column", "1"), NAMES, lambda at, count, after: at > count - LAST_ONES),
     (over("sort", "3", "-k1,1nr", "-k2"), NAMES, lambda at, count, after: at > count - LAST_ONES),
     (CHECK, b"a\nb\n", lambda at, count, after: at > count - LAST_ONES),
     (over("neighbours", "3"), b"0061\n0041\n0062\n", lambda at, count, after: at > count - LAST_ONES),
@@ -405,8 +451,17 @@ def check_collate_cldr(report, room, shim):
     folder = os.path.join(room, "files")
     os.mkdir(folder)
     report.say("collate-cldr: files", wrong_files(program, folder), 4)
+    with open(MANUAL, encoding="utf-8") as it:
+        page = it.read()
+    report.say("collate-cldr: options of the manual page", wrong_manual(program, page), len(options_of_help(program)))
+    others = [("| `--csv`", "| `--lines`"), ("`-l TAG`", "`-k TAG`"), ("| all but `compile` |", "| all |"), ("collate-cldr why", "collate-cldr")]
+    missed = [f"not found: {new} for {old} in the manual page" for old, new in others if not wrong_manual(program, page.replace(old, new, 1))]
+    report.say("collate-cldr: other options in the manual page are found", missed, len(others))
     check_locales(report, folder, program)
     check_lines(report, folder, program, LETTERS)
+    check_csv(report, folder, program, LETTERS)
+    check_shell(report, folder, program)
+    check_tables(report, folder, program, LETTERS, shim)
     report.say("collate-cldr: options of which both matter", wrong_options(program, PAIRS), 5 * len(PAIRS))
     report.say("collate-cldr: options of which the last counts", wrong_options(program, LAST), 4 * len(LAST))
     report.say("collate-cldr: pairs out of order", wrong_counts(program), len(DISORDER))

@@ -1,5 +1,5 @@
-"""The commands explain, why and sort by fields of the program `collate-cldr` over its small file with Mini's letters, and
-sorts by fields beside those of GNU `sort`."""
+"""The commands explain, why, search and sort by fields of the program `collate-cldr` over its small file with Mini's letters, and sorts
+by fields beside those of GNU `sort`."""
 import os
 import random
 import subprocess
@@ -50,6 +50,69 @@ def wrong_explanations(program, letters):
         ran = run(program, over(letters, "why", strength, *words, "--", one, other))
         if ran.came_to() != (int(sign != "="), f"{sign}\t{level}\n".encode(), b""):
             found.append(f"why {strength} {words} {one!r} {other!r}: {ran}; wanted: {sign} {level}")
+    return found
+
+
+# ---- search
+
+ON, OFF = "\x1b[01;31m\x1b[K", "\x1b[m\x1b[K"
+LINES = "b\ná\nbA\na b\nab\n"
+# The strength and further words, the pattern, the input, and the status and the output that are wanted.
+SEARCHES = [
+    (["1"], "a", LINES, 0, "á\nbA\na b\nab\n"),
+    (["2"], "a", LINES, 0, "bA\na b\nab\n"),
+    (["3"], "a", LINES, 0, "a b\nab\n"),
+    (["3"], "á", "xa\u0301\n", 0, "xa\u0301\n"),
+    (["3"], "c", LINES, 1, ""),
+    (["1", "-v"], "a", LINES, 0, "b\n"),
+    (["1", "-v"], "b", "b\nB\n", 1, ""),
+    (["1", "-c"], "a", LINES, 0, "4\n"),
+    (["1", "-cv"], "a", LINES, 0, "1\n"),
+    (["3", "-c"], "c", LINES, 1, "0\n"),
+    (["1", "-n"], "a", LINES, 0, "2:á\n3:bA\n4:a b\n5:ab\n"),
+    (["1", "-o"], "a", "bA-á\nb\na\n", 0, "A\ná\na\n"),
+    (["1", "-on"], "a", "bA-á\nb\na\n", 0, "1:A\n1:á\n3:a\n"),
+    # As GNU grep: such a line counts though nothing of it is printed.
+    (["1", "-ov"], "a", "b\n", 0, ""),
+    (["1", "-o"], "", "b\n", 0, ""),
+    (["1", "-w"], "a", LINES, 0, "á\na b\n"),
+    (["3", "-w"], "ab", "ab\nabc\nc ab\n", 0, "ab\nc ab\n"),
+    (["1", "--colour=always"], "a", "bA-áb\nb\n", 0, f"b{ON}A{OFF}-{ON}á{OFF}b\n"),
+    (["1", "--colour=always", "-o"], "a", "bA\n", 0, f"{ON}A{OFF}\n"),
+    (["1", "--colour=never"], "a", "bA\n", 0, "bA\n"),
+    (["1", "--colour=auto"], "a", "bA\n", 0, "bA\n"),
+    (["1", "--files-with-matches"], "a", "bA\n", 0, "(standard input)\n"),
+    (["1", "--files-with-matches"], "c", "bA\n", 1, ""),
+    (["1", "-z"], "a", "b\nA\0b\0", 0, "b\nA\0"),
+    (["1"], "a", "b\na", 0, "a\n"),
+    (["1"], "a", "", 1, ""),
+    (["3", "--numeric"], "7", "a07b\n17\n", 0, "a07b\n"),
+]
+
+
+def wrong_searches(program, letters, room):
+    found = []
+    for (strength, *words), pattern, given, status, printed in SEARCHES:
+        ran = run(program, over(letters, "search", strength, *words, "--", pattern), given.encode())
+        if ran.came_to() != (status, printed.encode(), b""):
+            found.append(f"search {strength} {words} {pattern!r}: {ran}; wanted: {status}, {printed!r}")
+    damaged = run(program, over(letters, "search", "3", "a"), b"\xffa\n")
+    if damaged.came_to() != (0, b"\xffa\n", b""):
+        found.append(f"search in a damaged line: {damaged}")
+    one, two = os.path.join(room, "found-one"), os.path.join(room, "found-two")
+    for path, text in ((one, "a\nb\n"), (two, "b\n")):
+        with open(path, "w", encoding="utf-8") as it:
+            it.write(text)
+    files = [
+        ([], "b", f"{one}:b\n{two}:b\n"),
+        (["-n"], "b", f"{one}:2:b\n{two}:1:b\n"),
+        (["-c"], "a", f"{one}:1\n{two}:0\n"),
+        (["--files-with-matches"], "a", f"{one}\n"),
+    ]
+    for words, pattern, printed in files:
+        ran = run(program, over(letters, "search", "3", *words, "--", pattern, one, two))
+        if ran.came_to() != (0, printed.encode(), b""):
+            found.append(f"search {words} {pattern!r} in two files: {ran}; wanted: {printed!r}")
     return found
 
 
@@ -135,20 +198,22 @@ def unlike_gnu(program, letters, times=120):
 
 FAULTY = [
     ("no accent read", 'case $1 in why) printf "=\\tno level differs\\n"; exit 0;; esac; exec "$COLLATE" "$@"',
-     wrong_explanations),
-    ("lines by their bytes alone", '"$COLLATE" "$@" | LC_ALL=C sort', lambda program, letters: unlike_gnu(program, letters, 10)),
+     lambda program, letters, room: wrong_explanations(program, letters)),
+    ("a match lost", '"$COLLATE" "$@" | sed "\\$d"', wrong_searches),
+    ("lines by their bytes alone", '"$COLLATE" "$@" | LC_ALL=C sort', lambda program, letters, room: unlike_gnu(program, letters, 10)),
 ]
 
 
 def faults_missed(room, program, letters):
     found = []
     for at, (what, text, wrong) in enumerate(FAULTY):
-        found += [f"not found: {what}"] * (not wrong(wrapped(room, f"lines{at}", program, text), letters))
+        found += [f"not found: {what}"] * (not wrong(wrapped(room, f"lines{at}", program, text), letters, room))
     return found
 
 
 def check_lines(report, room, program, letters):
     report.say("collate-cldr: explanations and reasons", wrong_explanations(program, letters), len(EXPLAINED) + len(REASONS))
+    report.say("collate-cldr: searches", wrong_searches(program, letters, room), len(SEARCHES) + 5)
     report.say("collate-cldr: sorts by fields", wrong_fields(program, letters), len(FIELDS) + len(WRONG_FIELDS))
     report.say("collate-cldr: sorts by fields as those of GNU sort", unlike_gnu(program, letters), 120)
     report.say("collate-cldr: programs with a fault in lines are found", faults_missed(room, program, letters), len(FAULTY))

@@ -1,29 +1,14 @@
-//! The program `collate-cldr`: compares texts, and sorts, checks and shows lines by CLDR's collations.
+//! The program `collate-cldr`: compares texts, and sorts, checks, searches and shows lines by CLDR's collations.
 #![tactic(auto)]
 
-mod asked_locale;
-mod asked_rules;
-mod choice;
-mod data_place;
-mod field_options;
-mod field_words;
-mod file_source;
-mod inputs;
-mod locale_list;
-mod made_collator;
-mod named_settings;
-mod needed_files;
-mod neighbours;
-mod neighbours_counts;
-mod output_file;
+mod asked_collator;
+mod csv_command;
 mod program;
-mod rule_places;
-mod sort_options;
-mod tailored_collator;
-mod words;
+mod search_command;
 
 use collate_commands::Input;
 use program::{report, run};
+use std::io::IsTerminal;
 use std::process::ExitCode;
 
 fn main(rt: HostRuntime) -> ExitCode {
@@ -31,6 +16,7 @@ fn main(rt: HostRuntime) -> ExitCode {
         Ok(words) => run(
             &rt,
             words.as_slice(),
+            rt.stdout().is_terminal(),
             Input(rt.stdin()),
             &mut rt.stdout(),
             &mut rt.stderr(),

@@ -2,21 +2,19 @@
 
 ghost use Rattle.std.specs.Prelude.{◌≤◌, IfOk};
 
-use crate::data_place::{cldr_folder, root_file};
-use crate::field_options::{
-    asks_for_fields, field_ends, keys_of, say_wrong_field, wrong_field_word,
-};
-use crate::file_source::read_file;
-use crate::inputs::read_inputs;
-use crate::locale_list::locale_lines;
-use crate::made_collator::made_collator;
-use crate::neighbours_counts::print_neighbours;
-use crate::output_file::replace_file;
-use crate::sort_options::{separator_of, sort_request_of};
-use crate::words;
+use crate::asked_collator::collator_by_words;
+use crate::csv_command::{check_csv, sort_csv};
+use crate::search_command::search;
 use clap::ArgMatches;
 use clap::error::{Error, ErrorKind};
+use cldr_collators::{cldr_folder, locale_lines, read_file, root_file};
 use collate_commands::{ProgramError, write_text};
+use collate_words::{
+    asks_for_csv, asks_for_fields, collator_request, field_ends, files_of, keys_of, program,
+    say_wrong_field, separator_of, sort_request_of, text_of, wrong_csv_words, wrong_field_word,
+};
+use compiled_tables::{cldr_version, compiled_tables};
+use counted_neighbours::print_neighbours;
 use field_sorts::{FieldSorts, print_sorted_by_fields, text_sorted_by_fields};
 use icu_collator::Collator;
 use keyed_lines::SortRequest;
@@ -25,6 +23,7 @@ use line_commands::{
     sorted_text,
 };
 use line_fields::FieldEnds;
+use named_files::{read_inputs, replace_file};
 use order_reasons::{print_explanation, print_reason};
 use std::io::{Read, Write};
 use std::rt::{Env, Files};
@@ -71,14 +70,6 @@ pub(crate) fn report<E: Write>(error: ProgramError, errors: &mut E) -> u8
     FAILED
 }
 
-/// A text that is required.
-fn text_of<'a>(matches: &ArgMatches<'a>, id: &str) -> &'a str {
-    match matches.get_str(id) {
-        Some(text) => text,
-        None => "",
-    }
-}
-
 /// Prints a text that was asked for.
 fn print<W: Write>(text: &str, output: &mut W) -> Result<u8, ProgramError>
     ensures { IfOk result (λ status. status ≤ 3) }
@@ -113,12 +104,32 @@ fn print_locales<R: Files + Env + AllocGlobal + Clone + Drop, W: Write>(
 ) -> Result<u8, ProgramError>
     ensures { IfOk result (λ status. status ≤ 3) }
 {
-    let folder = cldr_folder(rt, matches)?;
+    let folder = cldr_folder(rt, matches.get_str("cldr"))?;
     let text = locale_lines(rt, folder.as_str())?;
     print(text.as_str(), output)
 }
 
-/// Prints the versions of the program and of the root's data.
+/// What is said of a version that isn't known.
+const UNKNOWN: &str = "of an unknown version";
+
+/// A version, as it is said.
+fn said_version(version: &str) -> &str {
+    if version.is_empty() { UNKNOWN } else { version }
+}
+
+/// The version of CLDR that the data are of, empty where it isn't known, as where another file has the root's.
+fn version_of_data<R: Files + Env + AllocGlobal>(
+    rt: &R,
+    matches: &ArgMatches<'_>,
+) -> Result<String, ProgramError> {
+    if matches.get_str("root").is_some() {
+        return Ok(String::new(rt.alloc()));
+    }
+    let folder = cldr_folder(rt, matches.get_str("cldr"))?;
+    cldr_version(rt, folder.as_str())
+}
+
+/// Prints the versions of the program, of CLDR, and of the root's data.
 fn print_versions<R: Files + Env + AllocGlobal, W: Write>(
     rt: &R,
     matches: &ArgMatches<'_>,
@@ -126,16 +137,29 @@ fn print_versions<R: Files + Env + AllocGlobal, W: Write>(
 ) -> Result<u8, ProgramError>
     ensures { IfOk result (λ status. status ≤ 3) }
 {
-    let file = root_file(rt, matches)?;
+    let file = root_file(rt, matches.get_str("root"), matches.get_str("cldr"))?;
     let root = read_file(rt, file.as_str(), false)?;
-    let unicode = match root.version() {
-        Some(version) => version,
-        None => "of an unknown version",
-    };
+    let unicode = said_version(root.version().unwrap_or(""));
+    let known = version_of_data(rt, matches)?;
+    let cldr = said_version(known.as_str());
     let text = format!(in rt.alloc();
-        "collate-cldr {VERSION}\nroot collation: Unicode {unicode}, {file}\n"
+        "collate-cldr {VERSION}\nCLDR {cldr}\nroot collation: Unicode {unicode}, {file}\n"
     )?;
     print(text.as_str(), output)
+}
+
+/// Writes the tables that words ask for to a file.
+fn compile<R: Files + Env + AllocGlobal>(
+    rt: &R,
+    matches: &ArgMatches<'_>,
+) -> Result<u8, ProgramError>
+    ensures { IfOk result (λ status. status ≤ 3) }
+{
+    let request = collator_request(rt, matches)?;
+    let cldr = version_of_data(rt, matches)?;
+    let bytes = compiled_tables(rt, &request, cldr.as_str())?;
+    replace_file(rt, text_of(matches, "output"), bytes.as_slice())?;
+    Ok(DONE)
 }
 
 /// Whether lines are in order. Where they are not, and that is to be said, the first line that isn't is printed, with
@@ -150,8 +174,8 @@ fn check<R: Files + Env + AllocGlobal, I: Read, E: Write>(
     ensures { IfOk result (λ status. status ≤ 3) }
 {
     let request = sort_request_of(matches);
-    let collator = made_collator(rt, matches)?;
-    let bytes = read_inputs(rt, matches, request.separator, input)?;
+    let collator = collator_by_words(rt, matches)?;
+    let bytes = read_inputs(rt, files_of(matches), request.separator, input)?;
     let Some(index) = first_disorder(rt.alloc(), &collator, bytes.as_slice(), request)? else {
         return Ok(DONE);
     };
@@ -209,8 +233,8 @@ fn sort<R: Files + Env + AllocGlobal, I: Read, W: Write>(
     ensures { IfOk result (λ status. status ≤ 3) }
 {
     let request = sort_request_of(matches);
-    let collator = made_collator(rt, matches)?;
-    let bytes = read_inputs(rt, matches, request.separator, input)?;
+    let collator = collator_by_words(rt, matches)?;
+    let bytes = read_inputs(rt, files_of(matches), request.separator, input)?;
     let file = matches.get_str("output");
     if !asks_for_fields(matches) {
         write_sorted(rt, file, &collator, bytes.as_slice(), request, output)?;
@@ -233,6 +257,60 @@ fn sort<R: Files + Env + AllocGlobal, I: Read, W: Write>(
     Ok(DONE)
 }
 
+/// What is said where keys are asked for of records of CSV.
+const NO_KEYS_OF_RECORDS: &str = "collate-cldr: --key is for lines, and --column for --csv\n";
+
+/// Says what is wrong with the words for fields or for records of CSV, and returns whether something is.
+fn says_wrong_words<R: AllocGlobal, E: Write>(
+    rt: &R,
+    matches: &ArgMatches<'_>,
+    errors: &mut E,
+) -> Result<bool, ProgramError> {
+    if let Some(word) = wrong_field_word(matches) {
+        say_wrong_field(rt.alloc(), word, errors)?;
+        return Ok(true);
+    }
+    if asks_for_csv(matches) && asks_for_fields(matches) {
+        let _ = write_text(errors, NO_KEYS_OF_RECORDS.as_bytes());
+        return Ok(true);
+    }
+    says_wrong_csv(rt, matches, errors)
+}
+
+/// Says what is wrong with the words for records of CSV, and returns whether something is.
+fn says_wrong_csv<R: AllocGlobal, E: Write>(
+    rt: &R,
+    matches: &ArgMatches<'_>,
+    errors: &mut E,
+) -> Result<bool, ProgramError> {
+    match wrong_csv_words(rt.alloc(), matches)? {
+        Some(said) => {
+            let _ = write_text(errors, said.as_bytes());
+            Ok(true)
+        }
+        None => Ok(false),
+    }
+}
+
+/// The command `check`: over lines, or over records of CSV.
+fn check_asked<R: Files + Env + AllocGlobal, I: Read, E: Write>(
+    rt: &R,
+    matches: &ArgMatches<'_>,
+    is_quiet: bool,
+    input: &mut I,
+    errors: &mut E,
+) -> Result<u8, ProgramError>
+    ensures { IfOk result (λ status. status ≤ 3) }
+{
+    if says_wrong_csv(rt, matches, errors)? {
+        return Ok(WRONG_WORDS);
+    }
+    if asks_for_csv(matches) {
+        return check_csv(rt, matches, is_quiet, input, errors);
+    }
+    check(rt, matches, is_quiet, input, errors)
+}
+
 /// The command `sort`: to sort, or to check.
 fn sort_or_check<R: Files + Env + AllocGlobal, I: Read, W: Write, E: Write>(
     rt: &R,
@@ -243,19 +321,21 @@ fn sort_or_check<R: Files + Env + AllocGlobal, I: Read, W: Write, E: Write>(
 ) -> Result<u8, ProgramError>
     ensures { IfOk result (λ status. status ≤ 3) }
 {
-    if let Some(word) = wrong_field_word(matches) {
-        say_wrong_field(rt.alloc(), word, errors)?;
+    if says_wrong_words(rt, matches, errors)? {
         return Ok(WRONG_WORDS);
     }
     let is_quiet = matches.get_flag("check-quietly");
-    if !is_quiet && !matches.get_flag("check") {
-        return sort(rt, matches, input, output);
-    }
-    if asks_for_fields(matches) {
+    let is_check = is_quiet || matches.get_flag("check");
+    if is_check && asks_for_fields(matches) {
         let _ = write_text(errors, NO_CHECK_OF_FIELDS.as_bytes());
         return Ok(WRONG_WORDS);
     }
-    check(rt, matches, is_quiet, input, errors)
+    match (is_check, asks_for_csv(matches)) {
+        (true, true) => check_csv(rt, matches, is_quiet, input, errors),
+        (true, false) => check(rt, matches, is_quiet, input, errors),
+        (false, true) => sort_csv(rt, matches, input, output),
+        (false, false) => sort(rt, matches, input, output),
+    }
 }
 
 /// Prints the order of two texts.
@@ -266,7 +346,7 @@ fn compare<R: Files + Env + AllocGlobal, W: Write>(
 ) -> Result<u8, ProgramError>
     ensures { IfOk result (λ status. status ≤ 3) }
 {
-    let collator = made_collator(rt, matches)?;
+    let collator = collator_by_words(rt, matches)?;
     let is_equal = print_comparison(
         &collator,
         text_of(matches, "A"),
@@ -284,7 +364,7 @@ fn key<R: Files + Env + AllocGlobal, W: Write>(
 ) -> Result<u8, ProgramError>
     ensures { IfOk result (λ status. status ≤ 3) }
 {
-    let collator = made_collator(rt, matches)?;
+    let collator = collator_by_words(rt, matches)?;
     print_key(rt.alloc(), &collator, text_of(matches, "TEXT"), output)?;
     Ok(DONE)
 }
@@ -297,7 +377,7 @@ fn explain<R: Files + Env + AllocGlobal, W: Write>(
 ) -> Result<u8, ProgramError>
     ensures { IfOk result (λ status. status ≤ 3) }
 {
-    let collator = made_collator(rt, matches)?;
+    let collator = collator_by_words(rt, matches)?;
     print_explanation(rt.alloc(), &collator, text_of(matches, "TEXT"), output)?;
     Ok(DONE)
 }
@@ -310,7 +390,7 @@ fn why<R: Files + Env + AllocGlobal, W: Write>(
 ) -> Result<u8, ProgramError>
     ensures { IfOk result (λ status. status ≤ 3) }
 {
-    let collator = made_collator(rt, matches)?;
+    let collator = collator_by_words(rt, matches)?;
     let is_equal = print_reason(
         rt.alloc(),
         &collator,
@@ -331,10 +411,23 @@ fn keys<R: Files + Env + AllocGlobal, I: Read, W: Write>(
     ensures { IfOk result (λ status. status ≤ 3) }
 {
     let separator = separator_of(matches);
-    let collator = made_collator(rt, matches)?;
-    let bytes = read_inputs(rt, matches, separator, input)?;
+    let collator = collator_by_words(rt, matches)?;
+    let bytes = read_inputs(rt, files_of(matches), separator, input)?;
     print_keys(rt.alloc(), &collator, bytes.as_slice(), separator, output)?;
     Ok(DONE)
+}
+
+/// Counts the neighbours of the input that are out of order.
+fn neighbours<R: Files + Env + AllocGlobal, I: Read + Drop, W: Write>(
+    rt: &R,
+    matches: &ArgMatches<'_>,
+    input: I,
+    output: &mut W,
+) -> Result<u8, ProgramError>
+    ensures { IfOk result (λ status. status ≤ 3) }
+{
+    let collator = collator_by_words(rt, matches)?;
+    print_neighbours(rt.alloc(), &collator, input, output)
 }
 
 /// What a command does, by its name and what was matched behind it.
@@ -342,6 +435,7 @@ fn run_command<R: Files + Env + AllocGlobal, I: Read + Drop, W: Write, E: Write>
     rt: &R,
     name: &str,
     matches: &ArgMatches<'_>,
+    is_terminal: bool,
     mut input: I,
     output: &mut W,
     errors: &mut E,
@@ -350,23 +444,26 @@ fn run_command<R: Files + Env + AllocGlobal, I: Read + Drop, W: Write, E: Write>
 {
     match name {
         "sort" => sort_or_check(rt, matches, &mut input, output, errors),
-        "check" => check(rt, matches, matches.get_flag("quiet"), &mut input, errors),
+        "check" => check_asked(rt, matches, matches.get_flag("quiet"), &mut input, errors),
         "compare" => compare(rt, matches, output),
         "why" => why(rt, matches, output),
+        "search" => search(rt, matches, is_terminal, &mut input, output),
         "key" => key(rt, matches, output),
         "explain" => explain(rt, matches, output),
         "keys" => keys(rt, matches, &mut input, output),
-        _ => print_neighbours(rt, matches, input, output),
+        "compile" => compile(rt, matches),
+        _ => neighbours(rt, matches, input, output),
     }
 }
 
 /// What is said where no command is named.
 const NO_COMMAND: &str = "collate-cldr: no command; --help says which there are\n";
 
-/// Makes one run of the program over the words behind its name, and returns the status that it ends with.
+/// Makes one run of the program over the words behind its name, and returns the status that it ends with. Matches are
+/// shown in colour where standard output is a terminal, unless words say otherwise.
 ///
 /// - 0: nothing is wrong.
-/// - 1: lines aren't in order, or texts differ.
+/// - 1: lines aren't in order, texts differ, or no line was found.
 /// - 2: the words are wrong; `errors` says which.
 /// - 3: data, memory, input or output are missing or fail; `errors` says which.
 ///
@@ -374,13 +471,14 @@ const NO_COMMAND: &str = "collate-cldr: no command; --help says which there are\
 pub(crate) fn run<R: Files + Env + AllocGlobal + Clone + Drop, I: Read + Drop, W: Write, E: Write>(
     rt: &R,
     words: &[String],
+    is_terminal: bool,
     input: I,
     output: &mut W,
     errors: &mut E,
 ) -> u8
     ensures { result ≤ 3 }
 {
-    let Ok(command) = words::program(rt.alloc()) else {
+    let Ok(command) = program(rt.alloc()) else {
         return report(ProgramError::NoMemory, errors);
     };
     let matches = match command.try_get_matches_from(words) {
@@ -388,7 +486,7 @@ pub(crate) fn run<R: Files + Env + AllocGlobal + Clone + Drop, I: Read + Drop, W
         Err(error) => return run_wrong_words(rt, &error, output, errors),
     };
     let status = match matches.subcommand() {
-        Some((name, inner)) => run_command(rt, name, inner, input, output, errors),
+        Some((name, inner)) => run_command(rt, name, inner, is_terminal, input, output, errors),
         None if matches.get_flag("version") => print_versions(rt, &matches, output),
         None if matches.get_flag("list-locales") => print_locales(rt, &matches, output),
         None => {

@@ -6,4 +6,4 @@ pub mod record_fields;
 pub mod record_place;
 
 pub use csv_cuts::{csv_records, is_closed, line_of_record, past_mark};
-pub use record_fields::{column_field, column_named, csv_fields};
+pub use record_fields::{FieldsError, column_field, column_named, csv_fields};

@@ -4,15 +4,25 @@ ghost use Rattle.std.specs.Prelude.{◌≡◌, IfOk, option_map};
 ghost use Rattle.csv.specs.Records.{field_at, fields_of};
 ghost use Rattle.csv_records.specs.CsvFields.{csv_fields};
 
-use csv::{ByteRecord, ReaderBuilder};
-use std::alloc::{AllocError, Global};
+use csv::{ByteRecord, ErrorKind, ReaderBuilder};
+use std::alloc::Global;
+
+/// Why the fields of a record aren't read.
+#[derive(Debug, Clone, Copy, PartialEq, Eq)]
+pub enum FieldsError {
+    /// An allocation failed.
+    NoMemory,
+    /// A read failed. Bytes in memory have none that does, but no clause of the toolchain's `csv` says so.
+    ReadFailed,
+}
 
 /// The fields of a record, without their quotes, as the toolchain's `csv` reads its bytes.
 ///
 /// # Errors
 ///
-/// Fails only where an allocation does.
-pub fn csv_fields(alloc: Global, delimiter: u8, bytes: &[u8]) -> Result<ByteRecord, AllocError>
+/// Fails where an allocation does, or where `csv` says that a read of the bytes did. No record is refused: it may have
+/// any number of fields, and these any bytes.
+pub fn csv_fields(alloc: Global, delimiter: u8, bytes: &[u8]) -> Result<ByteRecord, FieldsError>
     ensures { IfOk result (λ row. fields_of row ≡ csv_fields delimiter bytes.now) }
 {
     let mut reader = ReaderBuilder::new()
@@ -24,7 +34,14 @@ pub fn csv_fields(alloc: Global, delimiter: u8, bytes: &[u8]) -> Result<ByteReco
     match reader.read_byte_record(&mut row) {
         Ok(true) => Ok(row),
         Ok(false) => Ok(ByteRecord::new(alloc)),
-        Err(_) => Err(AllocError),
+        Err(error) => match error.into_kind() {
+            ErrorKind::OutOfMemory => Err(FieldsError::NoMemory),
+            ErrorKind::Io(_) => Err(FieldsError::ReadFailed),
+            ErrorKind::Utf8 { .. }
+            | ErrorKind::UnequalLengths { .. }
+            | ErrorKind::Serialize(_)
+            | ErrorKind::Deserialize { .. } => unreachable!(),
+        },
     }
 }
 

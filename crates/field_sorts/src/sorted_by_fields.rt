@@ -14,8 +14,12 @@ use keyed_lines::written_lines::written_lines;
 use keyed_lines::{KeyedLine, LineKeys, LineOrder, SortRequest, lines_by, sort_keyed_lines};
 use std::alloc::{AllocError, Global};
 
-/// Lines with their keys, sorted by them.
-fn sorted_by_keys<'a>(
+/// Lines with their keys, one for each, sorted by them; those of which neither comes first stand as they stood.
+///
+/// # Errors
+///
+/// Fails only where an allocation does.
+pub fn sorted_by_keys<'a>(
     keys: &'a LineKeys,
     lines: &[&'a [u8]],
     order: LineOrder,

@@ -1,5 +1,5 @@
 -- Lines with their keys are sorted as the keys are.
-use Rattle.std.proofs.Common.{◌≡◌, ℕ, List, map, ap, ◌∙◌, subst}
+use Rattle.std.proofs.Common.{◌≡◌, map, ap, ◌∙◌, subst}
 use Rattle.std.specs.List.{zip}
 use Rattle.icu_index.specs.Listings.{IsStablySorted}
 use Rattle.icu_levels.specs.ListOrder.{list_order}

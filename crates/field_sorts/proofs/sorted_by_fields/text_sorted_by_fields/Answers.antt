@@ -1,8 +1,7 @@
 -- The lines that were cut are sorted, and those that are asked for are written.
 use Rattle.std.proofs.Common.{◌≡◌, ℕ, List, map, ap, ◌∙◌, subst, sym}
-use Rattle.icu_collator.specs.Collators.{collation_borrowed, collation_kept}
+use Rattle.icu_collator.specs.Collators.{collation_kept}
 use Rattle.icu_index.specs.Listings.{IsStablySorted}
-use Rattle.icu_weighting.specs.Collations.{Collation}
 use Rattle.keyed_lines.proofs.FirstLineLemmas.{printed_as}
 use Rattle.keyed_lines.specs.FirstLines.{have_one_key, printed}
 use Rattle.keyed_lines.specs.InputLines.{ended_lines, lines_by}

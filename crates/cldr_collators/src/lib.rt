@@ -1,0 +1,19 @@
+//! Collators by CLDR's data: by the root alone, or by the rules of a locale over it, read from the files of a folder.
+#![tactic(auto)]
+
+pub mod asked_locale;
+pub mod asked_rules;
+pub mod choice;
+pub mod data_place;
+pub mod file_source;
+pub mod locale_list;
+pub mod made_collator;
+pub mod needed_files;
+mod rule_places;
+pub mod tailored_collator;
+
+pub use asked_rules::{LocaleRules, rules_of};
+pub use choice::Chosen;
+pub use data_place::{cldr_folder, root_file};
+pub use file_source::{read_file, root_collator};
+pub use locale_list::locale_lines;

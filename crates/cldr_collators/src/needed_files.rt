@@ -1,0 +1,173 @@
+//! The files of collations, as far as they are needed.
+
+use collate_commands::ProgramError;
+use icu_ldml::{CollationFile, LdmlError, LocaleFile, collation_of, parent_of};
+use icu_locale::{LanguageTag, TagError};
+use icu_locale_rules::{CollationName, import_tags, taken_collation};
+use named_files::{joined, refused, refused_by};
+use std::alloc::{AllocError, Global};
+use std::fs;
+use std::io::{ErrorKind, Read};
+use std::rt::Files;
+
+/// How many texts of rules are read for what they import. `Rules::resolve` allows as many imports.
+const IMPORTS: u32 = 256;
+
+/// The text of a file, if the file is there.
+fn text_of_file<R: Files + AllocGlobal>(
+    rt: &R,
+    file: &str,
+) -> Result<Option<String>, ProgramError> {
+    let mut opened = match fs::open(rt, file) {
+        Ok(opened) => opened,
+        Err(e) if e.kind() == ErrorKind::NotFound => return Ok(None),
+        Err(_) => return Err(refused(rt.alloc(), file, "not opened")),
+    };
+    let mut text = String::new(rt.alloc());
+    match opened.read_to_string(&mut text) {
+        Ok(_) => Ok(Some(text)),
+        Err(e) if e.kind() == ErrorKind::OutOfMemory => Err(ProgramError::NoMemory),
+        Err(_) => Err(refused(rt.alloc(), file, "read failed")),
+    }
+}
+
+/// What a file of collations says, if the file is there.
+fn collations_in<R: Files + AllocGlobal>(
+    rt: &R,
+    file: &str,
+) -> Result<Option<CollationFile>, ProgramError> {
+    let Some(text) = text_of_file(rt, file)? else {
+        return Ok(None);
+    };
+    match CollationFile::parse(rt.alloc(), text.as_str()) {
+        Ok(found) => Ok(Some(found)),
+        Err(LdmlError::NoMemory) => Err(ProgramError::NoMemory),
+        Err(error) => Err(refused_by(rt.alloc(), file, &error)),
+    }
+}
+
+/// The name of the file of a locale's collations.
+pub(crate) fn collation_file(
+    alloc: Global,
+    folder: &str,
+    locale: &str,
+) -> Result<String, AllocError> {
+    let mut file = joined(alloc, folder, "/common/collation/")?;
+    file.push_str(locale)?;
+    file.push_str(".xml")?;
+    Ok(file)
+}
+
+/// Whether the file of a locale was read.
+fn has_file(files: &[LocaleFile], locale: &str) -> bool {
+    for file in files {
+        if file.locale.as_str() == locale {
+            return true;
+        }
+    }
+    false
+}
+
+/// Reads the file of a locale, if it is there and wasn't read. Each folder has that of the root.
+fn add_file<R: Files + AllocGlobal>(
+    rt: &R,
+    folder: &str,
+    locale: &str,
+    files: &mut Vec<LocaleFile>,
+) -> Result<(), ProgramError> {
+    if has_file(files.as_slice(), locale) {
+        return Ok(());
+    }
+    let path = collation_file(rt.alloc(), folder, locale)?;
+    match collations_in(rt, path.as_str())? {
+        Some(file) => {
+            let locale = locale.to_string(rt.alloc())?;
+            files.push(LocaleFile { locale, file })?;
+            Ok(())
+        }
+        None if locale == "root" => Err(refused(
+            rt.alloc(),
+            path.as_str(),
+            "not opened; Debian's package unicode-cldr-core has it, and --cldr says where it is",
+        )),
+        None => Ok(()),
+    }
+}
+
+/// Reads the files of a locale and of its parents, up to the root's.
+pub(crate) fn add_files<R: Files + AllocGlobal>(
+    rt: &R,
+    folder: &str,
+    locale: &str,
+    files: &mut Vec<LocaleFile>,
+) -> Result<(), ProgramError> {
+    let mut at = Some(locale);
+    for _ in 0..=locale.len() + 2 {
+        let Some(name) = at else {
+            break;
+        };
+        add_file(rt, folder, name, files)?;
+        at = parent_of(name);
+    }
+    Ok(())
+}
+
+/// The collation that a tag of an import names, where it is one.
+fn imported_name(alloc: Global, tag: &str) -> Result<Option<CollationName>, ProgramError> {
+    match LanguageTag::parse(alloc, tag) {
+        Ok(tag) => Ok(Some(CollationName::of_tag(alloc, &tag)?)),
+        Err(TagError::NoMemory) => Err(ProgramError::NoMemory),
+        Err(_) => Ok(None),
+    }
+}
+
+/// Pushes the names that a text of rules may import and that weren't pushed before.
+fn push_imports(
+    alloc: Global,
+    rules: &str,
+    names: &mut Vec<CollationName>,
+) -> Result<(), ProgramError> {
+    for tag in import_tags(alloc, rules)? {
+        if let Some(name) = imported_name(alloc, tag)? {
+            names.push(name)?;
+        }
+    }
+    Ok(())
+}
+
+/// The files from which the rules of a name come, and those that they import.
+pub(crate) fn files_of_collation<R: Files + AllocGlobal>(
+    rt: &R,
+    folder: &str,
+    name: &CollationName,
+) -> Result<Vec<LocaleFile>, ProgramError> {
+    let mut files = Vec::new(rt.alloc());
+    add_files(rt, folder, name.locale.as_str(), &mut files)?;
+    let mut names = Vec::new(rt.alloc());
+    if let Some(taken) = taken_collation(files.as_slice(), name) {
+        push_imports(rt.alloc(), taken.collation.rules.as_str(), &mut names)?;
+    }
+    for _ in 0..IMPORTS {
+        let Some(imported) = names.pop() else {
+            break;
+        };
+        add_imported(rt, folder, &imported, &mut files, &mut names)?;
+    }
+    Ok(files)
+}
+
+/// Reads the files of an imported name, and pushes the names that its rules import.
+fn add_imported<R: Files + AllocGlobal>(
+    rt: &R,
+    folder: &str,
+    imported: &CollationName,
+    files: &mut Vec<LocaleFile>,
+    names: &mut Vec<CollationName>,
+) -> Result<(), ProgramError> {
+    let locale = imported.locale.as_str();
+    add_files(rt, folder, locale, files)?;
+    match collation_of(files.as_slice(), locale, imported.type_or_standard()) {
+        Some(found) => push_imports(rt.alloc(), found.collation.rules.as_str(), names),
+        None => Ok(()),
+    }
+}

@@ -1,4 +1,0 @@
-pub mod Files
-pub mod Neighbours
-pub mod KeyedTexts
-pub mod RuledCollators

@@ -1,0 +1,127 @@
+//! The commands `sort` and `check` over records of CSV.
+
+ghost use Rattle.std.specs.Prelude.{◌≤◌, IfOk};
+
+use crate::asked_collator::collator_by_words;
+use clap::ArgMatches;
+use collate_commands::{ProgramError, write_text};
+use collate_words::{column_words, csv_delimiter, csv_request_of, files_of, has_header};
+use csv_sorts::{
+    CsvError, CsvRequest, column_disorder_text, columns_of_words, csv_error_said,
+    first_column_disorder, print_sorted_by_columns, text_sorted_by_columns,
+};
+use icu_collator::Collator;
+use named_files::{read_inputs, replace_file};
+use std::io::{Read, Write};
+use std::rt::{Env, Files};
+
+/// The name of the input, for what is said of it.
+fn source_of<'m, 'a>(matches: &'m ArgMatches<'a>) -> &'m str {
+    match files_of(matches) {
+        [file, ..] if *file != "-" => file,
+        _ => "standard input",
+    }
+}
+
+/// What is said of an error of records.
+fn refused_csv<R: AllocGlobal>(
+    rt: &R,
+    matches: &ArgMatches<'_>,
+    text: &[u8],
+    error: CsvError,
+) -> ProgramError {
+    csv_error_said(
+        rt.alloc(),
+        source_of(matches),
+        csv_delimiter(matches),
+        text,
+        column_words(matches),
+        error,
+    )
+}
+
+/// The columns that words name.
+fn columns<R: AllocGlobal>(
+    rt: &R,
+    matches: &ArgMatches<'_>,
+    text: &[u8],
+) -> Result<Vec<usize>, ProgramError> {
+    let words = column_words(matches);
+    match columns_of_words(
+        rt.alloc(),
+        csv_delimiter(matches),
+        has_header(matches),
+        text,
+        words,
+    ) {
+        Ok(columns) => Ok(columns),
+        Err(error) => Err(refused_csv(rt, matches, text, error)),
+    }
+}
+
+/// Prints records in order, or writes them to a file.
+fn write_sorted_csv<R: Files + AllocGlobal, W: Write>(
+    rt: &R,
+    matches: &ArgMatches<'_>,
+    collator: &Collator,
+    request: CsvRequest<'_>,
+    text: &[u8],
+    output: &mut W,
+) -> Result<(), ProgramError> {
+    let Some(file) = matches.get_str("output") else {
+        return match print_sorted_by_columns(rt.alloc(), collator, request, text, output) {
+            Ok(()) => Ok(()),
+            Err(error) => Err(refused_csv(rt, matches, text, error)),
+        };
+    };
+    match text_sorted_by_columns(rt.alloc(), collator, request, text) {
+        Ok(sorted) => replace_file(rt, file, sorted.as_slice()),
+        Err(error) => Err(refused_csv(rt, matches, text, error)),
+    }
+}
+
+/// Prints records of CSV in order, or writes them to the file that is asked for.
+pub(crate) fn sort_csv<R: Files + Env + AllocGlobal, I: Read, W: Write>(
+    rt: &R,
+    matches: &ArgMatches<'_>,
+    input: &mut I,
+    output: &mut W,
+) -> Result<u8, ProgramError>
+    ensures { IfOk result (λ status. status ≤ 3) }
+{
+    let collator = collator_by_words(rt, matches)?;
+    let bytes = read_inputs(rt, files_of(matches), b'\n', input)?;
+    let columns = columns(rt, matches, bytes.as_slice())?;
+    let request = csv_request_of(matches, columns.as_slice());
+    write_sorted_csv(rt, matches, &collator, request, bytes.as_slice(), output)?;
+    Ok(0)
+}
+
+/// Whether records of CSV are in order. Where they are not, and that is to be said, the first that isn't is printed,
+/// with the line at which it begins.
+pub(crate) fn check_csv<R: Files + Env + AllocGlobal, I: Read, E: Write>(
+    rt: &R,
+    matches: &ArgMatches<'_>,
+    is_quiet: bool,
+    input: &mut I,
+    errors: &mut E,
+) -> Result<u8, ProgramError>
+    ensures { IfOk result (λ status. status ≤ 3) }
+{
+    let collator = collator_by_words(rt, matches)?;
+    let bytes = read_inputs(rt, files_of(matches), b'\n', input)?;
+    let columns = columns(rt, matches, bytes.as_slice())?;
+    let request = csv_request_of(matches, columns.as_slice());
+    let wrong = match first_column_disorder(rt.alloc(), &collator, request, bytes.as_slice()) {
+        Ok(wrong) => wrong,
+        Err(error) => return Err(refused_csv(rt, matches, bytes.as_slice(), error)),
+    };
+    let Some(index) = wrong else {
+        return Ok(0);
+    };
+    if !is_quiet {
+        let said = column_disorder_text(rt.alloc(), request, bytes.as_slice(), index)?;
+        let _ = write_text(errors, said.as_slice());
+    }
+    Ok(1)
+}

@@ -1,0 +1,47 @@
+//! How lines are to be sorted, by options.
+
+use clap::ArgMatches;
+use keyed_lines::{Direction, LineOrder, Repeats, SortRequest, Ties};
+
+/// The byte behind each line.
+pub fn separator_of(matches: &ArgMatches<'_>) -> u8 {
+    if matches.get_flag("zero-terminated") {
+        0
+    } else {
+        b'\n'
+    }
+}
+
+/// The direction of an order.
+fn direction_of(matches: &ArgMatches<'_>) -> Direction {
+    if matches.get_flag("reverse") {
+        Direction::Descending
+    } else {
+        Direction::Ascending
+    }
+}
+
+/// What lines that are equal stand by: their bytes, unless they are to stand as they came, or the first alone counts.
+fn ties_of(matches: &ArgMatches<'_>) -> Ties {
+    if matches.get_flag("stable") || matches.get_flag("unique") {
+        Ties::AsTheyCame
+    } else {
+        Ties::ByBytes
+    }
+}
+
+/// How lines are to be sorted.
+pub fn sort_request_of(matches: &ArgMatches<'_>) -> SortRequest {
+    SortRequest {
+        order: LineOrder {
+            direction: direction_of(matches),
+            ties: ties_of(matches),
+        },
+        repeats: if matches.get_flag("unique") {
+            Repeats::FirstOnly
+        } else {
+            Repeats::All
+        },
+        separator: separator_of(matches),
+    }
+}

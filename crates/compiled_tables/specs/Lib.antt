@@ -1,0 +1,2 @@
+pub mod CompiledFiles
+pub mod WrittenFiles

@@ -1,0 +1,39 @@
+//! The version of CLDR's data.
+
+use collate_commands::ProgramError;
+use named_files::{joined, refused};
+use std::fs;
+use std::io::ErrorKind;
+use std::rt::Files;
+
+/// The file of a folder of CLDR's data that has its version.
+const VERSION_FILE: &str = "/common/dtd/ldml.dtd";
+
+/// What stands before the version there.
+const BEFORE: &str = "cldrVersion CDATA #FIXED \"";
+
+/// The version that a text has.
+fn version_in(text: &str) -> Option<&str> {
+    let (_, behind) = text.split_once(BEFORE)?;
+    let (version, _) = behind.split_once("\"")?;
+    Some(version)
+}
+
+/// The version of CLDR whose data a folder has, as `41`; empty where its file `ldml.dtd` isn't there or doesn't say it.
+///
+/// # Errors
+///
+/// Fails where an allocation does, or with a line that names the file, where it is there and isn't read.
+pub fn cldr_version<R: Files + AllocGlobal>(rt: &R, folder: &str) -> Result<String, ProgramError> {
+    let file = joined(rt.alloc(), folder, VERSION_FILE)?;
+    let text = match fs::read_to_string(rt, file.as_str()) {
+        Ok(text) => text,
+        Err(e) if e.kind() == ErrorKind::NotFound => return Ok(String::new(rt.alloc())),
+        Err(e) if e.kind() == ErrorKind::OutOfMemory => return Err(ProgramError::NoMemory),
+        Err(_) => return Err(refused(rt.alloc(), file.as_str(), "not read")),
+    };
+    match version_in(text.as_str()) {
+        Some(version) => Ok(version.to_string(rt.alloc())?),
+        None => Ok(String::new(rt.alloc())),
+    }
+}

@@ -1,0 +1,4 @@
+pub mod HeadLemmas
+pub mod StopLemmas
+pub mod DisorderLemmas
+pub mod ErrorLemmas

@@ -1,0 +1,75 @@
+-- The records behind the header are sorted by their keys, and those that are asked for are written behind it.
+use Rattle.std.proofs.lemmas.Result.{err_from_is_err_and}
+use Rattle.std.proofs.Common.{◌≡◌, ◌++◌, ℕ, List, map, ap, ◌∙◌, subst}
+use Rattle.std.specs.List.{AllByRecursion}
+use Rattle.icu_collator.specs.Collators.{collation_kept}
+use Rattle.icu_index.specs.Listings.{IsStablySorted}
+use Rattle.icu_levels.specs.ListOrder.{list_order}
+use Rattle.keyed_lines.proofs.FirstLineLemmas.{printed_as}
+use Rattle.keyed_lines.specs.FirstLines.{have_one_key, printed}
+use Rattle.keyed_lines.specs.InputLines.{ended_lines}
+use Rattle.keyed_lines.specs.KeyBuffers.{keys_in, line_bytes}
+use Rattle.keyed_lines.specs.KeyedOrders.{ordered_as}
+use Rattle.keyed_lines.specs.ShownLines.{shown_lines}
+use Rattle.csv_sorts.proofs.ErrorLemmas.{csv_lacks, csv_open}
+use Rattle.csv_sorts.proofs.HeadLemmas.{shown_body, shown_header}
+use Rattle.csv_sorts.specs.ColumnOrders.{HasColumns, body_of, columns_key, columns_order, header_of}
+use Rattle.csv_sorts.specs.SortedRecords.{front_mark}
+use Rattle.csv_sorts.proofs.sorted_records.text_sorted_by_columns.Goals as goal
+
+pub returns-clause-sorts : goal.returns-clause-sorts
+returns-clause-sorts c =
+    let collation = collation_kept c.args.collator.now in
+    let r = c.args.request in
+    let d = r.delimiter in
+    let columns = r.columns.now in
+    let key : List ℕ → List ℕ = columns_key collation d columns in
+    let records = shown_lines c.in_ok-records.records.items in
+    let sorted = c.in_ok-sorted.sorted.items in
+    let lines = map line_bytes sorted in
+    let header = c.header_of-header.result.now in
+    let body = c.body_of-body.result.now in
+    let head : shown_lines header ≡ header_of r.has_header records =
+    ap shown_lines c.header_of-header.ensures
+    ∙ (shown_header r.has_header c.as_slice.result.now ∙ ap (λ rs. header_of r.has_header (shown_lines rs)) c.as_slice.ensures.value) in
+    let behind : shown_lines body ≡ body_of r.has_header records =
+    ap shown_lines c.body_of-body.ensures
+    ∙ (shown_body r.has_header c.as_slice-2.result.now ∙ ap (λ rs. body_of r.has_header (shown_lines rs)) c.as_slice-2.ensures.value) in
+    let keyed : keys_in c.in_ok-keys.keys ≡ map key (shown_lines body) =
+    c.in_ok-keys.ensures.keys ∙ ap (λ k. map (columns_key k d columns) (shown_lines body)) c.as_borrowed.ensures in
+    let are = c.in_ok-sorted.ensures key keyed in
+    let ends = ended_lines 10 (map line_bytes (printed c.written_as-written.result.repeats have_one_key c.as_slice-3.result.now)) in
+    let last =
+    ap (λ p. ended_lines 10 (map line_bytes (printed p have_one_key c.as_slice-3.result.now))) c.written_as-written.ensures.repeats
+    ∙ (ap (λ ls. ended_lines 10 (map line_bytes (printed r.repeats have_one_key ls))) c.as_slice-3.ensures.value
+    ∙ ap (ended_lines 10) (printed_as key r.repeats sorted are.keyed)) in
+    record {
+      records = records;
+      cut = c.in_ok-records.ensures.cut;
+      complete = subst (λ rs. AllByRecursion (HasColumns d columns) rs) behind c.in_ok-keys.ensures.has;
+      lines = lines;
+      sorted =
+          subst (λ ls. IsStablySorted (columns_order collation d columns r.direction) ls lines) behind
+          (subst (λ o. IsStablySorted (ordered_as o (λ x y. list_order (key x) (key y)) list_order) (shown_lines body) lines) c.written_as-written.ensures.order are.sorted);
+      written =
+          c.in_ok-output.ensures
+          ∙ (ap (λ (m : List ℕ). m ++ (ended_lines 10 (shown_lines header) ++ ends)) c.front_mark.ensures
+          ∙ (ap (λ hs. front_mark c.args.text.now ++ (ended_lines 10 hs ++ ends)) head
+          ∙ ap (λ (e : List ℕ). front_mark c.args.text.now ++ (ended_lines 10 (header_of r.has_header records) ++ e)) last));
+    }
+
+pub returns-in_err-records-clause-explains : goal.returns-in_err-records-clause-explains
+returns-in_err-records-clause-explains c =
+    let p = err_from_is_err_and c.from_residual.result c.from_residual.ensures.1 in
+    rw (p.1, p.2) (csv_open c.args.request c.args.text.now c.in_err-records.field-0.0 c.in_err-records.ensures.explains)
+
+pub returns-in_err-keys-clause-explains : goal.returns-in_err-keys-clause-explains
+returns-in_err-keys-clause-explains c =
+    let r = c.args.request in
+    let records = shown_lines c.in_ok-records.records.items in
+    let behind : shown_lines c.body_of-body.result.now ≡ body_of r.has_header records =
+    ap shown_lines c.body_of-body.ensures
+    ∙ (shown_body r.has_header c.as_slice-2.result.now ∙ ap (λ rs. body_of r.has_header (shown_lines rs)) c.as_slice-2.ensures.value) in
+    let p = err_from_is_err_and c.from_residual-in_err-keys.result c.from_residual-in_err-keys.ensures.1 in
+    rw (p.1, p.2)
+    (csv_lacks r c.args.text.now records (shown_lines c.body_of-body.result.now) c.in_err-keys.field-0.0 c.in_ok-records.ensures.cut behind c.in_err-keys.ensures.explains)

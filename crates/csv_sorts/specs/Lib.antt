@@ -1,0 +1,4 @@
+pub mod ColumnOrders
+pub mod CsvErrors
+pub mod SortedRecords
+pub mod ColumnDisorders

@@ -1,0 +1,5 @@
+pub use Rattle.icu_search.specs.Searches
+pub use Rattle.keyed_lines.specs.InputLines
+pub mod LineSearches
+pub mod ShownMatches
+pub mod WantedLines

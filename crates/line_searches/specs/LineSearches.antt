@@ -1,0 +1,33 @@
+-- What is found in a line (UTS #10, "Searching and Matching"). A line is bytes in UTF-8 that may be damaged.
+use Rattle.std.specs.Prelude.{ℕ, Bool, true, false, not, List, [], ◌∷◌, encode_utf8_all, map}
+use Rattle.icu_encodings.specs.DecodedTexts.{utf8_text}
+use Rattle.icu_search.specs.LeastMatches.{Span}
+use Rattle.icu_search.specs.Searches.{Search, found}
+use Rattle.icu_text_search.specs.Searchers.{search_by}
+use Rattle.icu_text_search.specs.TextOffsets.{match_in_units, str_offsets}
+use Rattle.icu_text_search.specs.declared.boundary.Boundary.{Boundary}
+use Rattle.line_searches.specs.declared.search_request.Wanted.{Wanted}
+use Rattle.line_searches.specs.declared.search_request.Wanted.TheVariants.{WithMatch, WithoutMatch}
+
+-- a line in UTF-8, with U+FFFD for each part that is damaged
+abbrev pub decoded_line : List ℕ → List ℕ
+decoded_line line = encode_utf8_all (utf8_text line)
+
+-- the matches that are found in characters with these bytes between boundaries of a kind, by the bytes
+abbrev pub found_by : Boundary → Search → List ℕ → List ℕ → List Span
+found_by boundary s text bytes =
+    map (match_in_units (str_offsets text)) (found (search_by boundary s (str_offsets text) bytes) text)
+
+-- the matches that are found in a line, by the bytes of the decoded line
+abbrev pub found_in : Boundary → Search → List ℕ → List Span
+found_in boundary s line = found_by boundary s (utf8_text line) (decoded_line line)
+
+-- whether there are matches
+abbrev pub are_some : List Span → Bool
+are_some [] = false
+are_some (m ∷ ms) = true
+
+-- a line with these matches is wanted
+abbrev pub is_line_wanted : Wanted → List Span → Bool
+is_line_wanted WithMatch matches = are_some matches
+is_line_wanted WithoutMatch matches = not (are_some matches)

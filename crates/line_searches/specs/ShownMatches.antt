@@ -1,0 +1,28 @@
+-- How matches of a line are shown.
+use Rattle.std.specs.Prelude.{ℕ, ◌-◌, List, [], ◌∷◌, ◌++◌, codes, drop, take}
+use Rattle.icu_search.specs.LeastMatches.{Span}
+
+-- what stands from a byte up to another
+abbrev pub bytes_between : List ℕ → ℕ → ℕ → List ℕ
+bytes_between bytes start stop = take (stop - start) (drop start bytes)
+
+-- what stands before and behind what is in colour, as grep shows matches (ECMA-48, "Select Graphic Rendition")
+abbrev pub colour_on : List ℕ
+colour_on = 27 ∷ codes "[01;31m" ++ 27 ∷ codes "[K"
+
+-- what stands behind it
+abbrev pub colour_off : List ℕ
+colour_off = 27 ∷ codes "[m" ++ 27 ∷ codes "[K"
+
+-- a match in colour
+abbrev pub coloured : List ℕ → List ℕ
+coloured bytes = colour_on ++ (bytes ++ colour_off)
+
+-- what stands before a match from a byte on, and the match in colour
+abbrev pub next_coloured : List ℕ → ℕ → Span → List ℕ
+next_coloured line at m = bytes_between line at m.start ++ coloured (bytes_between line m.start m.stop)
+
+-- a line from a byte on, with its matches behind that in colour
+abbrev pub coloured_from : List ℕ → ℕ → List Span → List ℕ
+coloured_from line at [] = drop at line
+coloured_from line at (m ∷ ms) = next_coloured line at m ++ coloured_from line m.stop ms

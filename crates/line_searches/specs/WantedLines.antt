@@ -1,0 +1,62 @@
+-- How lines that are wanted are printed.
+use Rattle.std.specs.Prelude.{ℕ, ◌+◌, nat_lt, Bool, List, [], ◌∷◌, ◌++◌, if◌then◌else◌, filter, length}
+use Rattle.std.specs.Fmt.{decimal}
+use Rattle.icu_search.specs.LeastMatches.{Span}
+use Rattle.icu_search.specs.Searches.{Search}
+use Rattle.line_searches.specs.LineSearches.{decoded_line, found_in, is_line_wanted}
+use Rattle.line_searches.specs.ShownMatches.{bytes_between, coloured, coloured_from}
+use Rattle.line_searches.specs.declared.search_request.SearchRequest.{SearchRequest}
+use Rattle.line_searches.specs.declared.search_request.Shown.{Shown}
+use Rattle.line_searches.specs.declared.search_request.Shown.TheVariants as shows
+
+-- the number of a line and a colon, where that is asked for
+abbrev pub number_before : Bool → ℕ → List ℕ
+number_before is_numbered number = if is_numbered then decimal number ++ 58 ∷ [] else []
+
+-- a printed line: what stands before it, maybe its number, bytes, and what ends it
+abbrev pub printed_line : SearchRequest → ℕ → List ℕ → List ℕ
+printed_line r number bytes = r.prefix.now ++ (number_before r.is_numbered number ++ (bytes ++ r.separator ∷ []))
+
+-- a match as it is shown, by itself
+abbrev pub match_text : Shown → List ℕ → List ℕ
+match_text shows.ColouredMatches bytes = coloured bytes
+match_text _ bytes = bytes
+
+-- a match on a line of its own, unless it is empty
+abbrev pub match_line : SearchRequest → ℕ → List ℕ → Span → List ℕ
+match_line r number decoded m =
+    if nat_lt m.start m.stop then printed_line r number (match_text r.shown (bytes_between decoded m.start m.stop)) else []
+
+-- the matches of a line so
+abbrev pub match_lines : SearchRequest → ℕ → List ℕ → List Span → List ℕ
+match_lines r number decoded [] = []
+match_lines r number decoded (m ∷ ms) = match_line r number decoded m ++ match_lines r number decoded ms
+
+-- a line with matches as it is printed
+abbrev pub shown_with : Shown → SearchRequest → ℕ → List ℕ → List Span → List ℕ
+shown_with shows.Line r number line matches = printed_line r number line
+shown_with shows.ColouredLine r number line matches = printed_line r number (coloured_from (decoded_line line) 0 matches)
+shown_with shows.Matches r number line matches = match_lines r number (decoded_line line) matches
+shown_with shows.ColouredMatches r number line matches = match_lines r number (decoded_line line) matches
+
+-- a line with these matches as it is printed, if it is wanted
+abbrev pub shown_if_wanted : SearchRequest → ℕ → List ℕ → List Span → List ℕ
+shown_if_wanted r number line matches = if is_line_wanted r.wanted matches then shown_with r.shown r number line matches else []
+
+-- whether a request wants a line
+abbrev pub wants : SearchRequest → Search → List ℕ → Bool
+wants r s line = is_line_wanted r.wanted (found_in r.boundary s line)
+
+-- the lines that are wanted, as they are printed, where the first has this number
+abbrev pub wanted_from : SearchRequest → Search → ℕ → List (List ℕ) → List ℕ
+wanted_from r s number [] = []
+wanted_from r s number (line ∷ lines) =
+    shown_if_wanted r number line (found_in r.boundary s line) ++ wanted_from r s (number + 1) lines
+
+-- how many lines are wanted
+abbrev pub wanted_count : SearchRequest → Search → List (List ℕ) → ℕ
+wanted_count r s lines = length (filter (wants r s) lines)
+
+-- a number behind what stands before it, with a line feed
+abbrev pub count_text : List ℕ → ℕ → List ℕ
+count_text prefix count = prefix ++ (decimal count ++ 10 ∷ [])

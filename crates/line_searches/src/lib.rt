@@ -1,0 +1,13 @@
+//! Lines that hold a match of a pattern by a collator (UTS #10, "Searching and Matching"), and those that don't.
+#![tactic(auto)]
+
+pub mod line_matches;
+pub mod printed_searches;
+pub mod search_request;
+mod shown_matches;
+pub mod wanted_lines;
+
+pub use line_matches::{LineMatches, matches_of_line};
+pub use printed_searches::{print_count, print_wanted};
+pub use search_request::{SearchRequest, Shown, Wanted};
+pub use wanted_lines::{WantedText, count_wanted, wanted_text};

@@ -1,0 +1,42 @@
+//! Which lines are asked for, and how they are printed.
+
+use icu_text_search::Boundary;
+
+/// Which lines are wanted.
+#[derive(Debug, Clone, Copy, PartialEq, Eq)]
+pub enum Wanted {
+    /// Those that hold a match.
+    WithMatch,
+    /// Those that hold none.
+    WithoutMatch,
+}
+
+/// What is printed of a line that is wanted.
+#[derive(Debug, Clone, Copy, PartialEq, Eq)]
+pub enum Shown {
+    /// The line, as it came.
+    Line,
+    /// The line, with colours for its matches.
+    ColouredLine,
+    /// Its matches that aren't empty, each on a line of its own.
+    Matches,
+    /// Its matches that aren't empty, each on a line of its own and with colours.
+    ColouredMatches,
+}
+
+/// Which lines are asked for, and how they are printed.
+#[derive(Debug, Clone, Copy)]
+pub struct SearchRequest<'a> {
+    /// Which lines are wanted.
+    pub wanted: Wanted,
+    /// Where matches may begin and end.
+    pub boundary: Boundary,
+    /// What is printed of each.
+    pub shown: Shown,
+    /// What stands before each, as the name of its file.
+    pub prefix: &'a [u8],
+    /// Whether the number of each line stands before it, from 1 on, with a colon.
+    pub is_numbered: bool,
+    /// The byte behind each line.
+    pub separator: u8,
+}

@@ -1,0 +1,151 @@
+//! How matches of a line are shown.
+
+ghost use Rattle.std.specs.Prelude.{◌≡◌, ◌++◌, IfOk, OnOk, drop};
+ghost use Rattle.line_searches.specs.ShownMatches.{bytes_between, coloured, coloured_from, next_coloured};
+ghost use Rattle.line_searches.specs.WantedLines.{match_line, match_lines, match_text, number_before, printed_line};
+
+use crate::search_request::{SearchRequest, Shown};
+use icu_text_search::Match;
+use keyed_lines::push_line;
+use std::alloc::{AllocError, Global};
+
+/// What stands from a byte on.
+fn bytes_from(bytes: &[u8], start: usize) -> &[u8]
+    ensures { result.now ≡ drop start bytes.entry.now }
+{
+    &bytes[start.min(bytes.len())..]
+}
+
+/// What stands from a byte up to another.
+fn bytes_between(bytes: &[u8], start: usize, stop: usize) -> &[u8]
+    ensures { result.now ≡ bytes_between bytes.entry.now start stop }
+{
+    let from = bytes_from(bytes, start);
+    &from[..stop.saturating_sub(start).min(from.len())]
+}
+
+/// Appends a match in colour.
+fn push_coloured(text: &mut Vec<u8>, bytes: &[u8]) -> Result<(), AllocError>
+    ensures { OnOk result (text.new.items ≡ text.old.items ++ coloured bytes.now) }
+{
+    text.extend_from_slice(b"\x1b[01;31m\x1b[K")?;
+    text.extend_from_slice(bytes)?;
+    text.extend_from_slice(b"\x1b[m\x1b[K")?;
+    Ok(())
+}
+
+/// Appends what stands before a match from a byte on, and the match in colour.
+fn push_next(text: &mut Vec<u8>, line: &[u8], at: usize, next: Match) -> Result<(), AllocError>
+    ensures { OnOk result (text.new.items
+        ≡ text.old.items ++ next_coloured line.now at next) }
+{
+    text.extend_from_slice(bytes_between(line, at, next.start()))?;
+    push_coloured(text, bytes_between(line, next.start(), next.end()))
+}
+
+/// Appends a line with its matches in colour.
+pub(crate) fn push_coloured_line(
+    text: &mut Vec<u8>,
+    line: &[u8],
+    matches: &[Match],
+) -> Result<(), AllocError>
+    ensures { OnOk result (text.new.items
+        ≡ text.old.items ++ coloured_from line.now 0 matches.now) }
+{
+    let mut at = 0;
+    for next in matches {
+        push_next(text, line, at, *next)?;
+        at = next.end();
+    }
+    text.extend_from_slice(bytes_from(line, at))?;
+    Ok(())
+}
+
+/// Appends the number of a line and a colon, where that is asked for.
+fn push_number(
+    alloc: Global,
+    text: &mut Vec<u8>,
+    is_numbered: bool,
+    number: usize,
+) -> Result<(), AllocError>
+    ensures { OnOk result (text.new.items ≡ text.old.items ++ number_before is_numbered number) }
+{
+    if !is_numbered {
+        return Ok(());
+    }
+    let digits = number.to_string(alloc)?;
+    text.extend_from_slice(digits.as_bytes())?;
+    text.push(b':')?;
+    Ok(())
+}
+
+/// Appends a printed line: what stands before it, maybe its number, bytes, and what ends it.
+pub(crate) fn push_printed(
+    alloc: Global,
+    text: &mut Vec<u8>,
+    request: SearchRequest<'_>,
+    number: usize,
+    bytes: &[u8],
+) -> Result<(), AllocError>
+    ensures { OnOk result (text.new.items
+        ≡ text.old.items ++ printed_line request.entry number bytes.now) }
+{
+    text.extend_from_slice(request.prefix)?;
+    push_number(alloc, text, request.is_numbered, number)?;
+    push_line(text, bytes, request.separator)
+}
+
+/// A match as it is shown, by itself.
+fn match_text(alloc: Global, shown: Shown, bytes: &[u8]) -> Result<Vec<u8>, AllocError>
+    ensures { IfOk result (λ text. text.items ≡ match_text shown bytes.now) }
+{
+    match shown {
+        Shown::ColouredMatches => {
+            let mut text = Vec::new(alloc);
+            push_coloured(&mut text, bytes)?;
+            Ok(text)
+        }
+        Shown::Line | Shown::ColouredLine | Shown::Matches => Vec::from_slice(alloc, bytes),
+    }
+}
+
+/// Appends a match on a line of its own, unless it is empty.
+fn push_match(
+    alloc: Global,
+    text: &mut Vec<u8>,
+    request: SearchRequest<'_>,
+    number: usize,
+    line: &[u8],
+    next: Match,
+) -> Result<(), AllocError>
+    ensures { OnOk result (text.new.items
+        ≡ text.old.items ++ match_line request.entry number line.now next) }
+{
+    if next.start() >= next.end() {
+        return Ok(());
+    }
+    let shown = match_text(
+        alloc,
+        request.shown,
+        bytes_between(line, next.start(), next.end()),
+    )?;
+    push_printed(alloc, text, request, number, shown.as_slice())
+}
+
+/// Appends the matches of a line, each on a line of its own.
+pub(crate) fn push_matches(
+    alloc: Global,
+    text: &mut Vec<u8>,
+    request: SearchRequest<'_>,
+    number: usize,
+    line: &[u8],
+    matches: &[Match],
+) -> Result<(), AllocError>
+    ensures { OnOk result (text.new.items
+        ≡ text.old.items ++ match_lines request.entry number line.now matches.now) }
+{
+    for next in matches {
+        push_match(alloc, text, request, number, line, *next)?;
+    }
+    Ok(())
+}

@@ -1,0 +1,163 @@
+//! The lines that are wanted.
+
+ghost use Rattle.std.specs.Prelude.{◌≡◌, ◌++◌, IfOk, OnOk};
+ghost use Rattle.icu_text_search.specs.Searchers.{search_of};
+ghost use Rattle.keyed_lines.specs.InputLines.{lines_by};
+ghost use Rattle.line_searches.specs.LineSearches.{decoded_line, found_in};
+ghost use Rattle.line_searches.specs.ShownMatches.{coloured_from};
+ghost use Rattle.line_searches.specs.WantedLines.{printed_line, shown_if_wanted, shown_with, wanted_count, wanted_from, wants};
+
+use crate::line_matches::{is_line_wanted, matches_of_line};
+use crate::search_request::{SearchRequest, Shown};
+use crate::shown_matches::{push_coloured_line, push_matches, push_printed};
+use icu_text_search::{Match, Searcher};
+use keyed_lines::lines_by;
+use std::alloc::{AllocError, Global};
+
+/// Appends a line with its matches in colour, as it is printed.
+fn push_coloured_printed(
+    alloc: Global,
+    text: &mut Vec<u8>,
+    request: SearchRequest<'_>,
+    number: usize,
+    decoded: &[u8],
+    matches: &[Match],
+) -> Result<(), AllocError>
+    ensures { OnOk result (text.new.items ≡ text.old.items
+        ++ printed_line request.entry number (coloured_from decoded.now 0 matches.now)) }
+{
+    let mut coloured = Vec::new(alloc);
+    push_coloured_line(&mut coloured, decoded, matches)?;
+    push_printed(alloc, text, request, number, coloured.as_slice())
+}
+
+/// Appends a line with matches as it is printed.
+fn push_shown(
+    alloc: Global,
+    text: &mut Vec<u8>,
+    request: SearchRequest<'_>,
+    number: usize,
+    line: &[u8],
+    decoded: &[u8],
+    matches: &[Match],
+) -> Result<(), AllocError>
+    requires { decoded.now ≡ decoded_line line.now }
+    ensures { OnOk result (text.new.items ≡ text.old.items
+        ++ shown_with request.entry.shown request.entry number line.now matches.now) }
+{
+    match request.shown {
+        Shown::Line => push_printed(alloc, text, request, number, line),
+        Shown::ColouredLine => {
+            push_coloured_printed(alloc, text, request, number, decoded, matches)
+        }
+        Shown::Matches | Shown::ColouredMatches => {
+            push_matches(alloc, text, request, number, decoded, matches)
+        }
+    }
+}
+
+/// The lines of an input that are wanted.
+#[derive(Drop)]
+pub struct WantedText {
+    /// These lines as they are printed, one behind another.
+    pub text: Vec<u8>,
+    /// How many they are. One of which only matches are printed may print nothing.
+    pub count: usize,
+}
+
+/// Appends a line as it is printed, if it is wanted, and returns whether it is.
+fn push_wanted(
+    alloc: Global,
+    searcher: &Searcher<'_>,
+    text: &mut Vec<u8>,
+    request: SearchRequest<'_>,
+    number: usize,
+    line: &[u8],
+) -> Result<bool, AllocError>
+    ensures text { OnOk result (text.new.items ≡ text.old.items
+        ++ shown_if_wanted request.entry number line.now
+        (found_in request.entry.boundary (search_of searcher.now) line.now)) }
+    ensures wanted { IfOk result (λ b. b ≡ wants request.entry (search_of searcher.now) line.now) }
+{
+    let found = matches_of_line(alloc, searcher, request.boundary, line)?;
+    if !is_line_wanted(request.wanted, found.matches.as_slice()) {
+        return Ok(false);
+    }
+    push_shown(
+        alloc,
+        text,
+        request,
+        number,
+        line,
+        found.decoded.as_bytes(),
+        found.matches.as_slice(),
+    )?;
+    Ok(true)
+}
+
+/// The lines of an input that are wanted, as they are printed, in their order.
+///
+/// # Errors
+///
+/// Fails only where an allocation does.
+pub fn wanted_text(
+    alloc: Global,
+    searcher: &Searcher<'_>,
+    bytes: &[u8],
+    request: SearchRequest<'_>,
+) -> Result<WantedText, AllocError>
+    ensures text { IfOk result (λ wanted. wanted.text.items ≡ wanted_from request.entry
+        (search_of searcher.now) 1 (lines_by request.entry.separator bytes.now)) }
+    ensures count { IfOk result (λ wanted. wanted.count ≡ wanted_count request.entry
+        (search_of searcher.now) (lines_by request.entry.separator bytes.now)) }
+{
+    let lines = lines_by(alloc, bytes, request.separator)?;
+    let mut text = Vec::new(alloc);
+    let mut number = 1usize;
+    let mut count = 0usize;
+    for line in lines.as_slice() {
+        let is_wanted = push_wanted(alloc, searcher, &mut text, request, number, line)?;
+        number += 1;
+        if is_wanted {
+            count += 1;
+        }
+    }
+    Ok(WantedText { text, count })
+}
+
+/// Whether a line is wanted.
+fn wants(
+    alloc: Global,
+    searcher: &Searcher<'_>,
+    request: SearchRequest<'_>,
+    line: &[u8],
+) -> Result<bool, AllocError>
+    ensures { IfOk result (λ b. b ≡ wants request.entry (search_of searcher.now) line.now) }
+{
+    let found = matches_of_line(alloc, searcher, request.boundary, line)?;
+    Ok(is_line_wanted(request.wanted, found.matches.as_slice()))
+}
+
+/// How many lines of an input are wanted.
+///
+/// # Errors
+///
+/// Fails only where an allocation does.
+pub fn count_wanted(
+    alloc: Global,
+    searcher: &Searcher<'_>,
+    bytes: &[u8],
+    request: SearchRequest<'_>,
+) -> Result<usize, AllocError>
+    ensures { IfOk result (λ count. count ≡ wanted_count request.entry
+        (search_of searcher.now) (lines_by request.entry.separator bytes.now)) }
+{
+    let lines = lines_by(alloc, bytes, request.separator)?;
+    let mut count = 0usize;
+    for line in lines.as_slice() {
+        if wants(alloc, searcher, request, line)? {
+            count += 1;
+        }
+    }
+    Ok(count)
+}

@@ -1,0 +1,53 @@
+//! Errors that name a file.
+ghost use Rattle.std.specs.Prelude.{◌≡◌, ◌++◌, ◌∷◌, [], codes, string_bytes, IfOk};
+ghost use Rattle.collate_commands.specs.CollatorErrors.{IsCollatorError};
+ghost use Rattle.named_files.specs.NamedErrors.{IsLineOf};
+
+use collate_commands::ProgramError;
+use std::alloc::{AllocError, Global};
+use std::fmt::Display;
+
+/// The line that says of a file what is wrong with it.
+fn line_of(alloc: Global, file: &str, what: &str) -> Result<String, AllocError>
+    ensures { IfOk result (λ line.
+        string_bytes line ≡ file.now ++ codes ": " ++ what.now ++ 10 ∷ []) }
+{
+    let mut line = file.to_string(alloc)?;
+    line.push_str(": ")?;
+    line.push_str(what)?;
+    line.push_str("\n")?;
+    Ok(line)
+}
+
+/// An error that says of a file what is wrong with it.
+pub fn refused(alloc: Global, file: &str, what: &str) -> ProgramError
+    ensures { IsCollatorError (IsLineOf file.now) result }
+{
+    match line_of(alloc, file, what) {
+        Ok(line) => ProgramError::Refused(line),
+        Err(_) => ProgramError::NoMemory,
+    }
+}
+
+/// An error that says of a file what is wrong with it, by an error's own text.
+pub fn refused_by<E: Display>(alloc: Global, file: &str, error: &E) -> ProgramError
+    ensures { IsCollatorError (IsLineOf file.now) result }
+{
+    match error.to_string(alloc) {
+        Ok(what) => refused(alloc, file, what.as_str()),
+        Err(_) => ProgramError::NoMemory,
+    }
+}
+
+/// One text, and then another.
+///
+/// # Errors
+///
+/// Fails only where an allocation does.
+pub fn joined(alloc: Global, first: &str, second: &str) -> Result<String, AllocError>
+    ensures { IfOk result (λ text. string_bytes text ≡ first.now ++ second.now) }
+{
+    let mut text = first.to_string(alloc)?;
+    text.push_str(second)?;
+    Ok(text)
+}
