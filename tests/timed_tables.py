@@ -148,6 +148,10 @@ def of_random_contexts(seed, size):
     return builder
 
 
+# What offset entries count from: U+0000 has the weight with this lead byte, and each character after it the next one.
+COUNTED_ENTRY, COUNTED_ELEMENT = 0xCE, 0x0002_0200_0000_0001
+
+
 def with_rows(entries, count):
     """A root in which all characters have one contraction of so many mappings, with these entries beyond them."""
     builder = Builder(MAPPED)
@@ -162,6 +166,23 @@ def of_implicit_rows(size):
     return with_rows([0xCF], 500 * size)
 
 
+def of_counted_rows(size):
+    """A root in which all characters have one contraction of 500 mappings a size, and one that counts its weight by the character."""
+    builder = with_rows([COUNTED_ENTRY], 500 * size)
+    builder.ces = [0xA0 << 56 | COUNTED_ELEMENT]
+    return builder
+
+
+def of_counted_weights(leads):
+    """A root in which all characters have one contraction whose default and other mappings count their weights by the character, each
+    from another lead byte."""
+    builder = Builder(MAPPED)
+    builder.ces = [lead << 56 | COUNTED_ELEMENT for lead in leads]
+    first, *others = [number << 13 | COUNTED_ENTRY for number in range(len(leads))]
+    builder.add_context(first, [([0x30000 + number], entry) for number, entry in enumerate(others)])
+    return builder
+
+
 def of_prefixes(size):
     """A root in which a prefix has 750 mappings a size, each to one contraction of as many."""
     builder = Builder(0xCF)
@@ -173,10 +194,13 @@ def of_prefixes(size):
 
 
 # What makes a root by its size, by name.
-GROWING = {"spellings": of_spellings, "far-contexts": of_far_contexts, "implicit-rows": of_implicit_rows}
-GROWING |= {"prefixes": of_prefixes}
+GROWING = {"spellings": of_spellings, "far-contexts": of_far_contexts, "prefixes": of_prefixes}
+GROWING |= {"implicit-rows": of_implicit_rows}
 GROWING |= {f"random-contexts-{seed}": functools.partial(of_random_contexts, seed) for seed in range(3)}
 SIZES = (1, 2, 4)
+# Roots in which all characters reach entries that count their weights, 1.1 million for each entry: with 2,000 mappings beside one,
+# and eleven of them from lead bytes in a row. How many times as long as Mini's their checks may take.
+COUNTED = {"counted-rows": (lambda: of_counted_rows(4), 150), "counted-weights": (lambda: of_counted_weights(range(0x44, 0x4F)), 750)}
 
 
 # ---- tables of the size of CLDR's
@@ -274,6 +298,25 @@ def growing_tables(mini, checks):
     return faults + [f"grows too fast: {least}; {greatest}"] * (greatest.seconds > max(allowed, 1e-3))
 
 
+def counted_tables(mini, check):
+    """What is wrong with the check of a root whose entries count their weights."""
+    allowed = COUNTED[check.tables][1] * max(mini.seconds, 1e-4)
+    return check.faults + [f"takes too long: {check}; {mini}"] * (check.seconds > allowed)
+
+
+def check_counted(report, driver):
+    """Roots whose entries count their weights, whose checks are held against Mini's by time alone."""
+    for _ in range(ATTEMPTS):
+        mini = Check(driver, TimedTables("mini", "Mini"), 4 * CHECKS)
+        checks = [Check(driver, TimedTables(name, "Mini", make()), CHECKS // 12) for name, (make, _) in COUNTED.items()]
+        faults = mini.faults + [it for check in checks for it in counted_tables(mini, check)]
+        if not faults:
+            break
+    report.say("hostile input: checks of counted weights take no more than so many of Mini's", faults, 2 * RUNS * len(checks))
+    for check in checks:
+        print(f"       {check}", flush=True)
+
+
 def grown_checks(driver, name, make):
     """The checks of one root in each size."""
     return [Check(driver, TimedTables(f"{name}-{size}", "Mini", make(size)), CHECKS // 6) for size in SIZES]
@@ -314,6 +357,7 @@ def check_times(report, driver):
     for check in [mini, *checks, *others]:
         print(f"       {check}", flush=True)
     check_growth(report, driver)
+    check_counted(report, driver)
 
 
 def dear_checks_missed(driver):

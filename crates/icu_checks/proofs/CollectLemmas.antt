@@ -1,7 +1,6 @@
 -- The weights that a list comes to hold, table by table.
 use Rattle.std.proofs.Common.{◌≡◌, ◌↔◌, ◌⊎◌, ℕ, ◌+◌, ◌-◌, ◌<◌, ◌++◌, false, true, Bool, Result, OnOk, List, [], ◌∷◌, length, slice_index, Option, Some, None, IsTrue, refl, sym, ap, ◌∙◌, subst, inl, inr, arith, option_map}
 use Rattle.std.proofs.lemmas.Bool.Decides.{nat_tests}
-use Rattle.std.proofs.lemmas.List.Elements.{Contains-append_left, Contains-append_right, Contains-append_cases}
 use Rattle.std.specs.List.{Contains}
 use Rattle.icu_collation_data.proofs.WalkLemmas.{on_ok}
 use Rattle.icu_collation_data.specs.declared.data.CollationData.{CollationData}
@@ -37,16 +36,10 @@ adds_same P Q old new same adds w = map_right (adds w) (same w)
 pub adds_none : (P : ℕ → Type 0) (old new : List ℕ) → new ≡ old → ((w : ℕ) → P w → ⊥) → Adds P old new
 adds_none P old new is none w = (λ c. inl (subst (λ ws. Contains ws w) is c), λ s. elim s [ inl c ↦ subst (λ ws. Contains ws w) (sym is) c | inr p ↦ absurd (none w p) ])
 
-one_member : (v w : ℕ) → Contains (v ∷ []) w → v ≡ w
-one_member v w c = grind (arith, c)
-
-pub adds_one : (P : ℕ → Type 0) (old new : List ℕ) (v : ℕ) → new ≡ old ++ v ∷ [] → P v → ((w : ℕ) → P w → v ≡ w) → Adds P old new
-adds_one P old new v is has only w = (
-  λ c. elim (Contains-append_cases old (v ∷ []) w (subst (λ ws. Contains ws w) is c)) [ inl before ↦ inl before | inr last ↦ inr (subst P (one_member v w last) has) ],
-  λ s. subst (λ ws. Contains ws w) (sym is) (elim s [
-    | inl before ↦ Contains-append_left old (v ∷ []) w before
-    | inr p ↦ Contains-append_right old (v ∷ []) w (0, omega arith, only w p)
-  ]),
+pub adds_one : (P : ℕ → Type 0) (old new : List ℕ) (v : ℕ) → Adds (λ w. w ≡ v) old new → P v → ((w : ℕ) → P w → w ≡ v) → Adds P old new
+adds_one P old new v adds has only w = (
+  λ c. elim ((adds w).0 c) [ inl before ↦ inl before | inr is ↦ inr (subst P (sym is) has) ],
+  λ s. (adds w).1 (elim s as (λ _. Contains old w ⊎ (w ≡ v)) [ inl before ↦ inl before | inr p ↦ inr (only w p) ]),
 )
 
 -- ---- place by place
@@ -244,10 +237,10 @@ module _ (s : TableSet) (list : WeightList) where
   abbrev diacritic_weight : ℕ → Option ℕ
   diacritic_weight i = compared_weight list (of_secondary (slice_index (diacritics_of s.diacritics) i))
 
-  pub loaded_diacritic : (i v : ℕ) → is_replaced_index i ≡ false → diacritic_weight i ≡ Some v → (old new : List ℕ) → new ≡ old ++ v ∷ [] → Adds (IsDiacriticWeight list (tables_in s) i) old new
+  pub loaded_diacritic : (i v : ℕ) → is_replaced_index i ≡ false → diacritic_weight i ≡ Some v → (old new : List ℕ) → Adds (λ w. w ≡ v) old new → Adds (IsDiacriticWeight list (tables_in s) i) old new
   unfolding tables_in
   loaded_diacritic i v kept weighs old new is =
-      adds_one (IsDiacriticWeight list (tables_in s) i) old new v is (record { kept = kept; weighs = weighs }) (λ w p. same_some_weight v w (sym weighs ∙ p.weighs))
+      adds_one (IsDiacriticWeight list (tables_in s) i) old new v is (record { kept = kept; weighs = weighs }) (λ w p. sym (same_some_weight v w (sym weighs ∙ p.weighs)))
 
   pub loaded_no_diacritic : (i : ℕ) → diacritic_weight i ≡ None → (old : List ℕ) → Adds (IsDiacriticWeight list (tables_in s) i) old old
   unfolding tables_in

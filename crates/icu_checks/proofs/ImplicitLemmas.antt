@@ -102,7 +102,7 @@ weighs_nothing WithSecondary p other = refl
 -- ---- they meet every condition
 
 -- what holds of the lead bytes that the first and the last weight of a block go to holds of where each goes
-where_ends : (P : ℕ → Type 0) (r : Option Reordering) (h p : ℕ) → 256 ≤ h → p / 65536 ≡ h → P (lead_byte (reorder_by r (h * 65536))) → P (lead_byte (reorder_by r (h * 65536 + 65535)))
+pub where_ends : (P : ℕ → Type 0) (r : Option Reordering) (h p : ℕ) → 256 ≤ h → p / 65536 ≡ h → P (lead_byte (reorder_by r (h * 65536))) → P (lead_byte (reorder_by r (h * 65536 + 65535)))
     → P (lead_byte (reorder_by r p))
 where_ends P None h p high at first last = let same : lead_byte (h * 65536) ≡ lead_byte p = omega arith in subst P same first
 where_ends P (Some r) h p high at first last = block_where_ends P r h p high at first last
@@ -195,7 +195,7 @@ implicit_pass all ends below c = implicit_meets all below c (taken_apart all end
 high_sum : (b2 b3 b4 : ℕ) → b2 < 256 → b3 < 256 → b4 < 256 → weight 0xFE b2 b3 b4 / 65536 ≡ 0xFE00 + b2
 high_sum b2 b3 b4 low2 low3 low4 = omega arith
 
-implicit_high : (c : ℕ) → implicit_weight c / 65536 ≡ 0xFE00 + (4 + (c + 1) / 4572 % 251)
+pub implicit_high : (c : ℕ) → implicit_weight c / 65536 ≡ 0xFE00 + (4 + (c + 1) / 4572 % 251)
 unfolding implicit_weight
 implicit_high c =
     high_sum (4 + (c + 1) / 4572 % 251) (2 + (c + 1) / 18 % 254) (2 + 14 * ((c + 1) % 18)) (omega arith) (omega arith) (omega arith)
@@ -203,7 +203,7 @@ implicit_high c =
 same_high : (a c : ℕ) → (c + 1) / 4572 ≡ (a + 1) / 4572 → implicit_weight c / 65536 ≡ implicit_weight a / 65536
 same_high a c same = implicit_high c ∙ ap (λ n. 0xFE00 + (4 + n % 251)) same ∙ sym (implicit_high a)
 
-high_enough : (c : ℕ) → 256 ≤ implicit_weight c / 65536
+pub high_enough : (c : ℕ) → 256 ≤ implicit_weight c / 65536
 high_enough c = let at = implicit_high c in omega (arith, at)
 
 -- the two highest bytes of the weights of 64 characters are those of the first one's or of the last one's

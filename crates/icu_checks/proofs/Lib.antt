@@ -17,3 +17,4 @@ pub mod ImplicitOverlapLemmas
 pub mod CheckLemmas
 pub mod ImplicitLemmas
 pub mod RunLemmas
+pub mod AlikeRunLemmas

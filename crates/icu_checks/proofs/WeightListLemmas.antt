@@ -61,11 +61,11 @@ module _ (list : WeightList) (all : CollatorTables) where
         ]
       ]
 
-  pub holds_level : (a b c d e sorted : List ℕ) → a ≡ [] → Adds (IsWeightBy list Root all.tables) a b → Adds (IsWeightBy list Jamo all.tables) b c
-      → Adds (IsWeightBy list Tailoring all.tables) c d → Adds (IsWeightBy list Diacritics all.tables) d e → ((w : ℕ) → Contains sorted w ↔ Contains e w) → HoldsLevel list all.tables sorted
-  holds_level a b c d e sorted none root jamo tailoring diacritics same = record {
-    all = λ table w p. (same w).1 (holds_all a b c d e root jamo tailoring diacritics table w p);
-    only = λ w in_sorted. only_listed a b c d e none root jamo tailoring diacritics w ((same w).0 in_sorted);
+  pub holds_level : (a b c d e : List ℕ) → a ≡ [] → Adds (IsWeightBy list Root all.tables) a b → Adds (IsWeightBy list Jamo all.tables) b c
+      → Adds (IsWeightBy list Tailoring all.tables) c d → Adds (IsWeightBy list Diacritics all.tables) d e → HoldsLevel list all.tables e
+  holds_level a b c d e none root jamo tailoring diacritics = record {
+    all = λ table w p. holds_all a b c d e root jamo tailoring diacritics table w p;
+    only = λ w in_e. only_listed a b c d e none root jamo tailoring diacritics w in_e;
   }
 
 -- ---- with a reordering
@@ -130,24 +130,12 @@ nothing_in w c = omega (arith, c.1)
 pub none_listed : (list : WeightList) (all : CollatorTables) (ws : List ℕ) → ws ≡ [] → AreListed list all.tables ws
 none_listed list all ws is w c = absurd (nothing_in w (subst (λ ws. Contains ws w) is c))
 
-pub sorted_listed : (own list : WeightList) (all : CollatorTables) (table : DataTable) (old new sorted : List ℕ) → own ≡ list → AreListed list all.tables old → Adds (IsWeightBy own table all.tables) old new
-    → ((w : ℕ) → Contains sorted w ↔ Contains new w) → AreListed list all.tables sorted
-sorted_listed own list all table old new sorted is listed adds same w c =
-    elim ((adds w).0 ((same w).0 c)) [
-      | inl older ↦ listed w older
-      | inr by ↦ record { table = table; is = subst (λ list. IsWeightBy list table all.tables w) is by }
-    ]
-
--- the same list in another order
-pub same_listed : (list : WeightList) (all : CollatorTables) (old new : List ℕ) → AreListed list all.tables old → ((w : ℕ) → Contains new w ↔ Contains old w) → AreListed list all.tables new
-same_listed list all old new listed same w c = listed w ((same w).0 c)
-
 -- weights that are added to those of other tables
-pub more_listed : (list : WeightList) (all : CollatorTables) (table : DataTable) (old new : List ℕ) → AreListed list all.tables old → Adds (IsWeightBy list table all.tables) old new → AreListed list all.tables new
-more_listed list all table old new listed adds w c =
+pub more_listed : (own list : WeightList) (all : CollatorTables) (table : DataTable) (old new : List ℕ) → own ≡ list → AreListed list all.tables old → Adds (IsWeightBy own table all.tables) old new → AreListed list all.tables new
+more_listed own list all table old new is listed adds w c =
     elim ((adds w).0 c) [
       | inl older ↦ listed w older
-      | inr by ↦ record { table = table; is = by }
+      | inr by ↦ record { table = table; is = subst (λ list. IsWeightBy list table all.tables w) is by }
     ]
 
 -- whether a list of its own holds a weight

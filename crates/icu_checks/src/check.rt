@@ -98,26 +98,16 @@ fn pairs_violation(alloc: Global, tables: TableSet<'_>) -> Result<Option<Violati
     ensures { IfOk result (IsOutcome (tables_in tables.entry)
         (PairsMeet (tables_in tables.entry))) }
 {
-    let mut lists = listed_weights(alloc, tables)?;
+    let lists = listed_weights(alloc, tables)?;
     let tertiary_element = tertiary_violation(
         alloc,
         tables,
         &lists.tertiary_elements,
         &lists.with_secondary,
     )?;
-    let secondary = level_violation(
-        alloc,
-        tables,
-        ComparedLevel::Secondary,
-        &mut lists.secondaries,
-    )?;
-    let tertiary = level_violation(
-        alloc,
-        tables,
-        ComparedLevel::Tertiary,
-        &mut lists.tertiaries,
-    )?;
-    let primary = primary_violation(alloc, tables, &mut lists.primaries)?;
+    let secondary = level_violation(alloc, tables, ComparedLevel::Secondary, &lists.secondaries)?;
+    let tertiary = level_violation(alloc, tables, ComparedLevel::Tertiary, &lists.tertiaries)?;
+    let primary = primary_violation(alloc, tables, &lists.primaries)?;
     Ok(earlier(
         earlier(tertiary_element, secondary),
         earlier(tertiary, primary),

@@ -16,7 +16,7 @@ use Rattle.icu_collation_data.specs.Data.{Data, homed}
 use Rattle.icu_collation_data.specs.Final.{final_elements}
 use Rattle.icu_collation_data.specs.Reachable.{AreAlike, goes_by_character, reachable_at, EachReachable}
 use Rattle.icu_collation_data.specs.Walks.{CharVisit, after_all, after_visits, IsCovered, IsPassed, Walked}
-use Rattle.icu_collation_data.specs.CollectedWeights.{is_stated, IsWeightAmong, IsReachableWeight}
+use Rattle.icu_collation_data.specs.CollectedWeights.{is_stated, IsWeightAmong, IsReachableWeight, Adds}
 use Rattle.icu_collation_data.specs.inner.Visitors.{holds, and_weight, and_found, collected, collected_at, given_elements}
 use Rattle.icu_collation_data.proofs.ListLemmas.{weaker, all_of, all_members, of_member}
 use Rattle.icu_collation_data.proofs.SameEntryLemmas.{gives_alike}
@@ -67,24 +67,29 @@ or_cases true b h = inl refl
 or_cases false b h = inr h
 
 -- the last weight once more, and another one
-pub last_again : (ws : List ℕ) (w : ℕ) → slice_get ws (length ws - 1) ≡ Some w → holds ws ≡ and_weight (holds ws) w
-last_again ws w last =
-    held_as ws (and_weight (holds ws) w) (λ v h. or_left (holds ws v) (w == v) (contained-held ws v h))
-    (λ v h. elim (or_cases (holds ws v) (w == v) h) [
-      | inl old ↦ held-contained ws v old
-      | inr same ↦ subst (Contains ws) (same_number w v same) (last_contained ws w last)
-    ])
+pub last_again : (ws : List ℕ) (w : ℕ) → slice_get ws (length ws - 1) ≡ Some w → Adds (λ v. v ≡ w) ws ws
+last_again ws w last v = (λ has. inl has, elim [ inl old ↦ old | inr is ↦ subst (Contains ws) (sym is) (last_contained ws w last) ])
 
-pub one_more : (old room : List ℕ) (w : ℕ) → ((v : ℕ) → Contains room v ↔ Contains old v) → holds (room ++ w ∷ []) ≡ and_weight (holds old) w
-one_more old room w same =
-    held_as (room ++ w ∷ []) (and_weight (holds old) w)
-    (λ v h. elim (Contains-push_cases room w v h) [
-      | inl before ↦ or_left (holds old v) (w == v) (contained-held old v ((same v).0 before))
-      | inr is ↦ or_right (holds old v) (w == v) (equal_number w v is)
+pub one_more : (old room : List ℕ) (w : ℕ) → ((v : ℕ) → Contains room v ↔ Contains old v) → Adds (λ v. v ≡ w) old (room ++ w ∷ [])
+one_more old room w same v = (
+  λ has. elim (Contains-push_cases room w v has) [ inl before ↦ inl ((same v).0 before) | inr is ↦ inr (sym is) ],
+  λ h. elim h [
+    | inl before ↦ Contains-append_left room (w ∷ []) v ((same v).1 before)
+    | inr is ↦ subst (Contains (room ++ w ∷ [])) (sym is) (Contains-push room w)
+  ],
+)
+
+-- so one more is held
+pub one_held : (old new : List ℕ) (w : ℕ) → Adds (λ v. v ≡ w) old new → holds new ≡ and_weight (holds old) w
+one_held old new w adds =
+    held_as new (and_weight (holds old) w)
+    (λ v has. elim ((adds v).0 has) [
+      | inl before ↦ or_left (holds old v) (w == v) (contained-held old v before)
+      | inr is ↦ or_right (holds old v) (w == v) (equal_number w v (sym is))
     ])
     (λ v h. elim (or_cases (holds old v) (w == v) h) [
-      | inl before ↦ Contains-append_left room (w ∷ []) v ((same v).1 (held-contained old v before))
-      | inr is ↦ subst (Contains (room ++ w ∷ [])) (same_number w v is) (Contains-push room w)
+      | inl before ↦ (adds v).1 (inl (held-contained old v before))
+      | inr is ↦ (adds v).1 (inr (sym (same_number w v is)))
     ])
 
 found-old : (has : ℕ → Bool) (o : Option ℕ) (x : ℕ) → has x ≡ true → and_found has o x ≡ true

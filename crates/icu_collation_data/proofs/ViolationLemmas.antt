@@ -1,6 +1,6 @@
 -- Which violation a walk reports, by any judge, and the judge of a root or a tailoring alone: the first condition that
 -- an entry fails.
-use Rattle.std.proofs.Common.{◌≡◌, ℕ, ◌<◌, ◌≤◌, Bool, true, false, not, List, [], ◌∷◌, ◌⊎◌, Option, Some, None, if◌then◌else◌, refl, sym, ap, ◌∙◌, subst, IfSome, IsTrue, ◌↔◌, nat_lt, inl, inr, arith, lit≤}
+use Rattle.std.proofs.Common.{◌≡◌, ℕ, zero, suc, ◌+◌, ◌<◌, ◌≤◌, Bool, true, false, not, List, [], ◌∷◌, ◌⊎◌, Option, Some, None, if◌then◌else◌, refl, sym, ap, ◌∙◌, subst, IfSome, IsTrue, ◌↔◌, nat_lt, inl, inr, arith, lit≤}
 use Rattle.std.proofs.lemmas.Bool.{and_parts, and_from}
 use Rattle.std.proofs.lemmas.Bool.Decides.{nat_tests}
 use Rattle.std.specs.Prelude.{find}
@@ -12,7 +12,7 @@ use Rattle.icu_collation_data.specs.Reachable.{AreAlike, reachable_at, EachReach
 use Rattle.icu_collation_data.specs.ReachableConditions.{meets, reachable_conditions, first_failing, EachMeets, IsWellFormedData}
 use Rattle.icu_collation_data.specs.DataConditions.{is_inside, is_readable, has_known_members, fits_offset}
 use Rattle.icu_entries.specs.EntryConditions.{has_known_byte}
-use Rattle.icu_collation_data.specs.Walks.{CharVisit, after_all, after_visits, IsCovered, IsPassed, Walked}
+use Rattle.icu_collation_data.specs.Walks.{CharVisit, after_all, after_run, after_visits, IsCovered, IsPassed, Walked}
 use Rattle.icu_collation_data.specs.Violations.{condition_rank, earlier, ComesFirst, IsViolationAmong, IsReachableViolation}
 use Rattle.icu_collation_data.specs.inner.Visitors.{judged}
 use Rattle.icu_collation_data.proofs.ListLemmas.{weaker, all_of, all_members, of_member}
@@ -165,6 +165,43 @@ module _ {F : Type 0} (rank : F → ℕ) where
   -- where there is no violation, what was judged stays
   pub judges_nothing : {J : Type 0} (violation : J → Data → ℕ → ℕ → Option F) (s : J × Option F) (home : Data) (c e : ℕ) → violation s.0 home c e ≡ None → judged rank violation s home c e ≡ s
   judges_nothing violation s home c e none = ap (λ f. (s.0, earlier rank s.1 f)) none ∙ ap (λ a. (s.0, a)) (earlier-same s.1)
+
+  -- ---- one violation of characters in a row
+
+  same_if : (t : Bool) (x : F) → ◌≡◌ {A = Option F} (if t then Some x else Some x) (Some x)
+  same_if true x = refl
+  same_if false x = refl
+
+  with_itself : (x : F) → earlier rank (Some x) (Some x) ≡ Some x
+  unfolding earlier
+  with_itself x = same_if (nat_lt (rank x) (rank x)) x
+
+  again_by : (t : Bool) (a b : F) → nat_lt (rank b) (rank a) ≡ t → earlier rank (if t then Some b else Some a) (Some b) ≡ (if t then Some b else Some a)
+  unfolding earlier
+  again_by true a b is = with_itself b
+  again_by false a b is = rw is refl
+
+  earlier-again : (a b : Option F) → earlier rank (earlier rank a b) b ≡ earlier rank a b
+  unfolding earlier
+  earlier-again None None = refl
+  earlier-again None (Some b) = with_itself b
+  earlier-again (Some a) None = refl
+  earlier-again (Some a) (Some b) = again_by (nat_lt (rank b) (rank a)) a b refl
+
+  run_once : {J : Type 0} (violation : J → Data → ℕ → ℕ → Option F) (j : J) (a : Option F) (home : Data) (first e n : ℕ) → n < 64
+      → ((c : ℕ) → first ≤ c → c < first + 64 → violation j home c e ≡ violation j home first e) → after_run (judged rank violation) (j, a) home first e (suc n) ≡ (j, earlier rank a (violation j home first e))
+  unfolding after_run
+  run_once violation j a home first e zero h alike = ap (λ v. (j, earlier rank a v)) (alike (first + 0) (omega arith) (omega arith))
+  run_once violation j a home first e (suc n) h alike =
+      ap (λ s. judged rank violation s home (first + suc n) e) (run_once violation j a home first e n (omega (arith, h)) alike)
+      ∙ ap (λ v. (j, earlier rank (earlier rank a (violation j home first e)) v)) (alike (first + suc n) (omega arith) (omega (arith, h)))
+      ∙ ap (λ o. (j, o)) (earlier-again a (violation j home first e))
+
+  -- the first of them is as good as all
+  pub judged_run : {J : Type 0} (violation : J → Data → ℕ → ℕ → Option F) (j : J) (a found : Option F) (home : Data) (first e : ℕ) → found ≡ violation j home first e
+      → ((c : ℕ) → first ≤ c → c < first + 64 → violation j home c e ≡ violation j home first e) → (j, earlier rank a found) ≡ after_run (judged rank violation) (j, a) home first e 64
+  judged_run violation j a found home first e is alike =
+      ap (λ v. (j, earlier rank a v)) is ∙ sym (run_once violation j a home first e 63 (omega arith) alike)
 
   earlier-nothing : (a b : Option F) → a ≡ None → b ≡ None → earlier rank a b ≡ None
   unfolding earlier

@@ -1,5 +1,5 @@
 //! The weights of the elements of reachable entries, collected.
-ghost use Rattle.std.specs.Prelude.{◌≡◌, ◌↔◌, ℕ, Bool, true, false, Option, None, OnOk, IsTrue};
+ghost use Rattle.std.specs.Prelude.{◌≡◌, ◌↔◌, ℕ, Bool, true, false, List, [], Option, None, OnOk, IsTrue};
 ghost use Rattle.std.specs.List.{Contains};
 ghost use Rattle.std.specs.List.Sorted.{IsStrictlyIncreasing};
 ghost use Rattle.icu_entries.specs.Elements.{Element, of_primary};
@@ -7,7 +7,7 @@ ghost use Rattle.icu_collation_data.specs.Reachable.{reachable_from};
 ghost use Rattle.icu_collation_data.specs.StoredData.{data_of};
 ghost use Rattle.icu_collation_data.specs.DataConditions.{is_readable};
 ghost use Rattle.icu_collation_data.specs.CollectedWeights.{is_stated, IsWeightAmong, IsReachableWeight, Adds};
-ghost use Rattle.icu_collation_data.specs.inner.Visitors.{holds, and_weight, collected, collected_at};
+ghost use Rattle.icu_collation_data.specs.inner.Visitors.{holds, collected, collected_at};
 
 use crate::block_walk::{goes_by_character, visit_chars};
 use crate::data::CollationData;
@@ -63,7 +63,7 @@ fn make_room(weights: &mut Vec<u32>) -> Result<(), AllocError>
 }
 
 fn add_weight(weights: &mut Vec<u32>, weight: u32) -> Result<(), AllocError>
-    ensures { OnOk result (holds weights.new.items ≡ and_weight (holds weights.old.items) weight) }
+    ensures { OnOk result (Adds (λ w. w ≡ weight) weights.old.items weights.new.items) }
 {
     if let Some(last) = weights.last() {
         if *last == weight {
@@ -73,6 +73,34 @@ fn add_weight(weights: &mut Vec<u32>, weight: u32) -> Result<(), AllocError>
     make_room(weights)?;
     weights.push(weight)?;
     Ok(())
+}
+
+/// What weights are collected in: a list of them, or a set.
+pub trait HoldWeights {
+    /// The weights that it holds.
+    ghost weights: { Self → List ℕ };
+
+    /// Adds a weight, which it may hold already. After an `Err`, out of memory, nothing is said of it.
+    fn add(&mut self, weight: u32) -> Result<(), AllocError>
+        ensures { OnOk result (Adds (λ w. w ≡ weight) (weights self.old) (weights self.new)) };
+
+    /// Takes the weights out, and leaves none.
+    fn take(&mut self) -> Self
+        ensures taken { weights result ≡ weights self.old }
+        ensures left { weights self.new ≡ [] };
+}
+
+impl HoldWeights for Vec<u32> {
+    ghost weights = { λ v. v.items };
+
+    fn add(&mut self, weight: u32) -> Result<(), AllocError> {
+        add_weight(self, weight)
+    }
+
+    fn take(&mut self) -> Vec<u32> {
+        let none = Vec::new(*self.allocator());
+        replace(self, none)
+    }
 }
 
 /// Whether the table states the elements of an entry: they can be read, and aren't for an implicit weight.
@@ -89,50 +117,49 @@ fn is_stated(home: CollationData<'_>, c: char, entry: CollationElement32) -> boo
 
 /// A visitor that collects weights.
 #[derive(Drop)]
-pub struct Collector<'w, W> {
+pub struct Collector<'w, W, H> {
     /// Which weights are collected.
     pub weigh: &'w W,
     /// The weights so far.
-    pub weights: Vec<u32>,
+    pub weights: H,
 }
 
-impl<'w, W: Weigh> Collector<'w, W> {
-    /// A collector that goes on with a list, which is left empty.
-    pub fn over(weigh: &'w W, weights: &mut Vec<u32>) -> Collector<'w, W>
+impl<'w, W: Weigh, H: HoldWeights> Collector<'w, W, H> {
+    /// A collector that goes on with some weights, which are taken out of where they were.
+    pub fn over(weigh: &'w W, weights: &mut H) -> Collector<'w, W, H>
         ensures weigh { result.weigh.now ≡ weigh.now }
-        ensures weights { result.weights.items ≡ weights.old.items }
+        ensures weights { H.weights result.weights ≡ H.weights weights.old }
     {
-        let none = Vec::new(*weights.allocator());
         Collector {
             weigh,
-            weights: replace(weights, none),
+            weights: weights.take(),
         }
     }
 }
 
-impl<'w, W: Weigh> VisitElement for Collector<'w, W> {
+impl<'w, W: Weigh, H: HoldWeights> VisitElement for Collector<'w, W, H> {
     type Error = AllocError;
 
     ghost Seen = { W × (ℕ → Bool) };
 
-    ghost seen = { λ v. (v.weigh.now, holds v.weights.items) };
+    ghost seen = { λ v. (v.weigh.now, holds (H.weights v.weights)) };
 
     ghost after = { collected W.weight };
 
     fn visit(&mut self, element: CollationElement) -> Result<(), AllocError> {
         match self.weigh.weight(element) {
-            Some(weight) => add_weight(&mut self.weights, weight),
+            Some(weight) => self.weights.add(weight),
             None => Ok(()),
         }
     }
 }
 
-impl<'w, W: Weigh> Visit for Collector<'w, W> {
+impl<'w, W: Weigh, H: HoldWeights> Visit for Collector<'w, W, H> {
     type Error = AllocError;
 
     ghost Seen = { W × (ℕ → Bool) };
 
-    ghost seen = { λ v. (v.weigh.now, holds v.weights.items) };
+    ghost seen = { λ v. (v.weigh.now, holds (H.weights v.weights)) };
 
     ghost after = { collected_at W.weight };
 
@@ -188,19 +215,19 @@ impl<'w, W: Weigh> Visit for Collector<'w, W> {
     }
 }
 
-/// Adds to a list the weights that are collected of the elements of all entries that are reachable in a root or a
-/// tailoring, in any order, with or without repetition. A tailoring falls back: a fallback entry of its code point
+/// Adds to a list or a set the weights that are collected of the elements of all entries that are reachable in a root
+/// or a tailoring, in any order, with or without repetition. A tailoring falls back: a fallback entry of its code point
 /// table is none. An entry whose elements can't be read, one that is not final, and one for an implicit weight, gives
 /// none. After an `Err`, out of memory, nothing is said of the list.
-pub fn collect_weights<W: Weigh>(
-    weights: &mut Vec<u32>,
+pub fn collect_weights<W: Weigh, H: HoldWeights + Drop>(
+    weights: &mut H,
     weigh: &W,
     home: CollationData<'_>,
     falls_back: bool,
 ) -> Result<(), AllocError>
     ensures { OnOk result
         (Adds (IsReachableWeight (W.weight weigh.now) falls_back (data_of home.entry))
-        weights.old.items weights.new.items) }
+        (H.weights weights.old) (H.weights weights.new)) }
 {
     let mut collector = Collector::over(weigh, weights);
     let outcome = visit_chars(&mut collector, home, falls_back);
@@ -208,10 +235,10 @@ pub fn collect_weights<W: Weigh>(
     outcome
 }
 
-/// Adds to a list the weights that are collected of the elements of the entries that are reachable with a character
-/// from one entry on, as `collect_weights` does.
-pub fn collect_weights_from<W: Weigh>(
-    weights: &mut Vec<u32>,
+/// Adds to a list or a set the weights that are collected of the elements of the entries that are reachable with a
+/// character from one entry on, as `collect_weights` does.
+pub fn collect_weights_from<W: Weigh, H: HoldWeights + Drop>(
+    weights: &mut H,
     weigh: &W,
     home: CollationData<'_>,
     c: char,
@@ -220,7 +247,7 @@ pub fn collect_weights_from<W: Weigh>(
     ensures { OnOk result (Adds
         (IsWeightAmong (W.weight weigh.now) (data_of home.entry) c
         (reachable_from (data_of home.entry) entry))
-        weights.old.items weights.new.items) }
+        (H.weights weights.old) (H.weights weights.new)) }
 {
     let mut collector = Collector::over(weigh, weights);
     let outcome = visit_from(&mut collector, home, c, entry);

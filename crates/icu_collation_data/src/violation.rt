@@ -62,6 +62,16 @@ pub trait Judge {
     {
         false
     }
+
+    /// Whether an entry has the same violation, or none, with each of the 64 characters from one on, so that a walk may
+    /// judge it with the first alone. `false` leaves that open.
+    fn is_alike_run(&self, home: CollationData<'_>, first: char, entry: CollationElement32) -> bool
+        ensures { result ≡ true
+            → EachOfBlock first (λ c. violation self.now (data_of home.entry) c entry
+            ≡ violation self.now (data_of home.entry) first entry) }
+    {
+        false
+    }
 }
 
 /// The violation with the lesser rank; of two with one rank, the best so far.
@@ -114,6 +124,19 @@ impl<'j, J: Judge> Visit for FirstViolation<'j, J> {
 
     fn passes_run(&self, home: CollationData<'_>, first: char, entry: CollationElement32) -> bool {
         self.judge.passes_run(home, first, entry)
+    }
+
+    fn visit_run(
+        &mut self,
+        home: CollationData<'_>,
+        first: char,
+        entry: CollationElement32,
+    ) -> Result<bool, Infallible> {
+        if !self.judge.is_alike_run(home, first, entry) {
+            return Ok(false);
+        }
+        self.first = earlier(self.first, self.judge.violation(home, first, entry));
+        Ok(true)
     }
 }
 

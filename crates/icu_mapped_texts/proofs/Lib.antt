@@ -1,7 +1,7 @@
-mod LongestBeginningLemmas
-mod MappedMatchLemmas
-mod MappedTextLemmas
-mod LongestPrefixLemmas
-mod DistinctLemmas
-mod RootMappingLemmas
-mod RootTextLemmas
+pub mod LongestBeginningLemmas
+pub mod MappedMatchLemmas
+pub mod MappedTextLemmas
+pub mod LongestPrefixLemmas
+pub mod DistinctLemmas
+pub mod RootMappingLemmas
+pub mod RootTextLemmas

@@ -97,7 +97,7 @@ suffixes_same number home g c prefix (m ∷ mappings) suffix = elim (cases_Bool 
   | inr b ↦ rw b (suffixes_same number home g c prefix mappings suffix)
 ]
 
-default_of_nothing : (mappings : List Mapping) (e : ℕ) → mapping_entry mappings [] ≡ None
+pub default_of_nothing : (mappings : List Mapping) (e : ℕ) → mapping_entry mappings [] ≡ None
     → mapping_entry (mappings ++ record { chars = []; entry = e } ∷ []) [] ≡ Some e
 unfolding mapping_entry
 default_of_nothing [] e n = refl

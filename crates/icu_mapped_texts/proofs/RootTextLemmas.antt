@@ -33,7 +33,7 @@ use Rattle.icu_mapped_texts.proofs.RootMappingLemmas.{group_of, group_has_prefix
 take_nothing : (text : List ℕ) → take 0 text ≡ []
 take_nothing text = refl
 
-something_taken : (i : ℕ) (text : List ℕ) → 0 < i → i ≤ length text → bytes_eq [] (take i text) ≡ false
+pub something_taken : (i : ℕ) (text : List ℕ) → 0 < i → i ≤ length text → bytes_eq [] (take i text) ≡ false
 something_taken zero text h k = absurd (omega arith)
 something_taken (suc i) [] h k = absurd (omega (arith, k))
 something_taken (suc i) (c ∷ text) h k = refl
@@ -62,7 +62,7 @@ none_mapped : (o : Option Mapping) → option_map (λ (m : Mapping). m.entry) o 
 none_mapped None e = refl
 none_mapped (Some m) e = cc
 
-none_first : (mappings : List Mapping) (chars : List ℕ) → mapping_entry mappings chars ≡ None
+pub none_first : (mappings : List Mapping) (chars : List ℕ) → mapping_entry mappings chars ≡ None
     → first_with chars_of mappings chars ≡ None
 none_first mappings chars e = none_mapped (first_with chars_of mappings chars) (sym (entry_first mappings chars) ∙ e)
 
@@ -101,7 +101,7 @@ own_groups home c (m ∷ prefixes) (none, distinct) chars =
         → (if bytes_eq m.chars chars then Some m else first_with chars_of prefixes chars) ≡ first_with chars_of prefixes chars
     if_false b = rw b refl
 
-begins_taken : (i : ℕ) (text : List ℕ) → i ≤ length text → starts_with nat_eq text (take i text) ≡ true
+pub begins_taken : (i : ℕ) (text : List ℕ) → i ≤ length text → starts_with nat_eq text (take i text) ≡ true
 begins_taken i text h =
     ap (λ n. bytes_eq (take i text) (take n text)) (length-take-le i text h) ∙ same_itself (take i text)
 
@@ -117,7 +117,7 @@ own_prefix_groups home c context distinct chars =
     ∙ ap (λ xs. own_of (group_of home c [] context.default) chars ++ xs) (own_groups home c context.mappings distinct chars)
 
 -- the entry of the longest prefix, or the default
-abbrev chosen_entry : Context → Option Mapping → ℕ
+abbrev pub chosen_entry : Context → Option Mapping → ℕ
 chosen_entry context None = context.default
 chosen_entry context (Some m) = m.entry
 
@@ -219,7 +219,7 @@ at_prefix home c e before d Prefix =
     (behind_prefixes home c context (d.distinct _) (d.some _) before o chosen)
 at_prefix home c e before d _ = record { prefix = []; are = group_alone home c e before }
 
-chosen_after : (h : HomedEntry) (before : List ℕ) → after_prefix h before
+pub chosen_after : (h : HomedEntry) (before : List ℕ) → after_prefix h before
     ≡ (elim (kind_of h.entry) as (λ _. ℕ) [ Prefix ↦ chosen_entry (context_of h) (longest_mapping (context_of h).mappings before) | _ ↦ h.entry ])
 unfolding after_prefix
 chosen_after h before =
@@ -231,7 +231,7 @@ chosen_after h before =
     at None = refl
     at (Some m) = refl
 
-says_own_mappings : (number : SymbolicElement → Element) (home : Data) → HasDistinctMappings home
+pub says_own_mappings : (number : SymbolicElement → Element) (home : Data) → HasDistinctMappings home
     → GivesBackElements number home → (c e : ℕ)
     → SaysMappings number home c e (map mapping_of_root (entry_mappings home c e))
 unfolding entry_mappings
@@ -252,20 +252,20 @@ own_entry tables c none = elim (cases_Bool (is_jamo c)) [
   | inr j ↦ rw (j, none) refl
 ]
 
-no_diacritic_mappings : (tables : Tables) (c : ℕ) → diacritic_of tables c ≡ None
+pub no_diacritic_mappings : (tables : Tables) (c : ℕ) → diacritic_of tables c ≡ None
     → root_mappings_of tables c ≡ entry_mappings tables.root c (root_entry tables c)
 unfolding root_mappings_of
 no_diacritic_mappings tables c e = rw (e, root_mappings_of) refl
 
-diacritic_mappings : (tables : Tables) (c secondary : ℕ) → diacritic_of tables c ≡ Some secondary
+pub diacritic_mappings : (tables : Tables) (c secondary : ℕ) → diacritic_of tables c ≡ Some secondary
     → root_mappings_of tables c ≡ diacritic_mapping secondary ∷ []
 unfolding root_mappings_of
 diacritic_mappings tables c secondary e = rw (e, root_mappings_of) refl
 
-abbrev alone_diacritic : ℕ → SymbolicMapping
+abbrev pub alone_diacritic : ℕ → SymbolicMapping
 alone_diacritic secondary = record { prefix = []; suffix = []; elements = of_root (of_secondary secondary) ∷ [] }
 
-diacritic_behind : (secondary : ℕ) (before : List ℕ)
+pub diacritic_behind : (secondary : ℕ) (before : List ℕ)
     → mappings_behind (alone_diacritic secondary ∷ []) (beginnings before) ≡ alone_diacritic secondary ∷ []
 diacritic_behind secondary before =
     behind_longest (alone_diacritic secondary ∷ []) before 0 (omega arith)

@@ -1,6 +1,7 @@
 -- Texts are read by tables as by mappings of characters (UTS #10, "Produce Collation Element Arrays"; UTS #35 part 5,
 -- "Context-Sensitive Mappings").
-use Rattle.std.specs.Prelude.{ℕ, Bool, not, ◌&&◌, ◌==◌, ◌≡◌, List, [], ◌∷◌, ◌++◌, map, filter, Option, Some, None}
+use Rattle.std.specs.Prelude.{ℕ, Bool, true, not, ◌&&◌, ◌==◌, ◌≡◌, List, [], ◌∷◌, ◌++◌, map, filter, Option, Some, None}
+use Rattle.std.specs.List.{AllByRecursion}
 use Rattle.icu_entries.specs.Elements.{Element, of_secondary}
 use Rattle.icu_entries.specs.Entries.{kind_of}
 use Rattle.icu_entries.specs.declared.entry.EntryKind.TheVariants.{Contraction}
@@ -65,10 +66,26 @@ pub record SayAllMappings (number : SymbolicElement → Element) (tables : Table
   pub diacritics : (c secondary : ℕ) → diacritic_of tables c ≡ Some secondary
       → IsMappedAlone number secondary (mappings c)
 
+-- the tables say the mappings of each character of which a test is true
+pub record SayMappingsOf (test : ℕ → Bool) (number : SymbolicElement → Element) (tables : Tables) (mappings : SymbolicMappings) : Type 0 where
+  pub entries : (c : ℕ) → test c ≡ true → diacritic_of tables c ≡ None
+      → SaysMappings number (entry_of tables c).home c (entry_of tables c).entry (mappings c)
+  pub diacritics : (c secondary : ℕ) → test c ≡ true → diacritic_of tables c ≡ Some secondary
+      → IsMappedAlone number secondary (mappings c)
+
 -- by tables that say the mappings of each character, a decomposed text has the elements that it has by these, but for
 -- elements without weights
 abbrev pub TextsAreReadByMappings : Type 0
 TextsAreReadByMappings = (number : SymbolicElement → Element) (tables : Tables) (mappings : SymbolicMappings)
     → SayAllMappings number tables mappings → (text : List ℕ)
+    → weighted (elements_of (non_numeric_reading tables) text)
+    ≡ weighted (map number (symbolic_elements mappings text))
+
+-- by tables that say the mappings of each character of which a test is true, a decomposed text of such characters has
+-- the elements that it has by these, but for elements without weights
+abbrev pub TextsOfSomeAreReadByMappings : Type 0
+TextsOfSomeAreReadByMappings = (test : ℕ → Bool) (number : SymbolicElement → Element) (tables : Tables)
+    (mappings : SymbolicMappings) → SayMappingsOf test number tables mappings → (text : List ℕ)
+    → AllByRecursion (λ c. test c ≡ true) text
     → weighted (elements_of (non_numeric_reading tables) text)
     ≡ weighted (map number (symbolic_elements mappings text))

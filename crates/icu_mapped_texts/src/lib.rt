@@ -2,7 +2,7 @@
 //! `icu_tailoring` defines it, with what tables give, as `icu_elements` does.
 #![tactic(auto)]
 
-ghost use Rattle.icu_mapped_texts.specs.MappedTexts.{TextsAreReadByMappings};
+ghost use Rattle.icu_mapped_texts.specs.MappedTexts.{TextsAreReadByMappings, TextsOfSomeAreReadByMappings};
 ghost use Rattle.icu_mapped_texts.specs.RootTexts.{RootsAreReadByMappings};
 
 /// Where the entry of each character comes to the elements of its mappings, behind each context and before each suffix,
@@ -10,6 +10,12 @@ ghost use Rattle.icu_mapped_texts.specs.RootTexts.{RootsAreReadByMappings};
 /// read as letters are.
 pub fn texts_are_read_by_mappings()
     ensures { TextsAreReadByMappings }
+{}
+
+/// Where that is so of the characters of a text alone, the text has by the tables the elements that it has by the
+/// mappings: nothing is asked of the entries of others.
+pub fn texts_of_some_are_read_by_mappings()
+    ensures { TextsOfSomeAreReadByMappings }
 {}
 
 /// By the tables of a root each text has the elements that it has by the root's mappings, which rules start from, but

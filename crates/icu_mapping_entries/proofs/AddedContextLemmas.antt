@@ -16,9 +16,9 @@ use Rattle.icu_entries.specs.Entries.{kind_of, entry_index}
 use Rattle.icu_collation_data.specs.Data.{Mapping, Context, Data, context_in, mapping_entry, no_context}
 use Rattle.icu_table_builder.specs.Building.{and_context}
 use Rattle.icu_table_builder.specs.AddedContexts.{given_mapping}
-use Rattle.icu_mapping_entries.specs.Given.{Leads, entry_in}
+use Rattle.icu_mapping_entries.specs.Given.{LeadsJust, entry_in}
 use Rattle.icu_mapping_entries.specs.inner.ContextParts.{AddsContext, mappings_by}
-use Rattle.icu_mapping_entries.specs.Surroundings.{Suffixes, Surroundings, entry_at, entry_between, value_among}
+use Rattle.icu_mapping_entries.specs.Surroundings.{Suffixes, Surroundings, entry_at, entry_between, own_entry, value_among}
 use Rattle.icu_mapping_entries.proofs.SurroundingLemmas.{found_among}
 
 -- ---- look-ups
@@ -108,7 +108,7 @@ entry_in_mappings es default h (c ∷ cs) = mapping_found es c cs
 -- a context that was added last
 pub context_added : (d new : Data) (index default : ℕ) (ms : List Mapping) (entries : Suffixes) → index ≡ length d.contexts
     → new ≡ and_context d (record { default = default; mappings = ms }) → ms ≡ mappings_by entries.entries → entry_at entries [] ≡ Some default
-    → AddsContext d new entries (Some index)
+    → AddsContext new entries (Some index)
 context_added d new index default ms entries at added same alone =
     let x : Context = record { default = default; mappings = ms } in
     let all : new.contexts ≡ d.contexts ++ x ∷ [] = ap (λ (n : Data). n.contexts) added in
@@ -116,41 +116,35 @@ context_added d new index default ms entries at added same alone =
     let here : context_in new.contexts index ≡ x =
     ap (λ i. context_in new.contexts i) at ∙ ap (λ xs. context_in xs (length d.contexts)) all ∙ get_or-append_seam d.contexts x [] no_context in (
       omega arith,
-      λ chars f h.
+      λ chars.
           ap (λ y. entry_in y chars) here
           ∙ ap (λ (ns : List Mapping). entry_in (record { default = default; mappings = ns }) chars) same
-          ∙ entry_in_mappings entries.entries default alone chars ∙ h,
+          ∙ entry_in_mappings entries.entries default alone chars,
     )
 
 -- no context is needed
-pub no_context_added : (d new : Data) (ms : List Mapping) (entries : Suffixes) → ms ≡ mappings_by entries.entries → length ms ≡ 0 → AddsContext d new entries None
+pub no_context_added : (new : Data) (ms : List Mapping) (entries : Suffixes) → ms ≡ mappings_by entries.entries → length ms ≡ 0 → AddsContext new entries None
 unfolding mapping_entry
-no_context_added d new [] entries same none [] f h = refl
-no_context_added d new [] entries same none (c ∷ cs) f h =
-    let e : mapping_entry (mappings_by entries.entries) (c ∷ cs) ≡ None = sym (ap (λ ms. mapping_entry ms (c ∷ cs)) same) ∙ nothing c cs in
-    let g : mapping_entry (mappings_by entries.entries) (c ∷ cs) ≡ Some f = mapping_found entries.entries c cs ∙ h in
-    cc where
-      nothing : (c : ℕ) (cs : List ℕ) → mapping_entry [] (c ∷ cs) ≡ None
-      nothing c cs = refl
-no_context_added d new (m ∷ ms) entries same none chars f h = absurd (omega arith)
+no_context_added new [] entries same none c cs =
+    sym (mapping_found entries.entries c cs) ∙ sym (ap (λ ms. mapping_entry ms (c ∷ cs)) same)
+no_context_added new (m ∷ ms) entries same none c cs = absurd (omega arith)
 
 -- ---- what entries lead to
 
--- an entry of an added context leads to the context's entries
-pub leads_by : (kind : EntryKind) (d new : Data) (entries : Suffixes) (index e : ℕ) → kind_of e ≡ kind → entry_index e ≡ index
-    → AddsContext d new entries (Some index) → (chars : List ℕ) (f : ℕ) → entry_at entries chars ≡ Some f → Leads kind new e chars f
-leads_by kind d new entries index e is at adds chars f h =
+-- an entry of an added context leads to just the context's entries
+pub leads_by : (kind : EntryKind) (new : Data) (entries : Suffixes) (found : List ℕ → Option ℕ) (index e : ℕ) → kind_of e ≡ kind → entry_index e ≡ index
+    → AddsContext new entries (Some index) → ((chars : List ℕ) → entry_at entries chars ≡ found chars) → LeadsJust kind new e found
+leads_by kind new entries found index e is at adds same =
     inl (record {
       kind_is = is;
       inside = let b : index < length new.contexts = adds.0 in omega arith;
-      entry = ap (λ i. entry_in (context_in new.contexts i) chars) at ∙ adds.1 chars f h;
+      entries = λ chars. ap (λ i. entry_in (context_in new.contexts i) chars) at ∙ adds.1 chars ∙ same chars;
     })
 
 -- without one the entry that stands before no characters stays
-pub leads_to_default : (kind : EntryKind) (d new : Data) (entries : Suffixes) (default : ℕ) → AddsContext d new entries None
-    → entry_at entries [] ≡ Some default → (chars : List ℕ) (f : ℕ) → entry_at entries chars ≡ Some f → Leads kind new default chars f
-leads_to_default kind d new entries default adds alone chars f h =
-    let none : chars ≡ [] = adds chars f h in
-    let g : entry_at entries [] ≡ Some f = sym (ap (entry_at entries) none) ∙ h in
-    let same : Some f ≡ Some default = sym g ∙ alone in
-    inr (none, let e : f ≡ default = cc in e)
+pub leads_to_default : (kind : EntryKind) (new : Data) (entries : Suffixes) (found : List ℕ → Option ℕ) (default : ℕ) → AddsContext new entries None
+    → entry_at entries [] ≡ Some default → ((chars : List ℕ) → entry_at entries chars ≡ found chars) → LeadsJust kind new default found
+leads_to_default kind new entries found default adds alone same = inr here where
+  here : (chars : List ℕ) → own_entry default chars ≡ found chars
+  here [] = sym alone ∙ same []
+  here (c ∷ cs) = sym (adds c cs) ∙ same (c ∷ cs)

@@ -1,5 +1,5 @@
 -- Lists of tables that grow: what they had stays.
-use Rattle.std.proofs.Common.{◌≡◌, ℕ, ◌+◌, ◌-◌, ◌<◌, ◌≤◌, true, List, [], ◌∷◌, ◌++◌, length, length-append, take, drop, zero, suc, refl, sym, ap, subst, ◌∙◌, if◌then◌else◌, arith, inl, inr, append_assoc}
+use Rattle.std.proofs.Common.{◌≡◌, ℕ, ◌+◌, ◌-◌, ◌<◌, ◌≤◌, true, List, [], ◌∷◌, ◌++◌, Option, length, length-append, take, drop, zero, suc, refl, sym, ap, subst, ◌∙◌, if◌then◌else◌, arith, inl, inr, append_assoc}
 use Rattle.std.specs.Prelude.{◌&&◌, nat_lt, nat_le}
 use Rattle.std.specs.List.{flat_map}
 use Rattle.std.proofs.lemmas.Bool.Decides.{nat_tests}
@@ -12,7 +12,7 @@ use Rattle.icu_collation_data.specs.Data.{Context, Data, context_in, no_context,
 use Rattle.icu_collation_data.specs.Final.{listed}
 use Rattle.icu_table_builder.specs.Building.{and_context, and_elements, and_entries}
 use Rattle.icu_mapping_entries.specs.DigitEntries.{IsDigitEntry}
-use Rattle.icu_mapping_entries.specs.Given.{Gives, Leads, Spells, entry_in}
+use Rattle.icu_mapping_entries.specs.Given.{Gives, Leads, LeadsJust, Spells, entry_in}
 use Rattle.icu_mapping_entries.specs.GrownLists.{Extends, HasMoreLists}
 
 -- ---- tables that grow
@@ -94,6 +94,21 @@ leads_further kind d new e chars f grows (inl r) =
     ap (λ xs. context_in xs i) grows.contexts ∙ get_or-append d.contexts grows.more_contexts no_context i r.inside in
     inl (record { kind_is = r.kind_is; inside = let b : entry_index e < length d.contexts = r.inside in omega arith; entry = ap (λ x. entry_in x chars) here ∙ r.entry })
 leads_further kind d new e chars f grows (inr r) = inr r
+
+-- and so does what it leads to just
+pub just_further : (kind : EntryKind) (d new : Data) (e : ℕ) (found : List ℕ → Option ℕ) → HasMoreLists d new
+    → LeadsJust kind d e found → LeadsJust kind new e found
+just_further kind d new e found grows (inl r) =
+    let i : ℕ = entry_index e in
+    let size : length new.contexts ≡ length d.contexts + length grows.more_contexts = ap length grows.contexts ∙ length-append d.contexts grows.more_contexts in
+    let here : context_in new.contexts i ≡ context_in d.contexts i =
+    ap (λ xs. context_in xs i) grows.contexts ∙ get_or-append d.contexts grows.more_contexts no_context i r.inside in
+    inl (record {
+      kind_is = r.kind_is;
+      inside = let b : entry_index e < length d.contexts = r.inside in omega arith;
+      entries = λ chars. ap (λ x. entry_in x chars) here ∙ r.entries chars;
+    })
+just_further kind d new e found grows (inr r) = inr r
 
 -- and so does what it comes to by what stands around it
 pub gives_further : (d new : Data) (e : ℕ) (before after : List ℕ) (f : ℕ) → HasMoreLists d new → Gives d e before after f → Gives new e before after f

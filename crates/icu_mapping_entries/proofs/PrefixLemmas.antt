@@ -5,13 +5,14 @@ use Rattle.std.specs.BTreeMap.{insert_entry}
 use Rattle.std.specs.Global.{Vec}
 use Rattle.std.specs.Map.{keys_of}
 use Rattle.std.specs.Str.{bytes_eq}
+use Rattle.icu_entries.specs.declared.entry.EntryKind.{EntryKind}
 use Rattle.icu_entries.specs.declared.entry.EntryKind.TheVariants.{Contraction, Prefix}
 use Rattle.icu_collation_data.specs.Data.{Data}
-use Rattle.icu_mapping_entries.specs.Given.{Leads, Gives}
+use Rattle.icu_mapping_entries.specs.Given.{Leads, LeadsJust, Gives, GivesJust}
 use Rattle.icu_mapping_entries.specs.GrownLists.{Extends}
 use Rattle.icu_mapping_entries.specs.Surroundings.{IsBehind, Suffixes, Surroundings, entry_at, nearest, own_entry, value_among}
 use Rattle.icu_mapping_entries.specs.inner.ContextParts.{LeadsNearest, is_among}
-use Rattle.icu_mapping_entries.proofs.GrownListLemmas.{leads_further}
+use Rattle.icu_mapping_entries.proofs.GrownListLemmas.{just_further}
 use Rattle.icu_mapping_entries.proofs.SurroundingLemmas.{inserted_among, key_order, same_from_true}
 
 -- a map with one entry more
@@ -94,7 +95,7 @@ pub leads_turn : (all : Surroundings) (own : ℕ) (d more : Data) (k : List ℕ)
     → (before : List ℕ) (e : ℕ) → entry_at new before ≡ Some e → LeadsNearest all own more before e
 leads_turn all own d more k v old new i grows here kept before e h =
     leads_here all own more k before v e (entry_at old before) (bytes_eq k before) (λ same. same_from_true k before same) here
-    (λ was after f n. leads_further Contraction d more e after f grows.lists (kept before e was after f n))
+    (λ was. just_further Contraction d more e (nearest all own before) grows.lists (kept before e was))
     (sym (inserted_at old new k v i before) ∙ h)
 
 -- at first no prefix alone has an entry
@@ -121,21 +122,35 @@ key_there (e ∷ es) chars h = here (bytes_eq e.0.items chars) (key_there es cha
   here true more h = refl
   here false more h = more h
 
--- behind what has an entry the character's entry comes to that of the longest prefix
-pub gives_nearest : (all : Surroundings) (own : ℕ) (d new : Data) (entries : Suffixes) (default result : ℕ) → Extends d new
+-- the entry of a character by the entries behind prefixes: just those that were put in
+pub gives_just : (all : Surroundings) (own : ℕ) (d new : Data) (entries : Suffixes) (default result : ℕ) → Extends d new
     → ((before : List ℕ) (e : ℕ) → entry_at entries before ≡ Some e → LeadsNearest all own d before e)
     → ((before : List ℕ) → is_among (keys_of all.entries) before ≡ true → is_some (entry_at entries before) ≡ true)
     → entry_at entries [] ≡ Some default
-    → ((chars : List ℕ) (e : ℕ) → entry_at entries chars ≡ Some e → Leads Prefix new result chars e)
-    → (before after : List ℕ) (f : ℕ) → IsBehind all before → nearest all own before after ≡ Some f → Gives new result before after f
-gives_nearest all own d new entries default result grows leads covers alone prefix before after f behind h =
-    let has : is_some (entry_at entries before) ≡ true = there_is behind in
-    let found : (e : ℕ) × (entry_at entries before ≡ Some e) = known (entry_at entries before) has in
+    → LeadsJust Prefix new result (entry_at entries) → GivesJust new result all own
+gives_just all own d new entries default result grows leads covers alone prefix = record {
+  behind = entry_at entries;
+  prefix = prefix;
+  prefixes = there_is;
+  contraction = λ before b is. just_further Contraction d new b (nearest all own before) grows.lists (leads before b is);
+} where
+  there_is : (before : List ℕ) → IsBehind all before → is_some (entry_at entries before) ≡ true
+  there_is before (inl none) = ap (λ cs. is_some (entry_at entries cs)) none ∙ ap is_some alone
+  there_is before (inr some) = covers before (key_there all.entries before some)
+
+leads_one : (kind : EntryKind) (d : Data) (e : ℕ) (found : List ℕ → Option ℕ) → LeadsJust kind d e found
+    → (chars : List ℕ) (f : ℕ) → found chars ≡ Some f → Leads kind d e chars f
+leads_one kind d e found (inl r) chars f h = inl (record { kind_is = r.kind_is; inside = r.inside; entry = r.entries chars ∙ h })
+leads_one kind d e found (inr own) [] f h = inr (refl, let same : Some e ≡ Some f = own [] ∙ h in cc)
+leads_one kind d e found (inr own) (c ∷ cs) f h = let same : None ≡ Some f = own (c ∷ cs) ∙ h in cc
+
+-- behind what has an entry the character's entry comes to that of the longest prefix
+pub gives_nearest : (all : Surroundings) (own : ℕ) (d : Data) (e : ℕ) → GivesJust d e all own
+    → (before after : List ℕ) (f : ℕ) → IsBehind all before → nearest all own before after ≡ Some f → Gives d e before after f
+gives_nearest all own d e gives before after f behind h =
+    let found : (b : ℕ) × (gives.behind before ≡ Some b) = known (gives.behind before) (gives.prefixes before behind) in
     record {
       behind = found.0;
-      prefix = prefix before found.0 found.1;
-      contraction = leads_further Contraction d new found.0 after f grows.lists (leads before found.0 found.1 after f h);
-    } where
-      there_is : IsBehind all before → is_some (entry_at entries before) ≡ true
-      there_is (inl none) = ap (λ cs. is_some (entry_at entries cs)) none ∙ ap is_some alone
-      there_is (inr some) = covers before (key_there all.entries before some)
+      prefix = leads_one Prefix d e gives.behind gives.prefix before found.0 found.1;
+      contraction = leads_one Contraction d found.0 (nearest all own before) (gives.contraction before found.0 found.1) after f h;
+    }

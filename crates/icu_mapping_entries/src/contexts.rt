@@ -2,7 +2,7 @@
 ghost use Rattle.std.specs.Prelude.{◌≡◌, ◌<◌, ◌^◌, [], ℕ, List, Some, IfOk, IfSome, OnOk, map};
 ghost use Rattle.icu_table_builder.specs.AddedContexts.{given_mapping};
 ghost use Rattle.icu_table_builder.specs.Building.{built_data};
-ghost use Rattle.icu_mapping_entries.specs.Given.{Gives};
+ghost use Rattle.icu_mapping_entries.specs.Given.{Gives, GivesJust};
 ghost use Rattle.icu_mapping_entries.specs.GrownLists.{Extends};
 ghost use Rattle.icu_mapping_entries.specs.Surroundings.{entry_at, nearest, IsBehind};
 ghost use Rattle.icu_mapping_entries.specs.inner.ContextParts.{mappings_by, AddsContext, LeadsNearest};
@@ -46,8 +46,7 @@ fn add_context(
     requires { entry_at entries.now [] ≡ Some default }
     ensures bound { IfOk result (λ added. IfSome added (λ index. index < 2 ^ 19)) }
     ensures extends { OnOk result (Extends (built_data builder.old) (built_data builder.new)) }
-    ensures adds { IfOk result (AddsContext
-        (built_data builder.old) (built_data builder.new) entries.now) }
+    ensures adds { IfOk result (AddsContext (built_data builder.new) entries.now) }
 {
     let list = mappings_by(alloc, entries)?;
     if list.is_empty() {
@@ -91,6 +90,7 @@ pub fn entry_in_contexts(
     ensures gives { IfOk result (λ e. (before after : List ℕ) (f : ℕ)
         → IsBehind contexts.now before → nearest contexts.now own before after ≡ Some f
         → Gives (built_data builder.new) e before after f) }
+    ensures just { IfOk result (λ e. GivesJust (built_data builder.new) e contexts.now own) }
 {
     let default = contraction(alloc, left, builder, own, contexts, &[])?;
     let mut entries = own_alone(alloc, default)?;

@@ -2,16 +2,17 @@
 use Rattle.std.proofs.Common.{◌≡◌, ℕ, Bool, true, false, List, [], ◌∷◌, Option, Some, None, refl, sym, ap, subst, ◌∙◌, if◌then◌else◌}
 use Rattle.std.specs.Prelude.{◌&&◌, MatchBool, filter, bytes_eq}
 use Rattle.ucd_perl.specs.Perl.{is_digit_char}
+use Rattle.icu_entries.specs.declared.entry.EntryKind.TheVariants.{Prefix, Contraction}
 use Rattle.icu_collation_data.specs.Data.{Data}
 use Rattle.icu_mapping_entries.specs.DigitEntries.{IsDigitEntry, decimal_value}
 use Rattle.icu_mapping_entries.specs.Given.{Spells}
 use Rattle.icu_mapping_entries.specs.GrownLists.{HasMoreLists}
 use Rattle.icu_mapping_entries.specs.Surroundings.{PutsEntryBetween, Surroundings, entry_between}
-use Rattle.icu_mapping_entries.proofs.GrownListLemmas.{digit_further, gives_further, spells_further}
+use Rattle.icu_mapping_entries.proofs.GrownListLemmas.{digit_further, just_further, spells_further}
 use Rattle.icu_mapping_entries.proofs.PutEntryLemmas.{nothing_between}
-use Rattle.icu_tailoring.specs.TailoredMappings.{SymbolicMapping, has_no_context, mapping_with, stands_after_prefix}
+use Rattle.icu_tailoring.specs.TailoredMappings.{SymbolicMapping, beginnings, has_no_context, mapping_with, mappings_behind, stands_after_prefix}
 use Rattle.icu_tailoring_numbers.specs.declared.tailoring_numbers.TailoringNumbers.{TailoringNumbers}
-use Rattle.icu_tailored_entries.specs.GivenMappings.{GivesMappings, IsMappingEntry, numbered_elements}
+use Rattle.icu_tailored_entries.specs.GivenMappings.{GivesMappings, IsMappingEntry, StandsFor, StandsForMappings, numbered_elements}
 use Rattle.icu_tailored_entries.specs.inner.MappingEntries.{HasEntriesOf, IsEntryOfMaybe}
 
 -- a test that decides between facts, of which others follow
@@ -41,12 +42,31 @@ pub entries_further : (t : TailoringNumbers) (d new : Data) (c : ℕ) (mappings 
 entries_further t d new c mappings all grows has before after =
     maybe_further t d new c (mapping_with (filter (stands_after_prefix before) mappings) after) (entry_between all before after) grows (has before after)
 
+-- what stands for a mapping still does
+pub stands_further : (t : TailoringNumbers) (d new : Data) (c : ℕ) (after : List ℕ) (m : Option SymbolicMapping) (e : Option ℕ) → HasMoreLists d new
+    → StandsFor t d c after m e → StandsFor t new c after m e
+stands_further t d new c after None None grows h = h
+stands_further t d new c after None (Some e) grows h = h
+stands_further t d new c after (Some m) None grows h = absurd h
+stands_further t d new c after (Some m) (Some e) grows h = entry_further t d new c m e grows h
+
+suffixes_further : (t : TailoringNumbers) (d new : Data) (c : ℕ) (mappings : List SymbolicMapping) (e : ℕ) → HasMoreLists d new
+    → StandsForMappings t d c mappings e → StandsForMappings t new c mappings e
+suffixes_further t d new c mappings e grows s = record {
+  found = s.found;
+  leads = just_further Contraction d new e s.found grows s.leads;
+  stands = λ after. stands_further t d new c after (mapping_with mappings after) (s.found after) grows (s.stands after);
+}
+
 -- and so do mappings that are given
 pub mappings_further : (t : TailoringNumbers) (d new : Data) (c : ℕ) (mappings : List SymbolicMapping) (e : ℕ) → HasMoreLists d new
     → GivesMappings t d c mappings e → GivesMappings t new c mappings e
-mappings_further t d new c mappings e grows gives before after m prefix found =
-    let g = gives before after m prefix found in
-    (g.0, entry_further t d new c m g.0 grows g.1, gives_further d new e before after g.0 grows g.2)
+mappings_further t d new c mappings e grows gives = record {
+  behind = gives.behind;
+  prefix = just_further Prefix d new e gives.behind grows gives.prefix;
+  prefixes = gives.prefixes;
+  suffixes = λ before b is. suffixes_further t d new c (mappings_behind mappings (beginnings before)) b grows (gives.suffixes before b is);
+}
 
 -- ---- one mapping after another
 

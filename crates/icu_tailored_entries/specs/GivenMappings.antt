@@ -1,14 +1,15 @@
 -- What a tailoring gives for the mappings of characters (UTS #35 part 5, "Context-Sensitive Mappings"; UTS #10,
 -- "Expansions" and "Contractions").
-use Rattle.std.specs.Prelude.{ℕ, ◌≡◌, ◌⊎◌, ◌&&◌, true, List, [], ◌∷◌, map, Some, MatchBool}
+use Rattle.std.specs.Prelude.{ℕ, ◌≡◌, ◌⊎◌, ◌&&◌, true, List, [], ◌∷◌, map, Option, Some, None, is_some, MatchBool}
 use Rattle.std.specs.List.{list_any}
 use Rattle.ucd_perl.specs.Perl.{is_digit_char}
 use Rattle.icu_entries.specs.Elements.{Element}
 use Rattle.icu_entries.specs.Entries.{fallback_entry}
+use Rattle.icu_entries.specs.declared.entry.EntryKind.TheVariants.{Prefix, Contraction}
 use Rattle.icu_entries.specs.EncodedEntries.{of_weights}
 use Rattle.icu_collation_data.specs.Data.{Data}
 use Rattle.icu_mapping_entries.specs.DigitEntries.{IsDigitEntry, decimal_value}
-use Rattle.icu_mapping_entries.specs.Given.{Gives, Spells}
+use Rattle.icu_mapping_entries.specs.Given.{LeadsJust, Spells}
 use Rattle.icu_tailoring.specs.declared.symbolic.SymbolicElement.{SymbolicElement}
 use Rattle.icu_tailoring.specs.TailoredMappings.{SymbolicMapping, beginnings, has_no_context, mapping_with, mappings_behind, stands_after_prefix}
 use Rattle.icu_tailoring.specs.TailoredRoots.{RootMapping}
@@ -38,12 +39,29 @@ pub record IsMappingEntry (t : TailoringNumbers) (d : Data) (c : ℕ) (m : Symbo
 abbrev pub IsPrefixOfSome : List SymbolicMapping → List ℕ → Type 0
 IsPrefixOfSome mappings before = (before ≡ []) ⊎ (list_any (stands_after_prefix before) mappings ≡ true)
 
--- The entry e of a character gives its mappings: behind the prefix of one of them, or none, the nearest character
--- first, and before the suffix of one that counts there it comes to the entry of that.
-abbrev pub GivesMappings : TailoringNumbers → Data → ℕ → List SymbolicMapping → ℕ → Type 0
-GivesMappings t d c mappings e = (before after : List ℕ) (m : SymbolicMapping) → IsPrefixOfSome mappings before
-    → mapping_with (mappings_behind mappings (beginnings before)) after ≡ Some m
-    → (f : ℕ) × IsMappingEntry t d c m f × Gives d e before after f
+-- What stands for a mapping before a suffix: its entry. Where none counts there is nothing; a character that has no
+-- mapping before nothing has some entry there.
+abbrev pub StandsFor : TailoringNumbers → Data → ℕ → List ℕ → Option SymbolicMapping → Option ℕ → Type 0
+StandsFor t d c after None None = Unit {0}
+StandsFor t d c after None (Some e) = after ≡ []
+StandsFor t d c after (Some m) None = ⊥
+StandsFor t d c after (Some m) (Some e) = IsMappingEntry t d c m e
+
+-- the entry e of a character, once its prefix is decided: before each suffix it comes to what stands for the first of
+-- the mappings with just that suffix, and to nothing else
+pub record StandsForMappings (t : TailoringNumbers) (d : Data) (c : ℕ) (mappings : List SymbolicMapping) (e : ℕ) : Type 0 where
+  pub found : List ℕ → Option ℕ
+  pub leads : LeadsJust Contraction d e found
+  pub stands : (after : List ℕ) → StandsFor t d c after (mapping_with mappings after) (found after)
+
+-- The entry e of a character gives just its mappings: behind the prefix of each of them, and behind none, the nearest
+-- character first, it comes to an entry; and behind whatever it does, this stands for those that count there.
+pub record GivesMappings (t : TailoringNumbers) (d : Data) (c : ℕ) (mappings : List SymbolicMapping) (e : ℕ) : Type 0 where
+  pub behind : List ℕ → Option ℕ
+  pub prefix : LeadsJust Prefix d e behind
+  pub prefixes : (before : List ℕ) → IsPrefixOfSome mappings before → is_some (behind before) ≡ true
+  pub suffixes : (before : List ℕ) (b : ℕ) → behind before ≡ Some b
+      → StandsForMappings t d c (mappings_behind mappings (beginnings before)) b
 
 -- The entry of a character that has mappings of its own gives these. For each other one the root's entry stands.
 abbrev pub TailorsCharacter : {R : Type 0} → (R → ℕ → List RootMapping) → TailoringNumbers → Mappings R → Data → ℕ → Type 0

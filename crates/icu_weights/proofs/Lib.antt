@@ -4,3 +4,6 @@ pub mod NeighbourLemmas
 pub mod OverlapLemmas
 pub mod LeadLemmas
 pub mod AlikeLemmas
+pub mod WeightSetLemmas
+pub mod PageLemmas
+pub mod TargetLemmas

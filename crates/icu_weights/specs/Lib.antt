@@ -1,3 +1,5 @@
 pub mod Leads
 pub mod Overlaps
 pub mod Alike
+pub mod WeightSets
+pub mod inner

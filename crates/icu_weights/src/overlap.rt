@@ -20,7 +20,7 @@ use std::alloc::AllocError;
 
 /// Reordering leaves weights in four bytes.
 #[tactic(auto, using(crate::proofs::LeadLemmas::reordered_fits))]
-fn stays_in_range(reordering: Option<CollationReordering<'_>>)
+pub(crate) fn stays_in_range(reordering: Option<CollationReordering<'_>>)
     ensures { (p : ℕ) → p < 2 ^ 32
         → reorder_by (option_map reordering_of reordering.entry) p < 2 ^ 32 }
 {
@@ -30,7 +30,7 @@ fn stays_in_range(reordering: Option<CollationReordering<'_>>)
 }
 
 /// A primary weight as it is compared: reordered, where there is a reordering.
-fn reorder_by(reordering: Option<CollationReordering<'_>>, primary: u32) -> u32
+pub(crate) fn reorder_by(reordering: Option<CollationReordering<'_>>, primary: u32) -> u32
     ensures { result ≡ reorder_by (option_map reordering_of reordering.entry) primary }
 {
     match reordering {

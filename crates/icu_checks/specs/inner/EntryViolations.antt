@@ -40,6 +40,10 @@ is_taken_apart all p = is_middle (lead_byte (reorder all p)) && not (lead_byte (
 abbrev pub HasEndsApart : CollatorTables → ℕ → Type 0
 HasEndsApart all h = IsTrue (is_taken_apart all (h * 0x10000)) × IsTrue (is_taken_apart all (h * 0x10000 + 0xFFFF))
 
+-- it takes these two to one lead byte
+abbrev pub HasEndsTogether : CollatorTables → ℕ → Type 0
+HasEndsTogether all h = lead_byte (reorder all (h * 0x10000)) ≡ lead_byte (reorder all (h * 0x10000 + 0xFFFF))
+
 -- implicit weights fail none
 abbrev pub ImplicitPasses : CollatorTables → Type 0
 ImplicitPasses all = (c : ℕ) → first_failing_element all (of_primary (implicit_weight c)) ≡ None

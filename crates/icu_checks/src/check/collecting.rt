@@ -6,32 +6,34 @@ ghost use Rattle.icu_checks.specs.inner.ComparedWeights.{Adds, IsWeightBy, IsJam
 
 use crate::check::lookups::jamo_char;
 use crate::check::weights::WeightList;
-use icu_collation_data::reachable_weights::{Weigh, collect_weights, collect_weights_from};
+use icu_collation_data::reachable_weights::{
+    HoldWeights, Weigh, collect_weights, collect_weights_from,
+};
 use icu_entries::{CollationElement, CollationElement32, DataTable};
 use icu_provider::TableSet;
 use icu_provider::diacritics::is_replaced_index;
 use std::alloc::AllocError;
 
-fn collect_root(
+fn collect_root<H: HoldWeights + Drop>(
     tables: TableSet<'_>,
     list: WeightList,
-    weights: &mut Vec<u32>,
+    weights: &mut H,
 ) -> Result<(), AllocError>
     ensures { OnOk result (Adds
         (IsWeightBy list DataTable.Root (tables_in tables.entry).tables)
-        weights.old.items weights.new.items) }
+        (H.weights weights.old) (H.weights weights.new)) }
 {
     collect_weights(weights, &list, tables.root, false)
 }
 
-fn collect_tailoring(
+fn collect_tailoring<H: HoldWeights + Drop>(
     tables: TableSet<'_>,
     list: WeightList,
-    weights: &mut Vec<u32>,
+    weights: &mut H,
 ) -> Result<(), AllocError>
     ensures { OnOk result (Adds
         (IsWeightBy list DataTable.Tailoring (tables_in tables.entry).tables)
-        weights.old.items weights.new.items) }
+        (H.weights weights.old) (H.weights weights.new)) }
 {
     match tables.tailoring {
         Some(tailoring) => collect_weights(weights, &list, tailoring, true),
@@ -40,18 +42,18 @@ fn collect_tailoring(
 }
 
 /// The weights of what is reachable with one of the conjoining jamo.
-fn collect_of_jamo(
+fn collect_of_jamo<H: HoldWeights + Drop>(
     tables: TableSet<'_>,
     list: WeightList,
     place: usize,
     entry: CollationElement32,
-    weights: &mut Vec<u32>,
+    weights: &mut H,
 ) -> Result<(), AllocError>
     requires inside { place < 256 }
     requires entry { entry ≡ slice_index (jamo_of tables.jamo) place }
     ensures { OnOk result (Adds
         (IsJamoWeight list (tables_in tables.entry) place)
-        weights.old.items weights.new.items) }
+        (H.weights weights.old) (H.weights weights.new)) }
 {
     match jamo_char(place) {
         Some(c) => collect_weights_from(weights, &list, tables.root, c, entry),
@@ -59,14 +61,14 @@ fn collect_of_jamo(
     }
 }
 
-fn collect_jamo(
+fn collect_jamo<H: HoldWeights + Drop>(
     tables: TableSet<'_>,
     list: WeightList,
-    weights: &mut Vec<u32>,
+    weights: &mut H,
 ) -> Result<(), AllocError>
     ensures { OnOk result (Adds
         (IsWeightBy list DataTable.Jamo (tables_in tables.entry).tables)
-        weights.old.items weights.new.items) }
+        (H.weights weights.old) (H.weights weights.new)) }
 {
     for (place, entry) in tables.jamo.ce32s().iter().enumerate() {
         collect_of_jamo(
@@ -81,35 +83,35 @@ fn collect_jamo(
 }
 
 /// The weight of a diacritic.
-fn collect_diacritic(
+fn collect_diacritic<H: HoldWeights + Drop>(
     tables: TableSet<'_>,
     list: WeightList,
     place: usize,
     secondary: u16,
-    weights: &mut Vec<u32>,
+    weights: &mut H,
 ) -> Result<(), AllocError>
     requires secondary { secondary ≡ slice_index (diacritics_of tables.diacritics) place }
     ensures { OnOk result (Adds
         (IsDiacriticWeight list (tables_in tables.entry) place)
-        weights.old.items weights.new.items) }
+        (H.weights weights.old) (H.weights weights.new)) }
 {
     if is_replaced_index(place) {
         return Ok(());
     }
     if let Some(weight) = list.weight(CollationElement::new_from_secondary(secondary)) {
-        weights.push(weight)?;
+        weights.add(weight)?;
     }
     Ok(())
 }
 
-fn collect_diacritics(
+fn collect_diacritics<H: HoldWeights + Drop>(
     tables: TableSet<'_>,
     list: WeightList,
-    weights: &mut Vec<u32>,
+    weights: &mut H,
 ) -> Result<(), AllocError>
     ensures { OnOk result (Adds
         (IsWeightBy list DataTable.Diacritics (tables_in tables.entry).tables)
-        weights.old.items weights.new.items) }
+        (H.weights weights.old) (H.weights weights.new)) }
 {
     for (place, secondary) in tables.diacritics.secondaries().iter().enumerate() {
         collect_diacritic(tables, list, place, *secondary, weights)?;
@@ -117,16 +119,16 @@ fn collect_diacritics(
     Ok(())
 }
 
-/// Adds the weights of what is reachable by a table.
-pub(crate) fn collect(
+/// Adds the weights of what is reachable by a table, to a list or a set.
+pub(crate) fn collect<H: HoldWeights + Drop>(
     tables: TableSet<'_>,
     list: WeightList,
     table: DataTable,
-    weights: &mut Vec<u32>,
+    weights: &mut H,
 ) -> Result<(), AllocError>
     ensures { OnOk result (Adds
         (IsWeightBy list table (tables_in tables.entry).tables)
-        weights.old.items weights.new.items) }
+        (H.weights weights.old) (H.weights weights.new)) }
 {
     match table {
         DataTable::Root => collect_root(tables, list, weights),

@@ -10,7 +10,7 @@ ghost use Rattle.icu_collation_data.specs.StoredData.{data_of};
 ghost use Rattle.icu_collation_data.specs.Walks.{EachOfBlock};
 ghost use Rattle.icu_provider.specs.CollatorTables.{CollatorTables};
 ghost use Rattle.icu_provider.specs.TableSets.{tables_in};
-ghost use Rattle.icu_checks.specs.inner.EntryViolations.{first_failing_element, element_violation, after_element, judged_element, elements_violation, mappings_violation, entry_violation, is_taken_apart, HasEndsApart, ImplicitPasses, KeepsLeadTogether};
+ghost use Rattle.icu_checks.specs.inner.EntryViolations.{first_failing_element, element_violation, after_element, judged_element, elements_violation, mappings_violation, entry_violation, is_taken_apart, HasEndsApart, HasEndsTogether, ImplicitPasses, KeepsLeadTogether};
 
 use crate::check::element_conditions::IMPLICIT_LEAD;
 use crate::check::lead_conditions::numeric_lead;
@@ -233,14 +233,20 @@ fn has_ends_apart(tables: TableSet<'_>, high: u16) -> bool
     is_taken_apart(tables, first) && is_taken_apart(tables, first + 0xFFFF)
 }
 
+/// The two highest bytes of the implicit weight of a character.
+fn implicit_high(c: char) -> u16
+    ensures { result ≡ implicit_weight c / 65536 }
+{
+    (CollationElement::new_implicit_from_char(c).primary() >> 16) as u16
+}
+
 /// Whether reordering takes the first and the last weight apart that have the two highest bytes of the implicit weight
 /// of a character.
 fn implicit_ends_apart(tables: TableSet<'_>, c: char) -> bool
     ensures { result ≡ true
         → HasEndsApart (tables_in tables.entry) (implicit_weight c / 65536) }
 {
-    let weight = CollationElement::new_implicit_from_char(c).primary();
-    has_ends_apart(tables, (weight >> 16) as u16)
+    has_ends_apart(tables, implicit_high(c))
 }
 
 /// Whether the implicit weights of 64 characters, from one to another, meet every condition on elements. Their two
@@ -263,6 +269,42 @@ fn implicit_run_passes(tables: TableSet<'_>, first: char) -> bool
 {
     match char::from_u32(first as u32 + 63) {
         Some(last) => implicit_between_passes(tables, first, last),
+        None => false,
+    }
+}
+
+/// Whether reordering takes the first and the last primary weight with these two highest bytes to one lead byte.
+#[tactic(auto, unfolding(icu_provider::specs::TableSets::tables_in))]
+fn has_ends_together(tables: TableSet<'_>, high: u16) -> bool
+    ensures { result ≡ true → HasEndsTogether (tables_in tables.entry) high }
+{
+    let first = u32::from(high) * 0x10000;
+    lead_byte(tables.reorder(first)) == lead_byte(tables.reorder(first + 0xFFFF))
+}
+
+/// Whether the implicit weights of 64 characters, from one to another, have the same two highest bytes, and reordering
+/// takes these to one lead byte.
+fn implicit_between_is_alike(tables: TableSet<'_>, first: char, last: char) -> bool
+    requires { last ≡ first + 63 }
+    ensures { result ≡ true → EachOfBlock first (λ c.
+        first_failing_element (tables_in tables.entry) (of_primary (implicit_weight c))
+        ≡ first_failing_element (tables_in tables.entry) (of_primary (implicit_weight first))) }
+{
+    let high = implicit_high(first);
+    if implicit_high(last) != high {
+        return false;
+    }
+    has_ends_together(tables, high)
+}
+
+/// Whether the implicit weights of the 64 characters from one on first fail the same condition on elements, or none.
+fn implicit_run_is_alike(tables: TableSet<'_>, first: char) -> bool
+    ensures { result ≡ true → EachOfBlock first (λ c.
+        first_failing_element (tables_in tables.entry) (of_primary (implicit_weight c))
+        ≡ first_failing_element (tables_in tables.entry) (of_primary (implicit_weight first))) }
+{
+    match char::from_u32(first as u32 + 63) {
+        Some(last) => implicit_between_is_alike(tables, first, last),
         None => false,
     }
 }
@@ -327,5 +369,17 @@ impl<'d> Judge for TablesJudge<'d> {
             }
             _ => false,
         }
+    }
+
+    fn is_alike_run(
+        &self,
+        _home: CollationData<'_>,
+        first: char,
+        entry: CollationElement32,
+    ) -> bool {
+        if entry.kind() != EntryKind::Implicit {
+            return false;
+        }
+        implicit_run_is_alike(self.tables, first)
     }
 }

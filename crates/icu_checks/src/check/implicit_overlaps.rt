@@ -7,6 +7,7 @@ ghost use Rattle.std.specs.List.{list_any};
 ghost use Rattle.icu_collation_data.specs.Reachable.{reachable_from};
 ghost use Rattle.icu_collation_data.specs.StoredData.{data_of};
 ghost use Rattle.icu_provider.specs.TableSets.{tables_in};
+ghost use Rattle.icu_weights.specs.WeightSets.{weights_of_set};
 ghost use Rattle.icu_checks.specs.inner.Violations.{IsTrueViolation};
 ghost use Rattle.icu_checks.specs.inner.PairViolations.{AreListed, IsListedWeight};
 ghost use Rattle.icu_checks.specs.inner.ImplicitOverlaps.{is_for_implicit, IsImplicitBy, IsImplicitClash};
@@ -20,13 +21,13 @@ use crate::check::weights::{ComparedLevel, WeightList};
 use crate::condition::{Condition, LeadCondition, PairCondition};
 use crate::violation::Violation;
 use icu_collation_data::CollationData;
-use icu_collation_data::reachable_weights::sort_and_dedup;
 use icu_collation_data::walk::{Visit, visit_from};
 use icu_entries::{CollationElement, CollationElement32, DataTable, EntryKind};
 use icu_provider::TableSet;
 use icu_provider::jamo::{JAMO_BASE, JAMO_COUNT};
 use icu_provider::reordering::lead_byte;
 use icu_weights::overlap::{Overlap, is_beginning};
+use icu_weights::weight_set::WeightSet;
 use std::alloc::{AllocError, Global};
 use std::convert::Infallible;
 
@@ -269,14 +270,9 @@ fn first_clash_among(
     None
 }
 
-/// How many weights may begin an implicit one. One that may begin those of several characters, as it has fewer than
-/// four bytes, counts as many.
-fn count_of_candidates(
-    tables: TableSet<'_>,
-    together: bool,
-    before_too: bool,
-    weights: &[u32],
-) -> usize {
+/// How many of some weights may begin an implicit one. One that may begin those of several characters, as it has fewer
+/// than four bytes, counts as many.
+fn count_among(tables: TableSet<'_>, together: bool, before_too: bool, weights: &[u32]) -> usize {
     let mut count = 0usize;
     for primary in weights {
         if may_begin_implicit(tables, together, before_too, *primary) {
@@ -291,20 +287,97 @@ fn count_of_candidates(
     count
 }
 
+/// Whether weights with a lead byte may begin an implicit one once both are reordered, and before that, where it is
+/// asked: some may unless reordering takes the first and the last weight for each second byte to other lead bytes.
+fn may_begin_with_lead(tables: TableSet<'_>, together: bool, before_too: bool, lead: u8) -> bool {
+    let least = u32::from(lead) << 24;
+    for second in 0..256u32 {
+        let first = least | second << 16;
+        if may_begin_implicit(tables, together, before_too, first)
+            || may_begin_implicit(tables, together, before_too, first | 0xFFFF)
+        {
+            return true;
+        }
+    }
+    false
+}
+
+/// How many weights of a set may begin an implicit one, those of three bytes with each lead byte as a whole.
+fn count_of_candidates(
+    tables: TableSet<'_>,
+    together: bool,
+    before_too: bool,
+    weights: &WeightSet,
+) -> Result<usize, AllocError> {
+    for lead in 0..256u16 {
+        let lead = lead as u8;
+        if weights.has_lead(lead) && may_begin_with_lead(tables, together, before_too, lead) {
+            return Ok(FEW_WEIGHTS + 1);
+        }
+    }
+    let others = weights.others()?;
+    Ok(count_among(tables, together, before_too, &others))
+}
+
+/// The first such clash of the weights of three bytes.
+fn first_clash_of_three(
+    tables: TableSet<'_>,
+    by: &[DataTable],
+    implicit: &ImplicitChars,
+    weights: &WeightSet,
+    before_too: bool,
+) -> Result<Option<ImplicitClash>, AllocError>
+    requires { AreListed WeightList.Primaries (tables_in tables).tables
+        (weights_of_set weights.now) }
+    ensures { IfOk result (λ found. IfSome found (IsImplicitClash (tables_in tables.entry))) }
+{
+    let together = LeadCondition::ImplicitLead.holds(tables);
+    for lead in 0..256u16 {
+        let lead = lead as u8;
+        if weights.has_lead(lead) && may_begin_with_lead(tables, together, before_too, lead) {
+            let list = weights.weights_of_lead(lead)?;
+            if let Some(clash) = first_clash_among(tables, by, implicit, &list, before_too) {
+                return Ok(Some(clash));
+            }
+        }
+    }
+    Ok(None)
+}
+
+/// The first such clash of the weights of a set.
+fn first_clash_in(
+    tables: TableSet<'_>,
+    by: &[DataTable],
+    implicit: &ImplicitChars,
+    weights: &WeightSet,
+    before_too: bool,
+) -> Result<Option<ImplicitClash>, AllocError>
+    requires { AreListed WeightList.Primaries (tables_in tables).tables
+        (weights_of_set weights.now) }
+    ensures { IfOk result (λ found. IfSome found (IsImplicitClash (tables_in tables.entry))) }
+{
+    let others = weights.others()?;
+    match first_clash_among(tables, by, implicit, &others, before_too) {
+        Some(clash) => Ok(Some(clash)),
+        None => first_clash_of_three(tables, by, implicit, weights, before_too),
+    }
+}
+
 /// The first such clash of some weights: of all of them, or only of weights that overlap before reordering too. Which
 /// characters have an implicit weight is looked up only where more than a few weights may have a clash.
 fn first_clash(
     alloc: Global,
     tables: TableSet<'_>,
     by: &[DataTable],
-    weights: &[u32],
+    weights: &WeightSet,
     before_too: bool,
 ) -> Result<Option<ImplicitClash>, AllocError>
-    requires { AreListed WeightList.Primaries (tables_in tables).tables weights.now }
+    requires { AreListed WeightList.Primaries (tables_in tables).tables
+        (weights_of_set weights.now) }
     ensures { IfOk result (λ found. IfSome found (IsImplicitClash (tables_in tables.entry))) }
 {
     let together = LeadCondition::ImplicitLead.holds(tables);
-    let candidates = count_of_candidates(tables, together, before_too, weights);
+    let candidates = count_of_candidates(tables, together, before_too, weights)?;
     if candidates == 0 {
         return Ok(None);
     }
@@ -313,7 +386,7 @@ fn first_clash(
     } else {
         ImplicitChars::new(alloc, tables, by)?
     };
-    Ok(first_clash_among(tables, by, &implicit, weights, before_too))
+    first_clash_in(tables, by, &implicit, weights, before_too)
 }
 
 /// The violation of such a clash, named by the first table by which the weight is reachable.
@@ -346,10 +419,9 @@ fn named_clash(
     requires { IsImplicitClash (tables_in tables) clash }
     ensures { IfOk result (IsTrueViolation (tables_in tables.entry)) }
 {
-    let mut weights = Vec::new(alloc);
+    let mut weights = WeightSet::new(alloc);
     for (index, table) in REACHABLE_TABLES.iter().enumerate() {
         collect(tables, WeightList::Primaries, *table, &mut weights)?;
-        sort_and_dedup(&mut weights);
         let by = &REACHABLE_TABLES[..index + 1];
         if let Some(found) = first_clash(alloc, tables, by, &weights, true)? {
             return clash_violation(alloc, tables, found);
@@ -362,9 +434,10 @@ fn named_clash(
 pub(crate) fn implicit_violation(
     alloc: Global,
     tables: TableSet<'_>,
-    weights: &[u32],
+    weights: &WeightSet,
 ) -> Result<Option<Violation>, AllocError>
-    requires { AreListed WeightList.Primaries (tables_in tables).tables weights.now }
+    requires { AreListed WeightList.Primaries (tables_in tables).tables
+        (weights_of_set weights.now) }
     ensures { IfOk result (λ found. IfSome found (IsTrueViolation (tables_in tables.entry))) }
 {
     match first_clash(alloc, tables, &REACHABLE_TABLES, weights, false)? {

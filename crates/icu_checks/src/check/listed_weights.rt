@@ -1,40 +1,32 @@
 //! The weights that are compared with one another, all lists on two walks over a table.
 ghost use Rattle.std.specs.Prelude.{◌≡◌, [], IfOk, OnOk};
-ghost use Rattle.std.specs.List.Sorted.{IsStrictlyIncreasing};
 ghost use Rattle.icu_collation_data.specs.CollectedWeights.{IsReachableWeight};
 ghost use Rattle.icu_collation_data.specs.StoredData.{data_of};
 ghost use Rattle.icu_provider.specs.TableSets.{tables_in};
+ghost use Rattle.icu_weights.specs.WeightSets.{weights_of_set};
 ghost use Rattle.icu_checks.specs.inner.ComparedWeights.{compared_weight, Adds};
-ghost use Rattle.icu_checks.specs.inner.ListedWeights.{HasNone, AreSame, AddsEach, HasSame, HoldsEach};
+ghost use Rattle.icu_checks.specs.inner.ListedWeights.{HasNone, AddsEach, HoldsEach};
 
 use crate::check::collecting::collect;
 use crate::check::weights::WeightList;
 use icu_collation_data::CollationData;
 use icu_collation_data::block_walk::visit_chars;
 use icu_collation_data::both::Both;
-use icu_collation_data::reachable_weights::{Collector, collect_weights, sort_and_dedup};
+use icu_collation_data::reachable_weights::{Collector, collect_weights};
 use icu_entries::DataTable;
 use icu_provider::TableSet;
+use icu_weights::weight_set::WeightSet;
 use std::alloc::{AllocError, Global};
 
-/// The weights that are compared with one another, list by list.
+/// The weights that are compared with one another, list by list. Those of levels are sets, as there may be millions of
+/// primary weights.
 #[derive(Drop)]
 pub(crate) struct ListedWeights {
-    pub(crate) primaries: Vec<u32>,
-    pub(crate) secondaries: Vec<u32>,
-    pub(crate) tertiaries: Vec<u32>,
+    pub(crate) primaries: WeightSet,
+    pub(crate) secondaries: WeightSet,
+    pub(crate) tertiaries: WeightSet,
     pub(crate) tertiary_elements: Vec<u32>,
     pub(crate) with_secondary: Vec<u32>,
-}
-
-/// Puts weights in ascending order, each once. Where most of them stand in order, the stable sort makes use of that.
-fn sort_runs(weights: &mut Vec<u32>) -> Result<(), AllocError>
-    ensures ascending { OnOk result (IsStrictlyIncreasing weights.new.items) }
-    ensures same { OnOk result (AreSame weights.old.items weights.new.items) }
-{
-    weights.sort()?;
-    sort_and_dedup(weights);
-    Ok(())
 }
 
 impl ListedWeights {
@@ -43,25 +35,12 @@ impl ListedWeights {
         ensures { HasNone result }
     {
         ListedWeights {
-            primaries: Vec::new(alloc),
-            secondaries: Vec::new(alloc),
-            tertiaries: Vec::new(alloc),
+            primaries: WeightSet::new(alloc),
+            secondaries: WeightSet::new(alloc),
+            tertiaries: WeightSet::new(alloc),
             tertiary_elements: Vec::new(alloc),
             with_secondary: Vec::new(alloc),
         }
-    }
-
-    /// Puts each list in ascending order, each weight once.
-    fn sort(&mut self) -> Result<(), AllocError>
-        ensures same { OnOk result (HasSame self.old self.new) }
-        ensures primaries { OnOk result (IsStrictlyIncreasing self.new.primaries.items) }
-        ensures secondaries { OnOk result (IsStrictlyIncreasing self.new.secondaries.items) }
-        ensures tertiaries { OnOk result (IsStrictlyIncreasing self.new.tertiaries.items) }
-    {
-        sort_runs(&mut self.primaries)?;
-        sort_and_dedup(&mut self.secondaries);
-        sort_and_dedup(&mut self.tertiaries);
-        Ok(())
     }
 }
 
@@ -74,13 +53,13 @@ fn collect_home(
 ) -> Result<(), AllocError>
     ensures primaries { OnOk result (Adds
         (IsReachableWeight (compared_weight WeightList.Primaries) falls_back (data_of home.entry))
-        lists.old.primaries.items lists.new.primaries.items) }
+        (weights_of_set lists.old.primaries) (weights_of_set lists.new.primaries)) }
     ensures secondaries { OnOk result (Adds
         (IsReachableWeight (compared_weight WeightList.Secondaries) falls_back (data_of home.entry))
-        lists.old.secondaries.items lists.new.secondaries.items) }
+        (weights_of_set lists.old.secondaries) (weights_of_set lists.new.secondaries)) }
     ensures tertiaries { OnOk result (Adds
         (IsReachableWeight (compared_weight WeightList.Tertiaries) falls_back (data_of home.entry))
-        lists.old.tertiaries.items lists.new.tertiaries.items) }
+        (weights_of_set lists.old.tertiaries) (weights_of_set lists.new.tertiaries)) }
     ensures tertiary_elements { OnOk result (Adds
         (IsReachableWeight (compared_weight WeightList.TertiaryElements) falls_back
         (data_of home.entry))
@@ -165,21 +144,17 @@ fn collect_each(
     )
 }
 
-/// All weights of all tables. Primaries, secondaries and tertiaries are in ascending order, each once.
+/// All weights of all tables.
 pub(crate) fn listed_weights(
     alloc: Global,
     tables: TableSet<'_>,
 ) -> Result<ListedWeights, AllocError>
-    ensures primaries { IfOk result (λ lists. IsStrictlyIncreasing lists.primaries.items) }
-    ensures secondaries { IfOk result (λ lists. IsStrictlyIncreasing lists.secondaries.items) }
-    ensures tertiaries { IfOk result (λ lists. IsStrictlyIncreasing lists.tertiaries.items) }
-    ensures weights { IfOk result (HoldsEach (tables_in tables.entry).tables) }
+    ensures { IfOk result (HoldsEach (tables_in tables.entry).tables) }
 {
     let mut lists = ListedWeights::new(alloc);
     collect_root(tables, &mut lists)?;
     collect_each(tables, DataTable::Jamo, &mut lists)?;
     collect_tailoring(tables, &mut lists)?;
     collect_each(tables, DataTable::Diacritics, &mut lists)?;
-    lists.sort()?;
     Ok(lists)
 }

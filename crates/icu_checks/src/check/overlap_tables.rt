@@ -13,7 +13,7 @@ use crate::violation::{Violation, later};
 use icu_entries::DataTable;
 use icu_provider::TableSet;
 use icu_weights::overlap::{Overlap, are_overlapping};
-use icu_weights::weight_list::contains;
+use icu_weights::weight_set::WeightSet;
 use std::alloc::{AllocError, Global};
 
 /// Whether a weight is reachable by a table.
@@ -27,9 +27,9 @@ fn has_weight(
     ensures { IfOk result (λ found. IsTrue found
         ↔ IsWeightBy list table (tables_in tables.entry).tables weight) }
 {
-    let mut weights = Vec::new(alloc);
+    let mut weights = WeightSet::new(alloc);
     collect(tables, list, table, &mut weights)?;
-    Ok(contains(&weights, weight))
+    Ok(weights.has(weight))
 }
 
 /// The first table by which a weight is reachable.

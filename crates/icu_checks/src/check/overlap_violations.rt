@@ -1,7 +1,7 @@
 //! Overlaps of the weights of a level: one that begins another.
 ghost use Rattle.std.specs.Prelude.{◌≡◌, IfOk};
-ghost use Rattle.std.specs.List.Sorted.{IsStrictlyIncreasing};
 ghost use Rattle.icu_provider.specs.TableSets.{tables_in};
+ghost use Rattle.icu_weights.specs.WeightSets.{weights_of_set};
 ghost use Rattle.icu_checks.specs.inner.Violations.{IsTrueViolation};
 ghost use Rattle.icu_checks.specs.inner.ComparedLevels.{list_of};
 ghost use Rattle.icu_checks.specs.inner.PairViolations.{HoldsLevel, AreFree, AreClashing, IsOutcome, LevelIsFree};
@@ -10,10 +10,11 @@ use crate::check::collecting::collect;
 use crate::check::overlap_tables::clash_violation;
 use crate::check::weights::ComparedLevel;
 use crate::violation::Violation;
-use icu_collation_data::reachable_weights::sort_and_dedup;
 use icu_entries::DataTable;
 use icu_provider::TableSet;
-use icu_weights::overlap::{Overlap, first_common_overlap, first_overlap};
+use icu_weights::overlap::Overlap;
+use icu_weights::set_overlaps::{first_common_set_overlap, first_set_overlap};
+use icu_weights::weight_set::WeightSet;
 use std::alloc::{AllocError, Global};
 
 /// The tables by which weights are reachable, in the order in which they are named.
@@ -35,44 +36,41 @@ fn named_overlap(
     requires { AreClashing level (tables_in tables) overlap.first overlap.second }
     ensures { IfOk result (IsTrueViolation (tables_in tables.entry)) }
 {
-    let mut weights = Vec::new(alloc);
+    let mut weights = WeightSet::new(alloc);
     for table in REACHABLE_TABLES {
         collect(tables, level.list(), table, &mut weights)?;
-        sort_and_dedup(&mut weights);
-        if let Some(found) = first_common_overlap(&mut weights, level.reordering(tables))? {
+        if let Some(found) = first_common_set_overlap(&weights, level.reordering(tables))? {
             return clash_violation(alloc, tables, level, found);
         }
     }
     clash_violation(alloc, tables, level, overlap)
 }
 
-/// The first violation of all weights of a level. The list of them is put in another order.
+/// The first violation of all weights of a level.
 pub(crate) fn overlap_violation(
     alloc: Global,
     tables: TableSet<'_>,
     level: ComparedLevel,
-    weights: &mut Vec<u32>,
+    weights: &WeightSet,
 ) -> Result<Option<Violation>, AllocError>
-    requires ascending { IsStrictlyIncreasing weights.old.items }
-    requires weights { HoldsLevel (list_of level) (tables_in tables).tables weights.old.items }
+    requires { HoldsLevel (list_of level) (tables_in tables).tables (weights_of_set weights.now) }
     ensures { IfOk result (IsOutcome (tables_in tables.entry)
-        (AreFree level (tables_in tables.entry) weights.old.items)) }
+        (AreFree level (tables_in tables.entry) (weights_of_set weights.now))) }
 {
-    match first_overlap(weights, level.reordering(tables))? {
+    match first_set_overlap(weights, level.reordering(tables))? {
         Some(overlap) => Ok(Some(named_overlap(alloc, tables, level, overlap)?)),
         None => Ok(None),
     }
 }
 
-/// The first violation of the weights of a level. The list of them is put in another order.
+/// The first violation of the weights of a level.
 pub(crate) fn level_violation(
     alloc: Global,
     tables: TableSet<'_>,
     level: ComparedLevel,
-    weights: &mut Vec<u32>,
+    weights: &WeightSet,
 ) -> Result<Option<Violation>, AllocError>
-    requires ascending { IsStrictlyIncreasing weights.old.items }
-    requires weights { HoldsLevel (list_of level) (tables_in tables).tables weights.old.items }
+    requires { HoldsLevel (list_of level) (tables_in tables).tables (weights_of_set weights.now) }
     ensures { IfOk result (IsOutcome (tables_in tables.entry)
         (LevelIsFree level (tables_in tables.entry))) }
 {

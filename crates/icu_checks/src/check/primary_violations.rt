@@ -1,8 +1,7 @@
 //! Primary weights that overlap, or don't compress alike, after reordering.
-ghost use Rattle.std.specs.Prelude.{◌≡◌, None, IfSome, IfOk};
-ghost use Rattle.std.specs.List.Sorted.{IsStrictlyIncreasing};
+ghost use Rattle.std.specs.Prelude.{◌≡◌, IfOk};
 ghost use Rattle.icu_provider.specs.TableSets.{tables_in};
-ghost use Rattle.icu_checks.specs.inner.Violations.{IsTrueViolation};
+ghost use Rattle.icu_weights.specs.WeightSets.{weights_of_set};
 ghost use Rattle.icu_checks.specs.declared.check.weights.WeightList.{WeightList};
 ghost use Rattle.icu_checks.specs.inner.PairViolations.{HoldsLevel, ListCompressesAlike, PrimariesAreFree, IsOutcome};
 
@@ -14,42 +13,48 @@ use crate::violation::Violation;
 use icu_collation_data::violation::earlier;
 use icu_entries::DataTable;
 use icu_provider::TableSet;
-use icu_weights::alike::compress_alike;
+use icu_weights::set_alike::set_compresses_alike;
+use icu_weights::weight_set::WeightSet;
 use std::alloc::{AllocError, Global};
 
 /// The violation of weights that share a lead byte after reordering and don't compress alike.
-fn compression_violation(tables: TableSet<'_>, weights: &[u32]) -> Option<Violation>
-    requires { HoldsLevel WeightList.Primaries (tables_in tables).tables weights.now }
-    ensures none { result ≡ None → ListCompressesAlike (tables_in tables.entry) weights.now }
-    ensures some { IfSome result (IsTrueViolation (tables_in tables.entry)) }
+fn compression_violation(
+    tables: TableSet<'_>,
+    weights: &WeightSet,
+) -> Result<Option<Violation>, AllocError>
+    requires { HoldsLevel WeightList.Primaries (tables_in tables).tables
+        (weights_of_set weights.now) }
+    ensures { IfOk result (IsOutcome (tables_in tables.entry)
+        (ListCompressesAlike (tables_in tables.entry) (weights_of_set weights.now))) }
 {
     match tables.reordering {
         Some(reordering) => {
-            if compress_alike(weights, tables.special, reordering) {
-                None
+            let alike = set_compresses_alike(weights, tables.special, reordering)?;
+            if alike {
+                Ok(None)
             } else {
-                Some(Violation {
+                Ok(Some(Violation {
                     condition: Condition::Pair(PairCondition::Compression),
                     table: DataTable::Reordering,
-                })
+                }))
             }
         }
-        None => None,
+        None => Ok(None),
     }
 }
 
-/// The first violation of primary weights. The list of them is put in another order.
+/// The first violation of primary weights.
 pub(crate) fn primary_violation(
     alloc: Global,
     tables: TableSet<'_>,
-    weights: &mut Vec<u32>,
+    weights: &WeightSet,
 ) -> Result<Option<Violation>, AllocError>
-    requires ascending { IsStrictlyIncreasing weights.old.items }
-    requires weights { HoldsLevel WeightList.Primaries (tables_in tables).tables weights.old.items }
+    requires { HoldsLevel WeightList.Primaries (tables_in tables).tables
+        (weights_of_set weights.now) }
     ensures { IfOk result (IsOutcome (tables_in tables.entry)
         (PrimariesAreFree (tables_in tables.entry))) }
 {
-    let unlike = compression_violation(tables, weights);
+    let unlike = compression_violation(tables, weights)?;
     let implicit = implicit_violation(alloc, tables, weights)?;
     let overlap = overlap_violation(alloc, tables, ComparedLevel::Primary, weights)?;
     Ok(earlier(earlier(overlap, implicit), unlike))

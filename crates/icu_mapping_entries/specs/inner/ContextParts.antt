@@ -3,7 +3,7 @@ use Rattle.std.specs.Prelude.{◌≡◌, ℕ, ◌<◌, List, [], ◌∷◌, Bool
 use Rattle.std.specs.Global.{Vec}
 use Rattle.icu_collation_data.specs.Data.{Mapping, Data, context_in}
 use Rattle.icu_entries.specs.declared.entry.EntryKind.TheVariants.{Contraction}
-use Rattle.icu_mapping_entries.specs.Given.{Leads, entry_in}
+use Rattle.icu_mapping_entries.specs.Given.{LeadsJust, entry_in}
 use Rattle.icu_mapping_entries.specs.Surroundings.{Suffixes, Surroundings, entry_at, nearest}
 
 -- the value at the last key that has these characters, or another one where none has them
@@ -21,13 +21,14 @@ unfoldable pub is_among : List (Vec ℕ) → List ℕ → Bool
 is_among [] chars = false
 is_among (k ∷ ks) chars = bytes_eq k.items chars || is_among ks chars
 
--- behind these characters the entry comes to that of the longest prefix, whatever follows
+-- behind these characters the entry comes to just that of the longest prefix, whatever follows
 abbrev pub LeadsNearest : Surroundings → ℕ → Data → List ℕ → ℕ → Type 0
-LeadsNearest all own d before e = (after : List ℕ) (f : ℕ) → nearest all own before after ≡ Some f → Leads Contraction d e after f
+LeadsNearest all own d before e = LeadsJust Contraction d e (nearest all own before)
 
--- a context with these entries was added, which has the index, or none was needed: only no characters have an entry
-abbrev pub AddsContext : Data → Data → Suffixes → Option ℕ → Type 0
-AddsContext old new entries None = (chars : List ℕ) (f : ℕ) → entry_at entries chars ≡ Some f → chars ≡ []
-AddsContext old new entries (Some index) =
+-- a context with just these entries was added, which has the index, or none was needed: no characters but none have an
+-- entry
+abbrev pub AddsContext : Data → Suffixes → Option ℕ → Type 0
+AddsContext new entries None = (c : ℕ) (cs : List ℕ) → entry_at entries (c ∷ cs) ≡ None
+AddsContext new entries (Some index) =
     (index < length new.contexts)
-    × ((chars : List ℕ) (f : ℕ) → entry_at entries chars ≡ Some f → entry_in (context_in new.contexts index) chars ≡ Some f)
+    × ((chars : List ℕ) → entry_in (context_in new.contexts index) chars ≡ entry_at entries chars)

@@ -1,5 +1,5 @@
 -- Entries of the mappings of a character while they are put together.
-use Rattle.std.specs.Prelude.{ℕ, ◌≡◌, List, filter, Option, Some, None}
+use Rattle.std.specs.Prelude.{ℕ, List, filter, Option, Some, None}
 use Rattle.icu_collation_data.specs.Data.{Data}
 use Rattle.icu_mapping_entries.specs.Surroundings.{PutsEntryBetween, Surroundings, entry_between}
 use Rattle.icu_tailoring.specs.TailoredMappings.{SymbolicMapping, mapping_with, stands_after_prefix}
@@ -12,11 +12,6 @@ IsEntryOfMaybe t d c None None = Unit {0}
 IsEntryOfMaybe t d c None (Some e) = ⊥
 IsEntryOfMaybe t d c (Some m) None = ⊥
 IsEntryOfMaybe t d c (Some m) (Some e) = IsMappingEntry t d c m e
-
--- if there is a mapping, there is its entry
-abbrev pub HasEntryOf : TailoringNumbers → Data → ℕ → Option SymbolicMapping → Option ℕ → Type 0
-HasEntryOf t d c None e = Unit {0}
-HasEntryOf t d c (Some m) e = (f : ℕ) × (e ≡ Some f) × IsMappingEntry t d c m f
 
 -- behind each prefix and before each suffix stands the entry of the first mapping of these, and nothing where there is
 -- none

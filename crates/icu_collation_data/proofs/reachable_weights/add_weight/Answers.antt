@@ -1,6 +1,6 @@
 use Rattle.std.proofs.Common.{◌≡◌, ℕ, List, ◌-◌, Some, length, sym, ap, subst, ◌∙◌}
 use Rattle.std.specs.List.{slice_get}
-use Rattle.icu_collation_data.specs.inner.Visitors.{holds}
+use Rattle.icu_collation_data.specs.CollectedWeights.{Adds}
 use Rattle.icu_collation_data.proofs.CollectedWeightLemmas.{last_again, one_more}
 use Rattle.icu_collation_data.proofs.reachable_weights.add_weight.Goals as goal
 
@@ -10,4 +10,5 @@ returns-then-last-weight c =
     last_again c.args.weights.now.items c.args.weight (last ∙ ap Some c.if-last-weight.true)
 
 pub returns : goal.returns
-returns c = ap holds c.in_ok-push.ensures.items ∙ one_more c.args.weights.now.items _ c.args.weight c.in_ok-make_room.ensures
+returns c =
+    subst (λ ws. Adds (λ w. w ≡ c.args.weight) c.args.weights.now.items ws) (sym c.in_ok-push.ensures.items) (one_more c.args.weights.now.items _ c.args.weight c.in_ok-make_room.ensures)

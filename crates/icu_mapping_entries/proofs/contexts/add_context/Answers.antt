@@ -13,7 +13,7 @@ returns-then-is_empty-clause-adds c =
     let list = c.in_ok-list.list in
     let same : vec_len list ≡ length list.items = list.ok.0 in
     let none : vec_len list ≡ 0 = nothing_left (vec_len list) (sym c.is_empty.ensures ∙ c.if-is_empty.true) in
-    no_context_added (built_data c.args.builder.now) (built_data c.args.builder.now) (map given_mapping list.items) c.args.entries.now
+    no_context_added (built_data c.args.builder.now) (map given_mapping list.items) c.args.entries.now
     c.in_ok-list.ensures (none_given list.items (omega arith))
 
 pub returns-clause-extends : goal.returns-clause-extends

@@ -3,7 +3,7 @@ use Rattle.std.specs.Prelude.{is_some}
 use Rattle.icu_entries.specs.declared.entry.EntryKind.TheVariants.{Contraction}
 use Rattle.icu_table_builder.specs.Building.{built_data}
 use Rattle.icu_mapping_entries.specs.inner.ContextParts.{AddsContext}
-use Rattle.icu_mapping_entries.specs.Surroundings.{entry_at}
+use Rattle.icu_mapping_entries.specs.Surroundings.{entry_at, nearest}
 use Rattle.icu_mapping_entries.proofs.AddedContextLemmas.{leads_by, leads_to_default, there}
 use Rattle.icu_mapping_entries.proofs.NearestLemmas.{has_nearest}
 use Rattle.icu_mapping_entries.proofs.contexts.contraction.Goals as goal
@@ -15,18 +15,18 @@ add_context-requires c =
     c.entry_alone-default.ensures
 
 pub returns-in-Some-clause-gives : goal.returns-in-Some-clause-gives
-returns-in-Some-clause-gives c = λ after f h.
-    leads_by Contraction (built_data c.args.builder.now) (built_data c.add_context.new.builder) c.in_ok-entries.entries c.in-Some.index
-    c.contraction.result c.contraction.ensures.kind c.contraction.ensures.index
-    (subst (λ o. AddsContext (built_data c.args.builder.now) (built_data c.add_context.new.builder) c.in_ok-entries.entries o) c.in-Some.is c.in_ok-index.ensures.adds)
-    after f (c.in_ok-entries.ensures after ∙ h)
+returns-in-Some-clause-gives c =
+    leads_by Contraction (built_data c.add_context.new.builder) c.in_ok-entries.entries (nearest c.args.contexts.now c.args.own c.args.before.now)
+    c.in-Some.index c.contraction.result c.contraction.ensures.kind c.contraction.ensures.index
+    (subst (λ o. AddsContext (built_data c.add_context.new.builder) c.in_ok-entries.entries o) c.in-Some.is c.in_ok-index.ensures.adds)
+    c.in_ok-entries.ensures
 
 pub returns-clause-gives : goal.returns-clause-gives
-returns-clause-gives c = λ after f h.
-    leads_to_default Contraction (built_data c.args.builder.now) (built_data c.add_context.new.builder) c.in_ok-entries.entries
+returns-clause-gives c =
+    leads_to_default Contraction (built_data c.add_context.new.builder) c.in_ok-entries.entries (nearest c.args.contexts.now c.args.own c.args.before.now)
     c.entry_alone-default.result
-    (subst (λ o. AddsContext (built_data c.args.builder.now) (built_data c.add_context.new.builder) c.in_ok-entries.entries o) c.in-None.is c.in_ok-index.ensures.adds)
+    (subst (λ o. AddsContext (built_data c.add_context.new.builder) c.in_ok-entries.entries o) c.in-None.is c.in_ok-index.ensures.adds)
     (there (entry_at c.in_ok-entries.entries []) c.entry_alone-default.result c.args.own
     (ap is_some (c.in_ok-entries.ensures []) ∙ has_nearest c.args.contexts.now c.args.own (length c.args.before.now) c.args.before.now)
     c.entry_alone-default.ensures)
-    after f (c.in_ok-entries.ensures after ∙ h)
+    c.in_ok-entries.ensures

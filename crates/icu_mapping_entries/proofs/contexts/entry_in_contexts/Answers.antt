@@ -1,10 +1,11 @@
-use Rattle.std.proofs.Common.{◌≡◌, ◌<◌, [], ap, sym, subst, ◌∙◌, length, vec_len, arith, inr}
+use Rattle.std.proofs.Common.{◌≡◌, ◌<◌, [], ap, sym, subst, ◌∙◌, length, vec_len, arith, inr, refl}
 use Rattle.icu_entries.specs.declared.entry.EntryKind.TheVariants.{Prefix}
 use Rattle.icu_table_builder.specs.Building.{built_data}
+use Rattle.icu_mapping_entries.specs.Surroundings.{entry_at}
 use Rattle.icu_mapping_entries.specs.inner.ContextParts.{AddsContext, LeadsNearest, is_among}
 use Rattle.icu_mapping_entries.proofs.GrownListLemmas.{extends_further}
 use Rattle.icu_mapping_entries.proofs.AddedContextLemmas.{leads_by, leads_to_default, nothing_left, positive}
-use Rattle.icu_mapping_entries.proofs.PrefixLemmas.{Inserts, alone_turn, covers_end, covers_skip, covers_turn, gives_nearest, leads_first, leads_turn}
+use Rattle.icu_mapping_entries.proofs.PrefixLemmas.{Inserts, alone_turn, covers_end, covers_skip, covers_turn, gives_just, gives_nearest, leads_first, leads_turn}
 use Rattle.icu_mapping_entries.proofs.contexts.entry_in_contexts.Goals as goal
 
 pub loop-before-init : goal.loop-before-init
@@ -53,23 +54,48 @@ loop-before-preserved c =
           c.in-Some.ensures.steps (omega arith) c.loop-before.invariant.alone before (c.loop-before.invariant.covers before h);
     }
 
-pub returns-in-Some-2-clause-gives : goal.returns-in-Some-2-clause-gives
-returns-in-Some-2-clause-gives c =
-    gives_nearest c.args.contexts.now c.args.own (built_data c.loop-before.builder) (built_data c.add_context.new.builder) c.loop-before.entries
+pub returns-in-Some-2-clause-just : goal.returns-in-Some-2-clause-just
+returns-in-Some-2-clause-just c =
+    gives_just c.args.contexts.now c.args.own (built_data c.loop-before.builder) (built_data c.add_context.new.builder) c.loop-before.entries
     c.in_ok-default.default c.prefix.result c.in_ok-index.ensures.extends c.loop-before.invariant.leads
     (λ before h. covers_end c.loop-before.before-iterator c.loop-before.entries c.in-None.ensures.steps.0 before (c.loop-before.invariant.covers before h))
     c.loop-before.invariant.alone
-    (leads_by Prefix (built_data c.loop-before.builder) (built_data c.add_context.new.builder) c.loop-before.entries c.in-Some-2.index
+    (leads_by Prefix (built_data c.add_context.new.builder) c.loop-before.entries (entry_at c.loop-before.entries) c.in-Some-2.index
     c.prefix.result c.prefix.ensures.kind c.prefix.ensures.index
-    (subst (λ o. AddsContext (built_data c.loop-before.builder) (built_data c.add_context.new.builder) c.loop-before.entries o) c.in-Some-2.is c.in_ok-index.ensures.adds))
+    (subst (λ o. AddsContext (built_data c.add_context.new.builder) c.loop-before.entries o) c.in-Some-2.is c.in_ok-index.ensures.adds)
+    (λ chars. refl))
 
-pub returns-clause-gives : goal.returns-clause-gives
-returns-clause-gives c =
-    gives_nearest c.args.contexts.now c.args.own (built_data c.loop-before.builder) (built_data c.add_context.new.builder) c.loop-before.entries
+pub returns-in-Some-2-clause-gives : goal.returns-in-Some-2-clause-gives
+returns-in-Some-2-clause-gives c =
+    gives_nearest c.args.contexts.now c.args.own (built_data c.add_context.new.builder) c.prefix.result
+    (gives_just c.args.contexts.now c.args.own (built_data c.loop-before.builder) (built_data c.add_context.new.builder) c.loop-before.entries
+    c.in_ok-default.default c.prefix.result c.in_ok-index.ensures.extends c.loop-before.invariant.leads
+    (λ before h. covers_end c.loop-before.before-iterator c.loop-before.entries c.in-None.ensures.steps.0 before (c.loop-before.invariant.covers before h))
+    c.loop-before.invariant.alone
+    (leads_by Prefix (built_data c.add_context.new.builder) c.loop-before.entries (entry_at c.loop-before.entries) c.in-Some-2.index
+    c.prefix.result c.prefix.ensures.kind c.prefix.ensures.index
+    (subst (λ o. AddsContext (built_data c.add_context.new.builder) c.loop-before.entries o) c.in-Some-2.is c.in_ok-index.ensures.adds)
+    (λ chars. refl)))
+
+pub returns-clause-just : goal.returns-clause-just
+returns-clause-just c =
+    gives_just c.args.contexts.now c.args.own (built_data c.loop-before.builder) (built_data c.add_context.new.builder) c.loop-before.entries
     c.in_ok-default.default c.in_ok-default.default c.in_ok-index.ensures.extends c.loop-before.invariant.leads
     (λ before h. covers_end c.loop-before.before-iterator c.loop-before.entries c.in-None.ensures.steps.0 before (c.loop-before.invariant.covers before h))
     c.loop-before.invariant.alone
-    (leads_to_default Prefix (built_data c.loop-before.builder) (built_data c.add_context.new.builder) c.loop-before.entries
+    (leads_to_default Prefix (built_data c.add_context.new.builder) c.loop-before.entries (entry_at c.loop-before.entries)
     c.in_ok-default.default
-    (subst (λ o. AddsContext (built_data c.loop-before.builder) (built_data c.add_context.new.builder) c.loop-before.entries o) c.in-None-2.is c.in_ok-index.ensures.adds)
-    c.loop-before.invariant.alone)
+    (subst (λ o. AddsContext (built_data c.add_context.new.builder) c.loop-before.entries o) c.in-None-2.is c.in_ok-index.ensures.adds)
+    c.loop-before.invariant.alone (λ chars. refl))
+
+pub returns-clause-gives : goal.returns-clause-gives
+returns-clause-gives c =
+    gives_nearest c.args.contexts.now c.args.own (built_data c.add_context.new.builder) c.in_ok-default.default
+    (gives_just c.args.contexts.now c.args.own (built_data c.loop-before.builder) (built_data c.add_context.new.builder) c.loop-before.entries
+    c.in_ok-default.default c.in_ok-default.default c.in_ok-index.ensures.extends c.loop-before.invariant.leads
+    (λ before h. covers_end c.loop-before.before-iterator c.loop-before.entries c.in-None.ensures.steps.0 before (c.loop-before.invariant.covers before h))
+    c.loop-before.invariant.alone
+    (leads_to_default Prefix (built_data c.add_context.new.builder) c.loop-before.entries (entry_at c.loop-before.entries)
+    c.in_ok-default.default
+    (subst (λ o. AddsContext (built_data c.add_context.new.builder) c.loop-before.entries o) c.in-None-2.is c.in_ok-index.ensures.adds)
+    c.loop-before.invariant.alone (λ chars. refl)))

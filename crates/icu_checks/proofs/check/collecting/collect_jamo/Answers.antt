@@ -8,10 +8,10 @@ whole : (xs ys : List ℕ) (n : ℕ) → length xs ≡ length ys → length ys �
 whole xs ys n same count end inside = omega (arith, same, count, end, inside)
 
 pub loop-place-preserved : goal.loop-place-preserved
-loop-place-preserved c =
+loop-place-preserved g c =
     below_step (IsJamoWeight c.args.list (tables_in c.args.tables)) _ _ _ c.loop-place.place c.loop-place.invariant c.in_ok-collect_of_jamo.ensures
 
 pub returns : goal.returns
-returns c =
+returns g c =
     loaded_jamo c.args.tables c.args.list c.loop-place.place
     (whole _ _ _ (ap length c.ce32s-entry-items.ensures.value) c.ce32s-entry-items.ensures.jamo.count c.loop-place-test.false c.loop-place.auto.place-end) _ _ c.loop-place.invariant

@@ -4,4 +4,4 @@ use Rattle.icu_checks.proofs.check.collecting.collect_jamo.Given as goal
 
 -- the weights of the places so far were added
 abbrev pub invariant-loop-place : goal.invariant-loop-place
-invariant-loop-place l = Adds (IsBelow (IsJamoWeight l.fn.list (tables_in l.fn.tables)) l.place) l.fn.weights.items l.weights.items
+invariant-loop-place g l = Adds (IsBelow (IsJamoWeight l.fn.list (tables_in l.fn.tables)) l.place) (g.H.HoldWeights.weights l.fn.weights) (g.H.HoldWeights.weights l.weights)

@@ -6,6 +6,6 @@ same_some : (a b : ℕ) → Some a ≡ Some b → a ≡ b
 same_some a b h = cc
 
 pub returns-in-Some : goal.returns-in-Some
-returns-in-Some c =
+returns-in-Some g c =
     loaded_of_jamo c.args.tables c.args.list c.args.place c.args.entry c.in-Some.c c.requires.entry
     (same_some _ _ (sym c.in-Some.is ∙ c.jamo_char.ensures)) _ _ _ c.collect_weights_from.ensures

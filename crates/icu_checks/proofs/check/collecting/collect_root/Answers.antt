@@ -2,4 +2,4 @@ use Rattle.icu_checks.proofs.CollectLemmas.{loaded_root}
 use Rattle.icu_checks.proofs.check.collecting.collect_root.Goals as goal
 
 pub returns : goal.returns
-returns c = loaded_root c.args.tables c.args.list _ _ _ c.collect_weights.ensures
+returns g c = loaded_root c.args.tables c.args.list _ _ _ c.collect_weights.ensures

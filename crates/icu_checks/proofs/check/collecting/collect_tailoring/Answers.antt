@@ -2,7 +2,7 @@ use Rattle.icu_checks.proofs.CollectLemmas.{loaded_tailoring, loaded_no_tailorin
 use Rattle.icu_checks.proofs.check.collecting.collect_tailoring.Goals as goal
 
 pub returns-in-Some : goal.returns-in-Some
-returns-in-Some c = loaded_tailoring c.args.tables c.args.list c.in-Some.tailoring c.in-Some.is _ _ _ c.collect_weights.ensures
+returns-in-Some g c = loaded_tailoring c.args.tables c.args.list c.in-Some.tailoring c.in-Some.is _ _ _ c.collect_weights.ensures
 
 pub returns-in-None : goal.returns-in-None
-returns-in-None c = loaded_no_tailoring c.args.tables c.args.list c.in-None.is _
+returns-in-None g c = loaded_no_tailoring c.args.tables c.args.list c.in-None.is _

@@ -1,4 +1,5 @@
 use Rattle.icu_provider.specs.TableSets.{tables_in}
+use Rattle.icu_weights.specs.WeightSets.{weights_of_set}
 use Rattle.icu_checks.specs.inner.PairViolations.{AreFree, LevelIsFree}
 use Rattle.icu_checks.proofs.ViolationPairs.{outcome_of}
 use Rattle.icu_checks.proofs.check.overlap_violations.level_violation.Goals as goal
@@ -6,6 +7,6 @@ use Rattle.icu_checks.proofs.check.overlap_violations.level_violation.Goals as g
 pub returns : goal.returns
 returns c =
     let all = tables_in c.args.tables in
-    let weights = c.args.weights.now.items in
+    let weights = weights_of_set c.args.weights.now in
     outcome_of all (AreFree c.args.level all weights) (LevelIsFree c.args.level all)
-    (λ free. record { weights = weights; all_held = c.requires.weights.all; free = free }) _ c.overlap_violation.ensures
+    (λ free. record { weights = weights; all_held = c.requires.all; free = free }) _ c.overlap_violation.ensures

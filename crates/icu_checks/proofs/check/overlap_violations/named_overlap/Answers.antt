@@ -3,20 +3,19 @@ use Rattle.icu_provider.specs.StoredTables.{reordering_of}
 use Rattle.icu_provider.specs.TableSets.{tables_in}
 use Rattle.icu_checks.specs.inner.ComparedLevels.{list_of}
 use Rattle.icu_weights.specs.Overlaps.{written_bytes, Overlaps}
-use Rattle.icu_checks.proofs.WeightListLemmas.{clashing, sorted_listed, same_listed}
+use Rattle.icu_weights.specs.WeightSets.{weights_of_set}
+use Rattle.icu_checks.proofs.WeightListLemmas.{clashing, more_listed}
 use Rattle.icu_checks.proofs.check.overlap_violations.named_overlap.Goals as goal
 
 pub clash_violation-requires : goal.clash_violation-requires
 clash_violation-requires c =
     let all = tables_in c.args.tables in
     let found = c.in-Some.found in
-    let listed = sorted_listed c.list.result (list_of c.args.level) all _ _ _ _ c.list.ensures c.loop-table.invariant c.in_ok-collect.ensures c.sort_and_dedup.ensures.members in
-    let overlaps = subst (λ o. IfSome o (λ o. Overlaps (written_bytes (option_map reordering_of c.reordering.result)) c.sort_and_dedup.new.weights.items o.first o.second)) c.in-Some.is c.in_ok-found.ensures.overlaps in
-    clashing c.args.level all c.sort_and_dedup.new.weights.items found.first found.second listed
-    (subst (λ r. Overlaps (written_bytes r) c.sort_and_dedup.new.weights.items found.first found.second) c.reordering.ensures overlaps)
+    let weights = weights_of_set c.collect.new.weights in
+    let listed = more_listed c.list.result (list_of c.args.level) all _ _ _ c.list.ensures c.loop-table.invariant c.in_ok-collect.ensures in
+    let overlaps = subst (λ o. IfSome o (λ o. Overlaps (written_bytes (option_map reordering_of c.reordering.result)) weights o.first o.second)) c.in-Some.is c.in_ok-found.ensures in
+    clashing c.args.level all weights found.first found.second listed
+    (subst (λ r. Overlaps (written_bytes r) weights found.first found.second) c.reordering.ensures overlaps)
 
 pub loop-table-preserved : goal.loop-table-preserved
-loop-table-preserved c =
-    let all = tables_in c.args.tables in
-    let listed = sorted_listed c.list.result (list_of c.args.level) all _ _ _ _ c.list.ensures c.loop-table.invariant c.in_ok-collect.ensures c.sort_and_dedup.ensures.members in
-    same_listed (list_of c.args.level) all c.sort_and_dedup.new.weights.items c.first_common_overlap.new.weights.items listed c.in_ok-found.ensures.members
+loop-table-preserved c = more_listed c.list.result (list_of c.args.level) (tables_in c.args.tables) _ _ _ c.list.ensures c.loop-table.invariant c.in_ok-collect.ensures

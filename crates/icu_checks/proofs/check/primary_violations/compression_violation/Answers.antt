@@ -1,11 +1,18 @@
+use Rattle.icu_weights.specs.WeightSets.{weights_of_set}
 use Rattle.icu_checks.proofs.WeightListLemmas.{loaded_alike, loaded_apart, same_leads}
 use Rattle.icu_checks.proofs.check.primary_violations.compression_violation.Goals as goal
 
-pub returns-then-compress_alike-clause-none : goal.returns-then-compress_alike-clause-none
-returns-then-compress_alike-clause-none c = λ h. loaded_alike c.args.tables c.in-Some.reordering c.in-Some.is c.args.weights.now (c.compress_alike.ensures.alike.0 c.if-compress_alike.true)
+pub returns-then-alike : goal.returns-then-alike
+returns-then-alike c = record {
+  none = λ h. loaded_alike c.args.tables c.in-Some.reordering c.in-Some.is (weights_of_set c.args.weights.now) (c.in_ok-alike-in-Some.ensures.alike.0 c.if-alike.true);
+  some = tt;
+}
 
-pub returns-else-compress_alike-clause-some : goal.returns-else-compress_alike-clause-some
-returns-else-compress_alike-clause-some c = loaded_apart c.args.tables c.in-Some.reordering c.in-Some.is c.args.weights.now c.requires (c.compress_alike.ensures.apart c.if-compress_alike.false)
+pub returns-else-alike : goal.returns-else-alike
+returns-else-alike c = record {
+  none = λ h. cc;
+  some = loaded_apart c.args.tables c.in-Some.reordering c.in-Some.is (weights_of_set c.args.weights.now) c.requires (c.in_ok-alike-in-Some.ensures.apart c.if-alike.false);
+}
 
-pub returns-in-None-clause-none : goal.returns-in-None-clause-none
-returns-in-None-clause-none c = λ h. same_leads c.args.tables c.in-None.is c.args.weights.now
+pub returns-in-None : goal.returns-in-None
+returns-in-None c = record { none = λ h. same_leads c.args.tables c.in-None.is (weights_of_set c.args.weights.now); some = tt }

@@ -1,7 +1,6 @@
-use Rattle.std.proofs.Common.{subst}
 use Rattle.icu_provider.specs.TableSets.{tables_in}
 use Rattle.icu_checks.specs.inner.Violations.{IsTrueViolation}
-use Rattle.icu_checks.specs.inner.PairViolations.{ListCompressesAlike}
+use Rattle.icu_weights.specs.WeightSets.{weights_of_set}
 use Rattle.icu_checks.proofs.ViolationPairs.{both_none, either_true}
 use Rattle.icu_checks.proofs.check.primary_violations.primary_violation.Goals as goal
 
@@ -14,10 +13,10 @@ returns c =
           let last = both_none _ _ _ c.earlier-2.ensures h in
           let first = both_none _ _ _ c.earlier.ensures last.0 in
           record {
-            weights = c.args.weights.now.items;
-            all_held = c.requires.weights.all;
+            weights = weights_of_set c.args.weights.now;
+            all_held = c.requires.all;
             free = c.in_ok-overlap.ensures.none first.0;
-            alike = subst (ListCompressesAlike all) c.deref.ensures.value (c.compression_violation-unlike.ensures.none last.1);
+            alike = c.in_ok-unlike.ensures.none last.1;
           };
-      some = either_true T _ _ _ c.earlier-2.ensures (either_true T _ _ _ c.earlier.ensures c.in_ok-overlap.ensures.some c.in_ok-implicit.ensures) c.compression_violation-unlike.ensures.some;
+      some = either_true T _ _ _ c.earlier-2.ensures (either_true T _ _ _ c.earlier.ensures c.in_ok-overlap.ensures.some c.in_ok-implicit.ensures) c.in_ok-unlike.ensures.some;
     }

@@ -1,4 +1,4 @@
-use Rattle.std.proofs.Common.{subst}
+use Rattle.std.proofs.Common.{refl, subst}
 use Rattle.icu_checks.specs.declared.check.weights.WeightList.TheVariants.{TertiaryElements, WithSecondary}
 use Rattle.icu_provider.specs.TableSets.{tables_in}
 use Rattle.icu_checks.specs.inner.PairViolations.{AreTooLow}
@@ -14,14 +14,14 @@ low_violation-requires c =
     let low : AreTooLow alone beside found =
     subst (λ ws. AreTooLow ws beside found) c.deref.ensures.value (subst (λ ws. AreTooLow c.deref.result.now ws found) c.deref-in-loop-table.ensures.value c.in-Some.ensures.some) in
     record {
-      first = more_listed TertiaryElements all _ _ alone c.loop-table.invariant.0 c.in_ok-collect.ensures found.alone low.first;
-      second = more_listed WithSecondary all _ _ beside c.loop-table.invariant.1 c.in_ok-collect-2.ensures found.beside low.second;
+      first = more_listed TertiaryElements TertiaryElements all _ _ alone refl c.loop-table.invariant.0 c.in_ok-collect.ensures found.alone low.first;
+      second = more_listed WithSecondary WithSecondary all _ _ beside refl c.loop-table.invariant.1 c.in_ok-collect-2.ensures found.beside low.second;
       low = low.low;
     }
 
 pub loop-table-preserved : goal.loop-table-preserved
 loop-table-preserved c =
     let all = tables_in c.args.tables in (
-      more_listed TertiaryElements all _ _ c.collect.new.weights.items c.loop-table.invariant.0 c.in_ok-collect.ensures,
-      more_listed WithSecondary all _ _ c.collect-in-loop-table.new.weights.items c.loop-table.invariant.1 c.in_ok-collect-2.ensures,
+      more_listed TertiaryElements TertiaryElements all _ _ c.collect.new.weights.items refl c.loop-table.invariant.0 c.in_ok-collect.ensures,
+      more_listed WithSecondary WithSecondary all _ _ c.collect-in-loop-table.new.weights.items refl c.loop-table.invariant.1 c.in_ok-collect-2.ensures,
     )

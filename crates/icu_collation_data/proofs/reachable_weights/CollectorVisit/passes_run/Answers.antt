@@ -9,4 +9,4 @@ pub returns : goal.returns
 returns g c goes char low high =
     let by : goes_by_character c.args.entry ≡ true = sym c.goes_by_character.ensures ∙ goes in
     let unweighed : c.weighs_primaries.result ≡ false = search rules in
-    passes_primaries g.W.Weigh.weight c.args.self.now.weigh.now (c.weighs_primaries.ensures unweighed) (holds c.args.self.now.weights.items) (data_of c.args._home) char c.args.entry by
+    passes_primaries g.W.Weigh.weight c.args.self.now.weigh.now (c.weighs_primaries.ensures unweighed) (holds (g.H.HoldWeights.weights c.args.self.now.weights)) (data_of c.args._home) char c.args.entry by

@@ -9,4 +9,4 @@ pub returns-then-not-weighs_primaries : goal.returns-then-not-weighs_primaries
 returns-then-not-weighs_primaries g c =
     let by : goes_by_character c.args.entry ≡ true = sym c.goes_by_character.ensures ∙ c.if-goes_by_character.true in
     let unweighed : c.weighs_primaries.result ≡ false = search rules in
-    sym (passes_primaries g.W.Weigh.weight c.args.self.now.weigh.now (c.weighs_primaries.ensures unweighed) (holds c.args.self.now.weights.items) (data_of c.args.home) c.args.c c.args.entry by)
+    sym (passes_primaries g.W.Weigh.weight c.args.self.now.weigh.now (c.weighs_primaries.ensures unweighed) (holds (g.H.HoldWeights.weights c.args.self.now.weights)) (data_of c.args.home) c.args.c c.args.entry by)

@@ -15,6 +15,6 @@ loop-code-preserved g c =
           let is = w.in-Some-from_u32.ensures.value.1 in
           ran_on g.W.Weigh.weight (data_of c.args.home) c.args.first c.args.entry c.in-Some.data c.in-Some.ensures _ _ _ (c.loop-code.code - c.args.first) (c.loop-code.code + 1 - c.args.first)
           w.in-Some-from_u32.c (omega arith) (omega (arith, is)) (omega arith) c.loop-code.invariant
-          (rw (w.self-is) (w.in_ok-visit.ensures ∙ ap (collected g.W.Weigh.weight (c.loop-code.self.weigh.now, holds c.loop-code.self.weights.items)) w.offset_element.ensures.value))
+          (rw (w.self-is) (w.in_ok-visit.ensures ∙ ap (collected g.W.Weigh.weight (c.loop-code.self.weigh.now, holds (g.H.HoldWeights.weights c.loop-code.self.weights))) w.offset_element.ensures.value))
       | in_default-from_u32 w ↦ absurd (w.in_default-from_u32.ensures.value (c.requires c.loop-code.code (omega arith) (omega arith)))
     ]

@@ -7,4 +7,4 @@ use Rattle.icu_collation_data.proofs.reachable_weights.CollectorVisit.visit_run.
 -- the characters so far were visited
 abbrev pub invariant-loop-code : goal.invariant-loop-code
 invariant-loop-code g l =
-    RanTo g.W.Weigh.weight (data_of l.fn.home) l.fn.first l.fn.entry (l.fn.self.weigh.now, holds l.fn.self.weights.items) (l.self.weigh.now, holds l.self.weights.items) (l.code - l.start)
+    RanTo g.W.Weigh.weight (data_of l.fn.home) l.fn.first l.fn.entry (l.fn.self.weigh.now, holds (g.H.HoldWeights.weights l.fn.self.weights)) (l.self.weigh.now, holds (g.H.HoldWeights.weights l.self.weights)) (l.code - l.start)

@@ -1,0 +1,2 @@
+pub mod SaidMappings
+pub mod TailoredTexts
