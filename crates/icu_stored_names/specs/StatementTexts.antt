@@ -4,6 +4,10 @@ use Rattle.std.specs.Borrow.{Bor}
 use Rattle.sqlite_value.specs.Order.{Row}
 use Rattle.sqlite_value.specs.declared.value.Value.TheVariants.{Blob}
 
+-- makes the tables, where they aren't there yet: of names, of the order of their keys, and of the fingerprint
+abbrev pub tables_text : List ℕ
+tables_text = codes "CREATE TABLE IF NOT EXISTS icu_names (id INTEGER PRIMARY KEY, key BLOB NOT NULL, name BLOB NOT NULL, payload BLOB NOT NULL) STRICT; CREATE INDEX IF NOT EXISTS icu_names_by_key ON icu_names (key); CREATE TABLE IF NOT EXISTS icu_collation (id INTEGER PRIMARY KEY, fingerprint BLOB NOT NULL, settings TEXT NOT NULL) STRICT"
+
 -- puts a name with its key and its payload behind all others
 abbrev pub insert_text : List ℕ
 insert_text = codes "INSERT INTO icu_names (key, name, payload) VALUES (?1, ?2, ?3)"

@@ -1,16 +1,20 @@
 //! What is written: each call hands one statement to the database, with its parameters.
 
 ghost use Rattle.std.specs.Prelude.{◌≡◌, ◌∷◌, [], IsTrue};
+ghost use Rattle.sqlite.specs.Batch.{ExecutesAllInside};
 ghost use Rattle.sqlite.specs.Held.{state};
 ghost use Rattle.sqlite.specs.State.{CommitsBy, Executes, ExecutesInside, HasCleanDisk, Survives};
 ghost use Rattle.sqlite.specs.declared.types.Value.TheVariants.{Blob, Int};
-ghost use Rattle.icu_stored_names.specs.StatementTexts.{insert_text, rekey_text, remove_named_text, remove_text};
+ghost use Rattle.icu_stored_names.specs.StatementTexts.{insert_text, rekey_text, remove_named_text, remove_text, tables_text};
 
 use sqlite::{Alter, Connection, Error, Transaction, params};
 
 /// Makes the tables, where they aren't there yet: of names, of the fingerprint, and the order of the keys.
 pub fn make_tables<S: Alter>(transaction: &mut Transaction<'_, S>) -> Result<(), Error>
-    ensures { Survives (state S.Store transaction.old.conn.now)
+    ensures runs { HasCleanDisk (state S.Store transaction.new.conn.now)
+        → ExecutesAllInside S.Store 0 tables_text
+        transaction.old.conn.now transaction.new.conn.now result }
+    ensures survives { Survives (state S.Store transaction.old.conn.now)
         (state S.Store transaction.new.conn.now) (λ _. ⊥) }
 {
     transaction.execute_batch(

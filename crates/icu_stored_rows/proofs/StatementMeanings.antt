@@ -1,0 +1,91 @@
+-- What the texts of the statements mean under the schema of an index, found by running the meaning of SQL on them.
+use Rattle.std.proofs.Common.{◌≡◌, List, ℕ, [], ◌∷◌, codes, None, refl, false, pos, negsuc}
+use Rattle.sqlite.specs.Listing.{understood, reads_listing}
+use Rattle.sqlite.proofs.Callers.{IsPlain, command_of}
+use Rattle.sqlite_tied.specs.Compute.{everything}
+use Rattle.sqlite_schema.specs.declared.command.Command.{Command}
+use Rattle.sqlite_schema.specs.declared.command.Command.TheVariants.{Insert, Select, Delete}
+use Rattle.sqlite_schema.specs.declared.command.Source.TheVariants.{Values}
+use Rattle.sqlite_sql.specs.Query.{Query, inner, end}
+use Rattle.sqlite_sql.specs.Term.{Term, lit, col, op2}
+use Rattle.sqlite_sql.specs.declared.ops.BinaryOp.TheVariants.{Compare}
+use Rattle.sqlite_sql.specs.declared.ops.CompareOp.TheVariants.{Eq, Ge, Lt}
+use Rattle.sqlite_value.specs.declared.keys.Collation.TheVariants.{Binary}
+use Rattle.sqlite_value.specs.declared.keys.Key.{Key}
+use Rattle.sqlite_value.specs.declared.value.Value.TheVariants.{Int, Null}
+use Rattle.sqlite_value.specs.Keys.{ascending}
+use Rattle.icu_stored_names.specs.StatementTexts.{insert_text, remove_named_text, all_text, between_text, behind_text}
+use Rattle.icu_stored_rows.specs.StoredSchemas.{names_schema}
+
+-- the query of a statement over the table of names
+abbrev pub query_of : List Term → List Term → List (Term × Key) → Query
+query_of filter project order = record {
+  from = inner 0 end;
+  filter = filter;
+  group = None;
+  project = project;
+  distinct = false;
+  collations = [];
+  order = order;
+  limit = lit (Int (negsuc 0));
+  offset = lit (Int (pos 0));
+}
+
+-- a row's key against a parameter
+abbrev pub key_is_at_least : Term
+key_is_at_least = op2 (Compare Ge Binary) (col 1 2) (col 0 0)
+
+abbrev pub key_is_below : Term
+key_is_below = op2 (Compare Lt Binary) (col 1 2) (col 0 1)
+
+abbrev pub key_is : Term
+key_is = op2 (Compare Eq Binary) (col 1 2) (col 0 0)
+
+abbrev pub name_is : Term
+name_is = op2 (Compare Eq Binary) (col 1 3) (col 0 1)
+
+-- the query that names are listed by, where their rows pass some tests
+abbrev pub listing_query : List Term → Query
+listing_query filter =
+    query_of filter (col 1 0 ∷ col 1 3 ∷ col 1 4 ∷ []) ((col 1 2, ascending Binary) ∷ (col 1 0, ascending Binary) ∷ [])
+
+abbrev pub listing_command : List Term → Command
+listing_command filter =
+    Select (record { lets = []; body = listing_query filter }) (codes "id" ∷ codes "name" ∷ codes "payload" ∷ [])
+
+abbrev pub row_terms : List Term
+row_terms = lit Null ∷ lit Null ∷ col 0 0 ∷ col 0 1 ∷ col 0 2 ∷ []
+
+abbrev pub insert_command : Command
+insert_command = Insert 0 (Values row_terms 5)
+
+abbrev pub removal_query : Query
+removal_query = query_of (key_is ∷ name_is ∷ []) (col 1 0 ∷ []) []
+
+abbrev pub removal_command : Command
+removal_command = Delete 0 (record { lets = []; body = removal_query })
+
+pub insert_is : (command_of (understood names_schema insert_text) ≡ insert_command) × IsPlain (understood names_schema insert_text)
+unfolding understood everything
+insert_is = (refl, (refl, refl))
+
+pub removal_is : (command_of (understood names_schema remove_named_text) ≡ removal_command) × IsPlain (understood names_schema remove_named_text)
+unfolding understood everything
+removal_is = (refl, (refl, refl))
+
+-- what is asked of the meaning of a query
+abbrev pub Lists : List ℕ → List Term → Type 0
+Lists text filter =
+    (command_of (understood names_schema text) ≡ listing_command filter) × IsPlain (understood names_schema text) × (reads_listing names_schema text ≡ false)
+
+pub all_is : Lists all_text []
+unfolding understood everything
+all_is = (refl, (refl, refl), refl)
+
+pub between_is : Lists between_text (key_is_at_least ∷ key_is_below ∷ [])
+unfolding understood everything
+between_is = (refl, (refl, refl), refl)
+
+pub behind_is : Lists behind_text (key_is_at_least ∷ [])
+unfolding understood everything
+behind_is = (refl, (refl, refl), refl)

@@ -1,0 +1,83 @@
+-- Names as a database keeps them, and what is made of them.
+use Rattle.std.specs.Prelude.{◌≡◌, ℕ, pos, ◌+◌, ◌<◌, Bool, not, ◌&&◌, List, [], ◌∷◌, ◌++◌, map, filter, fold, bytes_eq, Option, Some, None}
+use Rattle.std.specs.Cmp.Lexicographic.{slice_cmp}
+use Rattle.std.specs.List.Sorted.{IsPermutation, IsSortedByKey, IsStableByKey}
+use Rattle.std.specs.Ordering.{nat_cmp, is_ge, is_lt}
+use Rattle.sqlite.specs.Effect.{Database}
+use Rattle.sqlite_trees.specs.Tree.{IsAscending}
+use Rattle.sqlite_value.specs.Order.{Row}
+use Rattle.sqlite_value.specs.declared.value.Value.TheVariants.{Blob, Int, Null}
+use Rattle.icu_stored_rows.specs.StoredSchemas.{names_schema}
+
+-- a name with its number, its key and its payload
+pub record KeptName : Type 0 where
+  pub number : ℕ
+  pub key : List ℕ
+  pub name : List ℕ
+  pub payload : List ℕ
+
+-- the row of a name, whose first value is the row's number
+abbrev pub row_of : KeptName → Row
+row_of k = Int (pos k.number) ∷ Null ∷ Blob k.key ∷ Blob k.name ∷ Blob k.payload ∷ []
+
+-- the row that a query shows of a name
+abbrev pub shown_row : KeptName → Row
+shown_row k = Int (pos k.number) ∷ Blob k.name ∷ Blob k.payload ∷ []
+
+-- the names stand in the order of their numbers, no two of which are equal
+abbrev pub AreNumbered : List KeptName → Type 0
+AreNumbered = IsAscending (λ a b. a.number < b.number)
+
+-- the database has the tables of an index, and just these names in it, as they came in
+pub record Keeps (db : Database) (kept : List KeptName) : Type 0 where
+  pub schema : db.schema ≡ names_schema
+  pub rows : db.trees 0 ≡ map row_of kept
+  pub numbered : AreNumbered kept
+
+-- the number of the next name: one above the last
+abbrev pub next_number : List KeptName → ℕ
+next_number kept = fold (λ last k. k.number + 1) 1 kept
+
+-- the names with one more, behind them
+abbrev pub with_name : List ℕ → List ℕ → List ℕ → List KeptName → List KeptName
+with_name key name payload kept =
+    kept ++ record { number = next_number kept; key = key; name = name; payload = payload } ∷ []
+
+-- a name is these bytes, under this key
+abbrev pub is_this_name : List ℕ → List ℕ → KeptName → Bool
+is_this_name key name k = bytes_eq k.key key && bytes_eq k.name name
+
+-- the names without those of a key that are some bytes
+abbrev pub without_named : List ℕ → List ℕ → List KeptName → List KeptName
+without_named key name kept = filter (λ k. not (is_this_name key name k)) kept
+
+-- a key stands between two bounds, the upper of which there may not be
+abbrev pub is_key_within : List ℕ → Option (List ℕ) → List ℕ → Bool
+is_key_within lower (Some upper) key = is_ge (slice_cmp nat_cmp key lower) && is_lt (slice_cmp nat_cmp key upper)
+is_key_within lower None key = is_ge (slice_cmp nat_cmp key lower)
+
+-- so does a name's key
+abbrev pub is_within : List ℕ → Option (List ℕ) → KeptName → Bool
+is_within lower upper k = is_key_within lower upper k.key
+
+-- the same names in the order of their keys, those of equal keys as they came in
+pub record IsListingOf (kept listed : List KeptName) : Type 0 where
+  pub permutation : IsPermutation kept listed
+  pub ascends : IsSortedByKey (λ k. k.key) (slice_cmp nat_cmp) listed
+  pub stable : IsStableByKey (λ k. k.key) (slice_cmp nat_cmp) kept listed
+
+-- what is done to the names of an index
+pub data NameStep : Type 0 where
+  -- a name is added, by its key, its bytes and its payload
+  added : List ℕ → List ℕ → List ℕ → NameStep
+  -- the names of a key that are some bytes are removed
+  removed : List ℕ → List ℕ → NameStep
+
+-- the names that a step leaves
+abbrev pub left_by : NameStep → List KeptName → List KeptName
+left_by (added key name payload) kept = with_name key name payload kept
+left_by (removed key name) kept = without_named key name kept
+
+-- the names that steps leave, one after another
+abbrev pub left_by_all : List NameStep → List KeptName → List KeptName
+left_by_all steps kept = fold (λ names step. left_by step names) kept steps

@@ -1,0 +1,4 @@
+pub mod StoredSchemas
+pub mod KeptNames
+pub mod RowLaws
+pub mod NameListings
