@@ -1,21 +1,26 @@
-"""Long texts, whose comparisons and keys are timed: of a text that is four times as long both may take at most eight times as
-long.
+"""Long texts, whose comparisons and keys are timed: calls on a text that is four times as long may take at most twice as long as
+four times as many calls on the text.
 
-The time is that of some calls more, so that reading the questions and making a collator are no part of it.
+Both have as many characters to read, so their times are alike where time is in proportion to the text, and reading the questions and
+making a collator are a small part of either. The least of several times counts.
 """
 import math
 
-from driver import DriverFault
-from timed_tables import Builder
+from hostile_tables import Builder, Reordering
 from timing import RUNS, Slowed, least_times
 
-# How often a long text is compared beyond the first time, how many times as long the second size is, how many times as long it
-# may take, and how often that is measured at most.
-TIMES, LONGER, SLOWER, ATTEMPTS = 2, 4, 8, 5
+# How often the longer text is compared and its key written, how many times as long it is, how many times as long its calls may take
+# as those on the shorter text, and how often that is measured at most.
+TIMES, LONGER, SLOWER, ATTEMPTS = 2, 4, 2, 5
 IDENTICAL, PRIMARY = "4 0 3 0 0 0", "0 0 3 0 0 0"
 NUMERIC = "4 0 3 0 0 1", "0 0 3 0 0 1"
+# Identical, shifted, with a case level: all levels that there are.
+SHIFTED = "4 1 3 1 0 0"
 A, B, C, CAPITAL, ZERO, ONE, ACUTE, RING, DOT = 0x61, 0x62, 0x63, 0x41, 0x30, 0x31, 0x301, 0x30A, 0x323
-SIGN_AA, SIGN_I = 0xF71, 0xF72
+# Marks of the classes 129, 130, 10, 27 and 103.
+SIGN_AA, SIGN_I, SHEVA, FATHATAN, SARA_U = 0xF71, 0xF72, 0x5B0, 0x64B, 0xE38
+SEVERAL = [SIGN_AA, SHEVA, FATHATAN, SARA_U]
+SPACE, SEPARATOR, NOTHING, NONE = 0x20, 0xFFFE, 0x1, 0x2
 
 
 class LongTexts:
@@ -54,12 +59,36 @@ def with_beginnings():
     return ["base Mini", *builder.questions("tailoring."), "set metadata 9"]
 
 
-def with_begun_marks():
-    """Mini with a tailoring in which a mark is an "a", and begins a contraction with a mark of the next class."""
+def tailored(fill):
+    """Mini with a tailoring that is filled so."""
     builder = Builder(0xC0)
+    fill(builder)
+    return ["base Mini", *builder.questions("tailoring."), "set metadata 9"]
+
+
+def begin_marks(builder):
+    """A mark is an "a", and begins a contraction with a mark of the next class."""
     builder.set_entry(SIGN_AA, 0xC9)
     builder.add_context(0x6110_0505, [([SIGN_I], 0x6210_0505)])
-    return ["base Mini", *builder.questions("tailoring."), "set metadata 9"]
+
+
+def begin_several(builder):
+    """So do marks of four classes, with another weight each."""
+    for number, mark in enumerate(SEVERAL):
+        index = builder.add_context(0x6110_0505 + 0x10_0000 * number, [([SIGN_I], 0x6210_0505 + 0x10_0000 * number)])
+        builder.set_entry(mark, index << 13 | 0xC9)
+
+
+def look_back(builder):
+    """An "a" has another weight behind one of its own, and behind two."""
+    builder.set_entry(A, 0xC8)
+    builder.add_context(0x6110_0505, [([A], 0x6120_0505), ([A, A], 0x6130_0505)])
+
+
+def ignore(builder):
+    """Two characters are completely ignorable."""
+    builder.set_entry(NOTHING, 0)
+    builder.set_entry(NONE, 0)
 
 
 MINI, RINGED = ["base Mini"], ["base a ring"]
@@ -70,7 +99,7 @@ LONG_TEXTS = [
               lambda n: ([([A], n)], [([CAPITAL], 1), ([A], n - 1)]),
               lambda n: ("Less", n + 1)),
     # A letter and marks of two classes in turn, and the same marks by class.
-    LongTexts("marks", 100_000, MINI, (IDENTICAL, PRIMARY),
+    LongTexts("marks", 50_000, MINI, (IDENTICAL, PRIMARY),
               lambda n: ([([A], 1), ([ACUTE, DOT], n // 2)], [([A], 1), ([DOT], n // 2), ([ACUTE], n // 2)]),
               lambda n: ("Equal", 2)),
     # The digits of a number, of which the last differs.
@@ -78,11 +107,11 @@ LONG_TEXTS = [
               lambda n: ([([ONE], 1), ([ZERO], n)], [([ONE], 1), ([ZERO], n - 1), ([ONE], 1)]),
               lambda n: ("Less", 5)),
     # Letters each of which begins contractions that go on through the letters after it and come to no end, but for the last few.
-    LongTexts("beginnings", 100_000, with_beginnings(), ("4 FF FF FF FF FF", "0 FF FF FF FF FF"),
+    LongTexts("beginnings", 25_000, with_beginnings(), ("4 FF FF FF FF FF", "0 FF FF FF FF FF"),
               lambda n: ([([A], n), ([B], 1)], [([A], n), ([C], 1)]),
               lambda n: ("Greater", n - 3)),
     # A letter that begins a contraction, and marks between it and the mark that ends the contraction.
-    LongTexts("passed", 100_000, RINGED, (IDENTICAL, PRIMARY),
+    LongTexts("passed", 50_000, RINGED, (IDENTICAL, PRIMARY),
               lambda n: ([([A], 1), ([DOT], n), ([RING], 1)], [([0xE5], 1), ([DOT], n)]),
               lambda n: ("Equal", 2)),
     # Letters that begin a contraction, each with a mark that is passed over and none that ends it.
@@ -90,56 +119,108 @@ LONG_TEXTS = [
               lambda n: ([([A, DOT], n // 2)], [([A, DOT], n // 2), ([RING], 1)]),
               lambda n: ("Less", n // 2 + 1)),
     # Marks each of which begins a contraction, and stands before marks of its own class; one behind them all joins the first.
-    LongTexts("begun", 100_000, with_begun_marks(), ("4 FF FF FF FF FF", "0 FF FF FF FF FF"),
+    LongTexts("begun", 50_000, tailored(begin_marks), ("4 FF FF FF FF FF", "0 FF FF FF FF FF"),
               lambda n: ([([SIGN_AA], n)], [([SIGN_AA], n), ([SIGN_I], 1)]),
               lambda n: ("Less", n + 1)),
     # Such marks with marks of a higher class in turn, which don't stand in order, and the same marks by class.
-    LongTexts("disordered", 100_000, with_begun_marks(), ("4 FF FF FF FF FF", "0 FF FF FF FF FF"),
+    LongTexts("disordered", 25_000, tailored(begin_marks), ("4 FF FF FF FF FF", "0 FF FF FF FF FF"),
               lambda n: ([([SIGN_AA, DOT], n // 2)], [([SIGN_AA], n // 2), ([DOT], n // 2)]),
               lambda n: ("Equal", n // 2 + 1)),
+    # Marks of four classes in turn, each of which begins a contraction; a mark behind them all joins the first.
+    LongTexts("several begun", 50_000, tailored(begin_several), ("4 FF FF FF FF FF", "0 FF FF FF FF FF"),
+              lambda n: ([(SEVERAL, n // 4)], [(SEVERAL, n // 4), ([SIGN_I], 1)]),
+              lambda n: ("Less", n + 1)),
+    # Letters whose weights go by those before.
+    LongTexts("prefixes", 100_000, tailored(look_back), ("4 FF FF FF FF FF", "0 FF FF FF FF FF"),
+              lambda n: ([([A], n)], [([A], n), ([B], 1)]),
+              lambda n: ("Less", n + 1)),
+    # Separators, between which the second level is read backward: a key has each on both levels, and two bytes 01.
+    LongTexts("separators", 100_000, ["base backward"], (IDENTICAL, "1 0 3 0 0 0"),
+              lambda n: ([([SEPARATOR], n)], [([SEPARATOR], n), ([A], 1)]),
+              lambda n: ("Less", 2 * n + 2)),
+    # Characters that are completely ignorable behind a variable one.
+    LongTexts("ignorable", 100_000, tailored(ignore), (SHIFTED, "0 1 3 0 0 0"),
+              lambda n: ([([SPACE], 1), ([NOTHING], n)], [([SPACE], 1), ([NOTHING], n), ([A], 1)]),
+              lambda n: ("Less", 0)),
 ]
 
 
-class Size:
-    """How long calls on the texts of one size take, measured as often as is asked for."""
-
-    def __init__(self, driver, texts, size):
-        self.driver, self.texts, self.size = driver, texts, size
-        self.once, self.more = math.inf, math.inf
-
-    def measure(self):
-        """Measures once more, and returns what is wrong with the answers."""
-        texts, size = self.texts, self.size
-        (once, more), answers = least_times(self.driver, texts.questions(size, 1), texts.questions(size, 1 + TIMES))
-        self.once, self.more = min(self.once, once), min(self.more, more)
-        wrong = [[answer[:60] for answer in it] for it in answers if not texts.is_right(size, it)]
-        return [f"{texts.kind}, {size}: {it}; wanted: {texts.wanted(size)}" for it in wrong]
-
-    def seconds(self):
-        """The processor time of `TIMES` calls."""
-        return self.more - self.once
+def wrong_answers(texts, size, answers):
+    """What is wrong with the answers to the questions on the texts of one size."""
+    if texts.is_right(size, answers):
+        return []
+    return [f"{texts.kind}, {size}: {[it[:60] for it in answers]}; wanted: {texts.wanted(size)}"]
 
 
 def wrong_long_texts(driver, texts, attempts=ATTEMPTS):
     """What is wrong with texts of a size and of a greater one: another answer, or a time that grows beyond proportion; and how
     many runs there were. A machine that other work slows down for a while lets a time grow as well, so both are measured again
     before one is called wrong."""
-    short, long, runs = Size(driver, texts, texts.size), Size(driver, texts, texts.size * LONGER), 0
+    sizes, least, runs = [texts.size, texts.size * LONGER], [math.inf, math.inf], 0
+    asked = [texts.questions(sizes[0], LONGER * TIMES), texts.questions(sizes[1], TIMES)]
     for _ in range(attempts):
-        faults, runs = short.measure() + long.measure(), runs + 4 * RUNS
-        if faults or long.seconds() <= SLOWER * max(short.seconds(), 0.005):
+        times, answers = least_times(driver, *asked)
+        least, runs = [min(both) for both in zip(least, times)], runs + 2 * RUNS
+        faults = [fault for place, it in enumerate(answers) for fault in wrong_answers(texts, sizes[place % 2], it)]
+        if faults or least[1] <= SLOWER * least[0]:
             return faults, runs
-    return [f"{texts.kind}: {short.seconds():.3f} seconds for {short.size}, {long.seconds():.3f} for {long.size}"], runs
+    return [f"{texts.kind}: {least[0]:.3f} seconds for {LONGER} of {sizes[0]}, {least[1]:.3f} for one of {sizes[1]}"], runs
+
+
+# ---- one call beside another
+
+
+# Texts that differ by the Identical level alone, of which a comparison reads all levels: what they repeat, by their kind. How many
+# characters each has, and how many times as long as the keys of both it may take to compare them.
+LEVELS = {"letters": [A], "letters and spaces": [A, SPACE], "letters with accents": [A, ACUTE]}
+CHARACTERS, DEARER = 500_000, 2
+# How many times as long as by a reordering without ranges a key may take by one of 100,000 ranges.
+BY_RANGES = 4
+
+
+def beside(driver, first, second, allowed, attempts=ATTEMPTS):
+    """The least times of two lists of questions, until the first takes no more than so many times as long as the second."""
+    least = [math.inf, math.inf]
+    for _ in range(attempts):
+        times, answers = least_times(driver, first, second)
+        least = [min(both) for both in zip(least, times)]
+        if least[0] <= allowed * least[1]:
+            break
+    return least, answers
+
+
+def wrong_levels(driver):
+    """What is wrong with comparisons that go on to the last level, beside the keys of both texts."""
+    faults, made = [], [*tailored(ignore), f"make {SHIFTED}", f"times {TIMES:X}"]
+    for kind, repeat in LEVELS.items():
+        left, right = (f"c {it:X} {repeated(repeat, CHARACTERS // len(repeat))}" for it in (NOTHING, NONE))
+        asked = [*made, f"compare {left} , {right}"], [*made, f"slice 0 {left}", f"slice 0 {right}"]
+        (order, keys), answers = beside(driver, *asked, DEARER)
+        faults += [f"{kind}: {answers[0][-1]}"] * (answers[0][-1] != "Less")
+        faults += [f"{kind}: {order:.3f} seconds, {keys:.3f} for both keys"] * (order > DEARER * keys)
+    return faults
+
+
+def wrong_ranges(driver):
+    """What is wrong with the time of a key by a reordering of many ranges, beside one by a reordering of none."""
+    none, many = Reordering(0x61, []), Reordering(0x61, [0x0300_0000 + it % 0xFC00 * 0x1_0000 for it in range(100_000)])
+    text = f"slice 0 c {A:X}*{4 * CHARACTERS:X}"
+    asked = [["base swapped leads", *it.questions(), f"make {IDENTICAL}", f"times {TIMES:X}", text] for it in (many, none)]
+    (by_many, by_none), answers = beside(driver, *asked, BY_RANGES)
+    faults = [f"unlike answers: {answers[0][-1][:40]}"] * (answers[0][-1] != answers[1][-1])
+    return faults + [f"{by_many:.3f} seconds by 100,000 ranges, {by_none:.3f} by none"] * (by_many > BY_RANGES * by_none)
 
 
 def check_long_texts(report, driver):
     for texts in LONG_TEXTS:
         faults, runs = wrong_long_texts(driver, texts)
         report.say(f"hostile input: long texts, {texts.kind}", faults, runs)
+    report.say("hostile input: all levels of long texts take no more than twice their keys", wrong_levels(driver), len(LEVELS))
+    report.say("hostile input: a key by many ranges", wrong_ranges(driver), 2)
 
 
 def slow_texts_missed(driver):
     """Whether a time beyond proportion is let through."""
     texts = LONG_TEXTS[0]
-    found, _ = wrong_long_texts(Slowed(driver, [f"{A:X}*{texts.size * LONGER:X}"], 5), texts, 1)
+    found, _ = wrong_long_texts(Slowed(driver, [f"{A:X}*{texts.size * LONGER:X}"], 2 * SLOWER), texts, 1)
     return [] if any(" seconds for " in it for it in found) else ["not found: a time beyond proportion"]

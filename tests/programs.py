@@ -18,6 +18,7 @@ import tempfile
 import sweeps
 from calls import check_calls
 from cldr_program import check_collate_cldr, cut_lines, letter_lines, wrong_cuts
+from held_memory import check_memory
 from hostile import check_hostile
 from index_program import check_collate_index
 from long_orders import check_long_orders
@@ -350,6 +351,7 @@ def check_all(report, room):
     report.also("long texts", check_long_orders, drivers()[0])
     report.also("settings", check_settings, drivers()[0])
     report.also("hostile input", check_hostile, drivers()[0])
+    report.also("memory of checks", check_memory, compiled(room, "peak", "-shared", "-fPIC"), drivers()[0])
     report.also("refused memory", check_refusals, shim, drivers()[0])
     report.also("a file of CLDR", check_reads, shim, drivers()[0])
     report.also("files of CLDR's form that are made to be dear", check_files, drivers()[0])

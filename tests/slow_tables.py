@@ -12,7 +12,8 @@ import sys
 import time
 
 from driver import Driver, DriverFault
-from timed_tables import COUNTED_ELEMENT, COUNTED_ENTRY, LISTED, MAPPED, PREFIXED, Builder, Check, TimedTables, unlike_elements, unlike_entry
+from hostile_tables import COUNTED_ELEMENT, COUNTED_ENTRY, LISTED, MAPPED, PREFIXED, Builder, unlike_elements, unlike_entry
+from timed_tables import Check, TimedTables
 
 TOP = os.path.dirname(os.path.dirname(os.path.realpath(__file__)))
 PROGRAM = os.path.join(TOP, "crates", "test_driver", "out", "test_driver")
@@ -140,7 +141,7 @@ def slowness(driver, mini, tables):
         check = Check(driver, Made(tables).timed(), 2)
     except DriverFault as fault:
         return float("inf"), SECONDS, str(fault)[:60]
-    answer = check.faults[0].rsplit("'", 2)[1] if check.faults else "ok"
+    answer = check.faults[0].partition(": ")[2] if check.faults else "ok"
     return check.for_each() / mini.for_each(), check.seconds, answer
 
 

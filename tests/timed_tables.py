@@ -1,266 +1,53 @@
-"""Checks of hostile tables, which are timed: none may take more than ten times as long as Mini's for each number that is stored.
+"""Checks of hostile tables, which are timed: none may take more than ten times as long as Mini's for each number that is stored, or
+more than so many times as long as Mini's.
 
 The time is that of some checks more, so that reading the questions is no part of it.
 """
-import functools
-import random
-
-from driver import numbers, written
+from driver import numbers
+from hostile_tables import (DATA, GROWING, REORDERED, SIZES, of_counted_rows, of_counted_weights, of_implicit, of_listed_mappings,
+                            of_lists, of_many_lists, of_mappings, root_like_cldr, splits_implicit, tailoring_like_cldr)
 from timing import RUNS, Slowed, least_times
 
 # How often a check is made beyond the first time, how many times as long as Mini's it may take for each number that its tables
 # store, and how often all are measured at most, since other work slows a machine down for a while.
 CHECKS, DEARER, ATTEMPTS = 60, 10, 3
-BLOCK, CODES = 64, 0x110000
-DATA = ["blocks", "values", "ces", "ce32s", "chars", "contexts", "mappings"]
-
-
-class Builder:
-    """A root or a tailoring, as a list of numbers for each field: all characters have one entry, but those that are given
-    another. Blocks of 64 equal entries are stored once."""
-
-    def __init__(self, others):
-        self.entries, self.ces, self.ce32s, self.contexts, self.mappings, self.chars = [others] * CODES, [], [], [], [], []
-
-    def set_entry(self, c, entry):
-        self.entries[c] = entry
-
-    def set_entries(self, first, last, entry):
-        self.entries[first : last + 1] = [entry] * (last + 1 - first)
-
-    def add_context(self, default, mappings):
-        """Adds a context, and returns its index: an entry for all texts but those of its mappings, and the mappings, each a list of
-        characters and its entry."""
-        self.contexts += [default, len(self.mappings) // 3, len(mappings)]
-        for characters, entry in mappings:
-            self.mappings += [len(self.chars), len(characters), entry]
-            self.chars += characters
-        return len(self.contexts) // 3 - 1
-
-    def fields(self):
-        found, blocks = {}, []
-        for first in range(0, CODES, BLOCK):
-            blocks.append(found.setdefault(tuple(self.entries[first : first + BLOCK]), len(found)))
-        values = [entry for block in found for entry in block]
-        return dict(zip(DATA, (blocks, values, self.ces, self.ce32s, self.chars, self.contexts, self.mappings)))
-
-    def questions(self, table=""):
-        """What makes this the driver's root, or its tailoring."""
-        return [f"set {table}{name} {written(numbers)}".rstrip() for name, numbers in self.fields().items()]
-
-    def stored(self):
-        """How many numbers are stored."""
-        return sum(len(numbers) for numbers in self.fields().values())
-
-
-# ---- hostile tables
-
-LISTED, PREFIXED, MAPPED = 0x1FC6, 0xC8, 0xC9
-
-
-def unlike_primary(lead, number):
-    """The primary weight of a number, of three bytes."""
-    return lead << 24 | number // 250 % 250 + 4 << 16 | number % 250 + 4 << 8
-
-
-def unlike_entry(lead, number):
-    """The entry of an element with that primary weight, and with common weights below."""
-    return unlike_primary(lead, number) | 0xC1
-
-
-def list_entry(number):
-    """The entry of a list of 31 elements, by the list's number."""
-    return LISTED | number % 4 * 31 << 13
-
-
-def unlike_elements(count):
-    """So many elements of unlike weights."""
-    below = [0xA000_0600 | number % 250 + 4 << 16 | number % 60 + 4 for number in range(count)]
-    return [unlike_primary(0x30, number) << 32 | low for number, low in enumerate(below)]
-
-
-def of_lists():
-    """A root in which all characters have one list of 31 unlike elements."""
-    builder = Builder(list_entry(0))
-    builder.ces = unlike_elements(31)
-    return builder
-
-
-def of_mappings(count):
-    """A root in which all characters have one contraction of so many mappings."""
-    builder = Builder(MAPPED)
-    builder.add_context(unlike_entry(0x31, 0), [([0x20000 + number], unlike_entry(0x30, number)) for number in range(count)])
-    return builder
-
-
-def of_listed_mappings():
-    """A root in which all characters have one contraction whose default and three mappings are lists of 31 unlike elements."""
-    builder = Builder(MAPPED)
-    builder.ces = unlike_elements(4 * 31)
-    builder.add_context(list_entry(0), [([0x20000 + number], list_entry(number + 1)) for number in range(3)])
-    return builder
-
-
-def context_entry(index, hints):
-    """A contraction's entry, by its context's index and the five bits between that and the kind, which say nothing."""
-    return index << 13 | hints << 8 | MAPPED
-
-
-def add_mapped(builder, lead, count):
-    """Adds a context of so many mappings with unlike weights, and returns its index."""
-    mappings = [([0x20000 + number], unlike_entry(lead, number)) for number in range(count)]
-    return builder.add_context(unlike_entry(0x31, 0), mappings)
-
-
-def of_spellings(size):
-    """A root in which 3,200 values a size name one context of 5,000 mappings a size, by 32 spellings of the bits that say nothing."""
-    rng, builder = random.Random(size), Builder(0xCF)
-    index = add_mapped(builder, 0x30, 5_000 * size)
-    for number in range(3_200 * size):
-        builder.set_entry(0x4000 + number, context_entry(index, rng.randrange(32)))
-    return builder
-
-
-def of_far_contexts(size):
-    """A root in which 1,600 values a size name two contexts of 2,500 mappings a size, 1,024 indices apart."""
-    rng, builder = random.Random(size), Builder(0xCF)
-    first = add_mapped(builder, 0x30, 2_500 * size)
-    for _ in range(1_023):
-        builder.add_context(unlike_entry(0x31, 0), [])
-    second = add_mapped(builder, 0x32, 2_500 * size)
-    for number in range(1_600 * size):
-        builder.set_entry(0x4000 + number, context_entry(rng.choice((first, second)), 0))
-    return builder
-
-
-def of_random_contexts(seed, size):
-    """A root in which 1,600 values a size name six contexts of some 4,000 mappings a size, with gaps between their indices, in any
-    order and by any spelling."""
-    rng, builder = random.Random(seed), Builder(0xCF)
-    shares = [rng.random() for _ in range(6)]
-    named = []
-    for lead, share in enumerate(shares, 0x30):
-        for _ in range(rng.choice((0, 1, 511, 1_023))):
-            builder.add_context(unlike_entry(0x31, 0), [])
-        named.append(add_mapped(builder, lead, 1 + int(4_000 * size * share / sum(shares))))
-    for number in range(1_600 * size):
-        builder.set_entry(0x4000 + number, context_entry(rng.choice(named), rng.randrange(32)))
-    return builder
-
-
-# What offset entries count from: U+0000 has the weight with this lead byte, and each character after it the next one.
-COUNTED_ENTRY, COUNTED_ELEMENT = 0xCE, 0x0002_0200_0000_0001
-
-
-def with_rows(entries, count):
-    """A root in which all characters have one contraction of so many mappings, with these entries beyond them."""
-    builder = Builder(MAPPED)
-    mappings = [([0x20000 + number], unlike_entry(0x30, number)) for number in range(count)]
-    mappings += [([0x30000 + number], entry) for number, entry in enumerate(entries)]
-    builder.add_context(unlike_entry(0x31, 0), mappings)
-    return builder
-
-
-def of_implicit_rows(size):
-    """A root in which all characters have one contraction of 500 mappings a size, and one that is an implicit weight."""
-    return with_rows([0xCF], 500 * size)
-
-
-def of_counted_rows(size):
-    """A root in which all characters have one contraction of 500 mappings a size, and one that counts its weight by the character."""
-    builder = with_rows([COUNTED_ENTRY], 500 * size)
-    builder.ces = [0xA0 << 56 | COUNTED_ELEMENT]
-    return builder
-
-
-def of_counted_weights(leads):
-    """A root in which all characters have one contraction whose default and other mappings count their weights by the character, each
-    from another lead byte."""
-    builder = Builder(MAPPED)
-    builder.ces = [lead << 56 | COUNTED_ELEMENT for lead in leads]
-    first, *others = [number << 13 | COUNTED_ENTRY for number in range(len(leads))]
-    builder.add_context(first, [([0x30000 + number], entry) for number, entry in enumerate(others)])
-    return builder
-
-
-def of_prefixes(size):
-    """A root in which a prefix has 750 mappings a size, each to one contraction of as many."""
-    builder = Builder(0xCF)
-    index = add_mapped(builder, 0x30, 750 * size)
-    mappings = [([0x20000 + number], context_entry(index, 0)) for number in range(750 * size)]
-    prefix = builder.add_context(unlike_entry(0x31, 1), mappings)
-    builder.set_entry(0x4000, prefix << 13 | PREFIXED)
-    return builder
-
-
-# What makes a root by its size, by name.
-GROWING = {"spellings": of_spellings, "far-contexts": of_far_contexts, "prefixes": of_prefixes}
-GROWING |= {"implicit-rows": of_implicit_rows}
-GROWING |= {f"random-contexts-{seed}": functools.partial(of_random_contexts, seed) for seed in range(3)}
-SIZES = (1, 2, 4)
-# Roots in which all characters reach entries that count their weights, 1.1 million for each entry: with 2,000 mappings beside one,
-# and eleven of them from lead bytes in a row. How many times as long as Mini's their checks may take.
-COUNTED = {"counted-rows": (lambda: of_counted_rows(4), 150), "counted-weights": (lambda: of_counted_weights(range(0x44, 0x4F)), 750)}
-
-
-# ---- tables of the size of CLDR's
-
-# The element that ideographs are counted by: U+3400 has the weight A00202, and each character after it the next one.
-OFFSET_ENTRY, OFFSET_ELEMENT = 0xCE, 0xA002_0200_0034_0001
-IDEOGRAPHS = [(0x3400, 0x4DBF), (0x4E00, 0x9FFF), (0x20000, 0x2A6DF), (0x2A700, 0x2EBE0), (0x30000, 0x3134A)]
-# The characters of other scripts. Each sixth has an entry of its own.
-SCRIPTS = [range(0x100, 0x3400), range(0x10000, 0x17000), range(0x1D000, 0x1E000)]
-MAPPED_CHARACTERS = [ord(it) for it in "abcdefghijklmnopq"]
-
-
-def root_like_cldr():
-    """A root of 7,600 entries, 1,140 elements in lists, 64 contexts with 1,088 mappings, and 93,000 ideographs by an offset entry, in
-    some 720 blocks."""
-    builder = Builder(0xCF)
-    builder.ces = [OFFSET_ELEMENT]
-    for first, last in IDEOGRAPHS:
-        builder.set_entries(first, last, OFFSET_ENTRY)
-    for script in SCRIPTS:
-        for c in script:
-            set_char(builder, c)
-    return builder
-
-
-def set_char(builder, c):
-    """Gives a character what its code says: an entry of its own, a list of three elements, contractions with each of 17 others,
-    or nothing."""
-    number, sort = divmod(c, 6)
-    if sort == 0:
-        builder.set_entry(c, unlike_entry(0x20, number))
-    elif sort == 1 and number % 20 == 0:
-        first = number // 20 * 3
-        builder.set_entry(c, len(builder.ces) << 13 | 0x3C6)
-        builder.ces += [unlike_primary(0x22, it) << 32 | 0x0500_0500 for it in range(first, first + 3)]
-    elif sort == 2 and number % 119 == 0:
-        of_mapping = [unlike_entry(0x23, number // 119 * 17 + place) for place in range(17)]
-        mappings = [([letter], entry) for letter, entry in zip(MAPPED_CHARACTERS, of_mapping)]
-        builder.set_entry(c, builder.add_context(unlike_entry(0x24, number // 119), mappings) << 13 | MAPPED)
-
-
-def tailoring_like_cldr():
-    """A tailoring of 2,000 characters."""
-    builder = Builder(0xC0)
-    for c in range(0x100, 0x8D0):
-        builder.set_entry(c, unlike_entry(0x26, c))
-    return builder
-
-
-# ---- how long checks take
+# How many times as long as Mini's the checks of some of the growing tables may take in all.
+LIMITS = {"spellings-2": 25, "far-contexts-4": 35, "prefixes-4": 17, "implicit-rows-2": 17, "many-ranges-4": 45, "split-implicit-4": 25}
 
 
 class TimedTables:
-    """Tables whose check is timed: those of a base, with another root and perhaps a tailoring."""
+    """Tables whose check is timed: those of a base, with another root and perhaps a tailoring, and perhaps another reordering, and what
+    the check comes to."""
 
-    def __init__(self, name, base, root=None, tailoring=None):
-        self.name = name
+    def __init__(self, name, base, root=None, tailoring=None, reordering=None, wanted="ok"):
+        self.name, self.wanted = name, wanted
         self.made = [f"base {base}", *(root.questions() if root else [])]
         self.made += tailoring.questions("tailoring.") if tailoring else []
-        self.shown = [f"show {table}{name}" for table in ("", "tailoring.") for name in DATA]
+        self.made += reordering.questions() if reordering else []
+        self.shown = [f"show {table}{name}" for table in ("", "tailoring.") for name in DATA] + ["show reordering.ranges"]
+
+
+def refused_implicit():
+    reordering = splits_implicit(4, 1)
+    return TimedTables("refused-implicit", "swapped leads", of_implicit(), None, reordering, "Reordering Reordering")
+
+
+# Tables that are held against Mini's by time alone, by how many times as long their checks may take: in which all characters reach
+# entries that count their weights, 1.1 million for each entry, one of them beside 2,000 mappings, or eleven from lead bytes in a row;
+# 2,400 lists of 31 elements, which share their members; and a reordering that takes half of the implicit weights to a lead byte where
+# none may be.
+LIMITED = {
+    "counted-rows": (lambda: TimedTables("counted-rows", "Mini", of_counted_rows(4)), 150),
+    "counted-weights": (lambda: TimedTables("counted-weights", "Mini", of_counted_weights(range(0x44, 0x4F))), 900),
+    "many-lists": (lambda: TimedTables("many-lists", "Mini", of_many_lists(4)), 100),
+    "refused-implicit": (refused_implicit, 100),
+}
+
+
+def stored_numbers(driver, tables):
+    """How many numbers the root, the tailoring and the ranges of some tables have."""
+    shown = driver.ask([*tables.made, *tables.shown])[len(tables.made) :]
+    return sum(len(numbers(it)) for it in shown if it != "none") or 1
 
 
 class Check:
@@ -271,10 +58,9 @@ class Check:
         self.tables = tables.name
         asked = [[*tables.made, f"times {count:X}", "check"] for count in (1, 1 + times)]
         (once, more), answers = least_times(driver, *asked)
-        shown = driver.ask([*tables.made, *tables.shown])[len(tables.made) :]
-        self.numbers = sum(len(numbers(it)) for it in shown if it != "none") or 1
+        self.numbers = stored_numbers(driver, tables)
         self.seconds = max(more - once, 0) / times
-        self.faults = [f"{tables.name}: {it}" for it in answers if set(it) != {"ok"}]
+        self.faults = [f"{tables.name}: {it[-1]}" for it in answers if {*it[:-1]} != {"ok"} or it[-1] != tables.wanted]
 
     def for_each(self):
         return self.seconds / self.numbers
@@ -290,43 +76,50 @@ def dear_tables(mini, check):
 
 
 def growing_tables(mini, checks):
-    """What is wrong with the checks of one root in sizes 1, 2 and 4: one takes long, or the time grows faster than the size."""
+    """What is wrong with the checks of one kind of tables in sizes 1, 2 and 4: one takes long, or the time grows faster than the size."""
     faults = [it for check in checks for it in dear_tables(mini, check)]
+    faults += [it for check in checks if check.tables in LIMITS for it in slow_tables(mini, check, LIMITS[check.tables])]
     least, greatest = checks[0], checks[-1]
     # more than twice the growth of the numbers is no other work of the machine
     allowed = 2 * least.seconds * greatest.numbers / least.numbers
     return faults + [f"grows too fast: {least}; {greatest}"] * (greatest.seconds > max(allowed, 1e-3))
 
 
-def counted_tables(mini, check):
-    """What is wrong with the check of a root whose entries count their weights."""
-    allowed = COUNTED[check.tables][1] * max(mini.seconds, 1e-4)
-    return check.faults + [f"takes too long: {check}; {mini}"] * (check.seconds > allowed)
+def slow_tables(mini, check, times):
+    """What is wrong with the check of tables that may take so many times as long as Mini's."""
+    allowed = times * max(mini.seconds, 1e-4)
+    return check.faults + [f"takes more than {times} of Mini's: {check}; {mini}"] * (check.seconds > allowed)
 
 
-def check_counted(report, driver):
-    """Roots whose entries count their weights, whose checks are held against Mini's by time alone."""
+def check_limited(report, driver):
+    """Roots whose checks are held against Mini's by time alone."""
     for _ in range(ATTEMPTS):
         mini = Check(driver, TimedTables("mini", "Mini"), 4 * CHECKS)
-        checks = [Check(driver, TimedTables(name, "Mini", make()), CHECKS // 12) for name, (make, _) in COUNTED.items()]
-        faults = mini.faults + [it for check in checks for it in counted_tables(mini, check)]
+        checks = [Check(driver, make(), CHECKS // 12) for make, _ in LIMITED.values()]
+        faults = mini.faults + [it for check in checks for it in slow_tables(mini, check, LIMITED[check.tables][1])]
         if not faults:
             break
-    report.say("hostile input: checks of counted weights take no more than so many of Mini's", faults, 2 * RUNS * len(checks))
+    report.say("hostile input: checks of the dearest tables take no more than so many of Mini's", faults, 2 * RUNS * len(checks))
     for check in checks:
         print(f"       {check}", flush=True)
 
 
-def grown_checks(driver, name, make):
-    """The checks of one root in each size."""
-    return [Check(driver, TimedTables(f"{name}-{size}", "Mini", make(size)), CHECKS // 6) for size in SIZES]
+def grown_tables(name, size):
+    """The tables of one kind in one size: a reordering stands over tables that have one."""
+    reordering = REORDERED[name](size) if name in REORDERED else None
+    return TimedTables(f"{name}-{size}", "swapped leads" if reordering else "Mini", GROWING[name](size), None, reordering)
+
+
+def grown_checks(driver, name):
+    """The checks of one kind of tables in each size."""
+    return [Check(driver, grown_tables(name, size), CHECKS // 6) for size in SIZES]
 
 
 def check_growth(report, driver):
     """Hostile tables by a generator, each in three sizes."""
     for _ in range(ATTEMPTS):
         mini = Check(driver, TimedTables("mini", "Mini"), 4 * CHECKS)
-        grown = [grown_checks(driver, name, make) for name, make in GROWING.items()]
+        grown = [grown_checks(driver, name) for name in GROWING]
         faults = mini.faults + [it for checks in grown for it in growing_tables(mini, checks)]
         if not faults:
             break
@@ -357,7 +150,7 @@ def check_times(report, driver):
     for check in [mini, *checks, *others]:
         print(f"       {check}", flush=True)
     check_growth(report, driver)
-    check_counted(report, driver)
+    check_limited(report, driver)
 
 
 def dear_checks_missed(driver):
