@@ -14,6 +14,10 @@ NAMES = 20_000
 SORTED = 100_000
 LONG = 10_000
 MEGABYTE = 1_000_000
+SEARCHED = 100_000
+
+# A search whose limit is a ratio to the library's own time for a key of the text that is searched.
+BESIDE_KEYS = "search beside keys"
 
 # A row of the bench: what is measured, the texts, the greatest ratio to the peer's time that is wanted, or the greatest time, such as
 # "6 ms", the settings, and what makes the pairs of texts. Keys, elements and sorts are of all texts of the pairs.
@@ -292,6 +296,45 @@ def search_rows(lists):
                 yield Row("search", "search", f"{name}, a {what} pattern at {strength}", 1.0, settings, pairs)
 
 
+PROSE = (
+    "the quick brown fox jumped over the lazy dog and then the r\u00e9sum\u00e9 of Zo\u00eb was found in a caf\u00e9 at the corner "
+    "where nobody had ever looked for anything but coffee "
+)
+# What is searched beside a key of the same text: the strength, whether variable elements are shifted, the pattern, and what the
+# text is made of, again and again.
+BESIDE_KEYS_ROWS = (
+    ("prose, resume", 0, 0, "resume", PROSE),
+    ("prose, zoe", 0, 0, "zoe", PROSE),
+    ("prose, the", 0, 0, "the", PROSE),
+    ("prose, xylophone", 0, 0, "xylophone", PROSE),
+    ("prose, cornerwhere, shifted", 0, 1, "cornerwhere", PROSE),
+    ("prose, the", 2, 0, "the", PROSE),
+    ("prose, resume", 2, 0, "resume", PROSE),
+    ("prose, the, shifted", 2, 1, "the", PROSE),
+    ("hyphens, ab, shifted", 0, 1, "ab", "-"),
+    ("a and 9 hyphens, aaaab, shifted", 0, 1, "aaaab", "a" + 9 * "-"),
+    ("a and 9 hyphens, aaaab, shifted", 2, 1, "aaaab", "a" + 9 * "-"),
+    ("a, 20 times a", 0, 0, 20 * "a", "a"),
+    ("a, 20 times a, then b", 0, 0, 20 * "a" + "b", "a"),
+    ("a, 20 times a, then b", 2, 0, 20 * "a" + "b", "a"),
+    ("a, 20 times a, then U+0301", 1, 0, 20 * "a" + "\u0301", "a"),
+)
+
+
+def repeated(text, length):
+    """The text again and again, cut off at a length."""
+    return (text * (1 + length // len(text)))[:length]
+
+
+def beside_keys_rows():
+    """Texts in which many parts begin as the pattern does, or vanish: the limit is a ratio to the time that their key takes."""
+    strengths = ("Primary", "Secondary", "Tertiary")
+    for name, strength, shifted, pattern, text in BESIDE_KEYS_ROWS:
+        pairs = lambda pattern=pattern, text=text: [(pattern, repeated(text, SEARCHED))]
+        settings = Settings(strength, shifted=shifted)
+        yield Row("search", BESIDE_KEYS, f"{name} at {strengths[strength]}", 3.0, settings, pairs)
+
+
 def sort_rows(lists):
     for name in ("ASCII names", "twelve scripts"):
         for operation, limit in (("sort by keys", 0.6), ("sort by comparisons", 0.7), ("index", 0.8)):
@@ -319,6 +362,7 @@ def rows(seed):
         yield from compare_rows(lists, "utf16", name, limit, operation="compare UTF-16")
     yield from mark_rows(lists)
     yield from search_rows(lists)
+    yield from beside_keys_rows()
     yield from sort_rows(lists)
     short = lambda: [("a", "b")]
     yield Row("making", "make", "a collator of tables that were read", "6 ms", TERTIARY, short)
@@ -329,14 +373,22 @@ def has_ideographs(row):
     return any(name in row.name for name in WITH_IDEOGRAPHS)
 
 
+def passes(row):
+    """What is timed for a row, each with its pairs of texts: its operation, or a search without the peer, and then keys."""
+    if row.operation != BESIDE_KEYS:
+        return [(row.operation, row.pairs)]
+    return [("search alone", row.pairs), ("keys", lambda: [(text, text) for _, text in row.pairs()])]
+
+
 def write(folder, chosen):
-    """Writes a file of texts for each row, one text a line and so two lines a pair, and the plan: a line a row."""
+    """Writes a file of texts for all that is timed, one text a line and so two lines a pair, and the plan: a line a file."""
     os.makedirs(folder, exist_ok=True)
     plan = []
-    for number, row in enumerate(chosen):
-        file = os.path.join(folder, f"{number}.txt")
-        with open(file, "wb") as it:
-            it.write("".join(f"{text}\n" for pair in row.pairs() for text in pair).encode("utf-8"))
-        plan.append("\t".join((row.operation, " ".join(map(str, row.settings)), file)))
+    for row in chosen:
+        for operation, pairs in passes(row):
+            file = os.path.join(folder, f"{len(plan)}.txt")
+            with open(file, "wb") as it:
+                it.write("".join(f"{text}\n" for pair in pairs() for text in pair).encode("utf-8"))
+            plan.append("\t".join((operation, " ".join(map(str, row.settings)), file)))
     with open(os.path.join(folder, "plan"), "w", encoding="utf-8") as it:
         it.write("".join(f"{line}\n" for line in plan))

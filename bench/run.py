@@ -19,6 +19,7 @@ usage: bench/run.py [--group GROUP ..] [--list] [--rounds N] [--seed N] [--both-
 The table goes to standard output, all else to standard error. Status 1: a text was not ordered as it should be.
 """
 import argparse
+import itertools
 import os
 import subprocess
 import sys
@@ -33,13 +34,15 @@ UNITS = {"ms": 1e6, "ns": 1.0}
 
 
 class Measured:
-    """A row, with what the program printed of it."""
+    """A row, with what the program printed of it. Beside keys the time of the library's key stands for the peer's."""
 
-    def __init__(self, row, line):
-        words = line.split("\t")
+    def __init__(self, row, lines):
+        words = [line.split("\t") for line in lines]
         self.row = row
-        self.peer, self.library = map(float, words[:2])
-        self.unlike_peer, self.unlike_keys = map(int, words[2:])
+        self.peer, self.library = map(float, words[0][:2])
+        self.unlike_peer, self.unlike_keys = map(sum, zip(*(map(int, it[2:]) for it in words)))
+        if row.operation == corpus.BESIDE_KEYS:
+            self.peer = float(words[1][1]) / sum(len(text.encode("utf-16-le")) // 2 for _, text in row.pairs())
 
     def ratio(self):
         return self.library / self.peer
@@ -75,9 +78,11 @@ def measured(program, folder, rows, rounds, root):
     say(" ".join(words))
     ran = subprocess.run(words, stdout=subprocess.PIPE, text=True, check=False)
     lines = ran.stdout.splitlines()
-    if ran.returncode != 0 or len(lines) != len(rows):
+    counts = [len(corpus.passes(row)) for row in rows]
+    if ran.returncode != 0 or len(lines) != sum(counts):
         sys.exit(f"bench: {program} ended with status {ran.returncode}")
-    return [Measured(row, line) for row, line in zip(rows, lines)]
+    left = iter(lines)
+    return [Measured(row, list(itertools.islice(left, count))) for row, count in zip(rows, counts)]
 
 
 def print_line(cells):

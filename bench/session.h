@@ -105,6 +105,9 @@ class Session {
     }
 
     void time_peer() {
+        if (row().alone) {
+            return;
+        }
         const double start = now();
         for (uint64_t pass = 0; pass < row().peer_passes; ++pass) {
             peer_answer_ = peer_pass();
@@ -189,7 +192,7 @@ class Session {
 
     // Lists are sorted as the peer sorts them, and patterns are found as often.
     void look_at_list() {
-        if (turn_ == FIRST && (row().sorts() || row().searches()) && same_order_ && answer_ != peer_answer_) {
+        if (turn_ == FIRST && (row().sorts() || row().searches()) && !row().alone && same_order_ && answer_ != peer_answer_) {
             ++row().unlike_peer;
         }
     }

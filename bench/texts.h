@@ -34,6 +34,8 @@ struct Row {
     std::string file;
     // Its pairs of texts.
     uint32_t first = 0, end = 0;
+    // The peer does nothing.
+    bool alone = false;
     // How many units of UTF-16 its second texts have, which are searched.
     size_t searched = 0;
     // How many passes are timed together.
@@ -87,7 +89,8 @@ inline std::vector<Row> rows_of(const std::string &plan) {
         for (std::string *word : {&operation, &settings, &row.file}) {
             std::getline(words, *word, '\t');
         }
-        row.measured = operation_named(operation);
+        row.alone = operation == "search alone";
+        row.measured = operation_named(row.alone ? "search" : operation);
         std::istringstream numbers(settings);
         Settings &it = row.settings;
         numbers >> it.strength >> it.numeric >> it.shifted >> it.case_level >> it.normalized;
