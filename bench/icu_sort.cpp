@@ -1,5 +1,5 @@
-// Sorts the lines of standard input by their sort keys of ICU4C, at strength tertiary: what `sort_files.py` times beside the
-// program `collate-cldr`. Lines that compare equal stay as they came.
+// Sorts the lines of standard input by their sort keys of ICU4C, at strength tertiary, by its root or by the locale that is named:
+// what `sort_files.py` times beside the program `collate-cldr`. Lines that compare equal stay as they came.
 #include <algorithm>
 #include <iterator>
 
@@ -10,8 +10,8 @@ struct Line {
     size_t start, length, key, key_length;
 };
 
-static std::vector<Line> keyed(const std::string &text, std::vector<uint8_t> &keys) {
-    const Peer peer{Settings{}};
+static std::vector<Line> keyed(const char *locale, const std::string &text, std::vector<uint8_t> &keys) {
+    const Peer peer(Settings{}, locale);
     std::vector<Line> lines;
     for (size_t start = 0; start < text.size();) {
         const size_t end = std::min(text.find('\n', start), text.size());
@@ -23,11 +23,11 @@ static std::vector<Line> keyed(const std::string &text, std::vector<uint8_t> &ke
     return lines;
 }
 
-int main() {
+int main(int count, char **words) {
     std::ios::sync_with_stdio(false);
     const std::string text((std::istreambuf_iterator<char>(std::cin)), std::istreambuf_iterator<char>());
     std::vector<uint8_t> keys;
-    auto lines = keyed(text, keys);
+    auto lines = keyed(count > 1 ? words[1] : "root", text, keys);
     const auto key = [&](const Line &it) {
         return std::string_view(reinterpret_cast<const char *>(keys.data()) + it.key, it.key_length);
     };

@@ -1,4 +1,4 @@
-// ICU4C: its collator of the root.
+// ICU4C: its collator of the root, or of a locale.
 #pragma once
 
 #include <algorithm>
@@ -52,9 +52,10 @@ using Collator = std::unique_ptr<UCollator, Close>;
 
 class Peer {
   public:
-    explicit Peer(const Settings &settings) : settings_(settings), key_(1 << 20) {
+    // By ICU's collation of a locale.
+    explicit Peer(const Settings &settings, const char *locale = "root") : settings_(settings), key_(1 << 20) {
         UErrorCode error = U_ZERO_ERROR;
-        collator_.reset(ucol_open("root", &error));
+        collator_.reset(ucol_open(locale, &error));
         must(error, "ucol_open");
         set(collator_.get());
         elements_.reset(ucol_openElements(collator_.get(), u"", 0, &error));

@@ -5,7 +5,7 @@ import io
 import os
 import random
 
-from sweeps import run, wrapped
+from sweeps import faults_missed, run
 
 MARK = "\ufeff"
 # Further words, the input, and what is printed.
@@ -169,16 +169,9 @@ FAULTY = [
 ]
 
 
-def faults_missed(room, program, letters):
-    found = []
-    for at, (what, text, wrong) in enumerate(FAULTY):
-        found += [f"not found: {what}"] * (not wrong(wrapped(room, f"csv{at}", program, text), letters, room))
-    return found
-
-
 def check_csv(report, room, program, letters):
     report.say("collate-cldr: sorts of records", wrong_sorts(program, letters), len(SORTED) + len(WRONG_WORDS) + 1)
     report.say("collate-cldr: records that are refused", wrong_refusals(program, letters, room), len(REFUSED) + 2)
     report.say("collate-cldr: records that are checked", wrong_checks(program, letters), 3 * len(CHECKED))
     report.say("collate-cldr: sorts of records as those of Python", unlike_python(program, letters), 100)
-    report.say("collate-cldr: programs with a fault in records are found", faults_missed(room, program, letters), len(FAULTY))
+    report.say("collate-cldr: programs with a fault in records are found", faults_missed(room, "csv", program, letters, FAULTY), len(FAULTY))

@@ -4,7 +4,7 @@ import os
 import random
 import subprocess
 
-from sweeps import run, wrapped
+from sweeps import faults_missed, run
 
 
 def over(letters, command, strength, *words):
@@ -204,16 +204,9 @@ FAULTY = [
 ]
 
 
-def faults_missed(room, program, letters):
-    found = []
-    for at, (what, text, wrong) in enumerate(FAULTY):
-        found += [f"not found: {what}"] * (not wrong(wrapped(room, f"lines{at}", program, text), letters, room))
-    return found
-
-
 def check_lines(report, room, program, letters):
     report.say("collate-cldr: explanations and reasons", wrong_explanations(program, letters), len(EXPLAINED) + len(REASONS))
     report.say("collate-cldr: searches", wrong_searches(program, letters, room), len(SEARCHES) + 5)
     report.say("collate-cldr: sorts by fields", wrong_fields(program, letters), len(FIELDS) + len(WRONG_FIELDS))
     report.say("collate-cldr: sorts by fields as those of GNU sort", unlike_gnu(program, letters), 120)
-    report.say("collate-cldr: programs with a fault in lines are found", faults_missed(room, program, letters), len(FAULTY))
+    report.say("collate-cldr: programs with a fault in lines are found", faults_missed(room, "lines", program, letters, FAULTY), len(FAULTY))

@@ -29,6 +29,14 @@ def wrapped(room, name, program, text):
     return path
 
 
+def faults_missed(room, name, program, letters, faulty):
+    """Those programs with a fault that a test passes. Of each stand what is wrong with it, a script, and the test."""
+    found = []
+    for at, (what, text, wrong) in enumerate(faulty):
+        found += [f"not found: {what}"] * (not wrong(wrapped(room, f"{name}{at}", program, text), letters, room))
+    return found
+
+
 class Run:
     """What one run of a program came to. A run that had not ended in time has no status."""
 

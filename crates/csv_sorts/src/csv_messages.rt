@@ -72,6 +72,6 @@ pub fn csv_error_said(
 ) -> ProgramError {
     match error_said(alloc, source, delimiter, text, words, error) {
         Ok(said) => said,
-        Err(_) => ProgramError::NoMemory,
+        Err(error) => ProgramError::from(error),
     }
 }

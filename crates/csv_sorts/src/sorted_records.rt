@@ -1,12 +1,10 @@
 //! Records, sorted by their columns.
 
-ghost use Rattle.std.specs.Prelude.{◌≡◌, ◌≢◌, ◌++◌, IfErr, IfOk, OnOk, map};
+ghost use Rattle.std.specs.Prelude.{◌≡◌, ◌≢◌, ◌++◌, IfErr, IfOk, OnOk};
 ghost use Rattle.csv.specs.Reading.{strip_bom};
 ghost use Rattle.csv_records.specs.CsvCuts.{HasRecords};
 ghost use Rattle.icu_collator.specs.Collators.{collation_kept};
-ghost use Rattle.keyed_lines.specs.FirstLines.{have_one_key, printed};
 ghost use Rattle.keyed_lines.specs.InputLines.{ended_lines};
-ghost use Rattle.keyed_lines.specs.KeyBuffers.{line_bytes};
 ghost use Rattle.keyed_lines.specs.ShownLines.{shown_lines};
 ghost use Rattle.line_commands.specs.Printed.{Prints};
 ghost use Rattle.csv_sorts.specs.ColumnOrders.{as_they_came, body_of, header_of};
@@ -18,10 +16,8 @@ use crate::csv_request::{CsvError, CsvRequest};
 use crate::record_key::keys_of_records;
 use collate_commands::write_text;
 use csv_records::{csv_records, is_closed, past_mark};
-use field_sorts::sorted_by_keys;
 use icu_collator::Collator;
-use keyed_lines::written_lines::{push_line, written_lines};
-use keyed_lines::{Direction, KeyedLine, LineOrder, SortRequest, Ties};
+use keyed_lines::{Direction, LineOrder, SortRequest, Ties, push_line, text_by_keys};
 use std::alloc::{AllocError, Global};
 use std::io::Write;
 
@@ -74,22 +70,19 @@ fn push_records(text: &mut Vec<u8>, records: &[&[u8]]) -> Result<(), AllocError>
     Ok(())
 }
 
-/// A byte order mark, the records before those that are sorted, and then those of these that are asked for.
+/// A byte order mark, the records before those that are sorted, and then those that are, as they were written.
 fn headed_text(
     alloc: Global,
     mark: &[u8],
     header: &[&[u8]],
-    sorted: &[KeyedLine<'_>],
-    request: SortRequest,
+    sorted: &[u8],
 ) -> Result<Vec<u8>, AllocError>
-    requires { request.separator ≡ 10 }
-    ensures { IfOk result (λ text. text.items ≡ mark.now ++ (ended_lines 10 (shown_lines header.now)
-        ++ ended_lines 10 (map line_bytes (printed request.repeats have_one_key sorted.now)))) }
+    ensures { IfOk result (λ text. text.items
+        ≡ mark.now ++ (ended_lines 10 (shown_lines header.now) ++ sorted.now)) }
 {
     let mut text = Vec::from_slice(alloc, mark)?;
     push_records(&mut text, header)?;
-    let written = written_lines(alloc, sorted, request)?;
-    text.extend_from_slice(written.as_slice())?;
+    text.extend_from_slice(sorted)?;
     Ok(text)
 }
 
@@ -155,9 +148,8 @@ pub fn text_sorted_by_columns(
     let header = header_of(request.has_header, records.as_slice());
     let body = body_of(request.has_header, records.as_slice());
     let keys = keys_of_records(alloc, &collator.as_borrowed(), request, header.len(), body)?;
-    let written = written_as(request);
-    let sorted = sorted_by_keys(&keys, body, written.order)?;
-    let output = headed_text(alloc, front_mark(text), header, sorted.as_slice(), written)?;
+    let sorted = text_by_keys(alloc, &keys, body, written_as(request))?;
+    let output = headed_text(alloc, front_mark(text), header, sorted.as_slice())?;
     Ok(output)
 }
 

@@ -1,13 +1,9 @@
 -- The order of lines by their fields (POSIX, "sort", option -k). A line is bytes in UTF-8 that may be damaged.
-use Rattle.std.specs.Prelude.{◌≡◌, ℕ, List, [], ◌∷◌, ◌++◌, map}
-use Rattle.std.specs.List.{AllByRecursion}
+use Rattle.std.specs.Prelude.{ℕ, List, [], ◌∷◌, ◌++◌}
 use Rattle.std.specs.declared.cmp.Ordering.{Ordering}
-use Rattle.icu_index.specs.Listings.{IsStablySorted}
 use Rattle.icu_levels.specs.ListOrder.{list_order}
 use Rattle.icu_weighting.specs.Collations.{Collation}
-use Rattle.keyed_lines.specs.KeyBuffers.{line_bytes}
 use Rattle.keyed_lines.specs.KeyedOrders.{ordered_as}
-use Rattle.keyed_lines.specs.declared.line_order.KeyedLine.{KeyedLine}
 use Rattle.keyed_lines.specs.declared.line_order.LineOrder.{LineOrder}
 use Rattle.line_commands.specs.LineOrders.{key_of_line}
 use Rattle.line_fields.specs.JoinedKeys.{directed_key}
@@ -40,9 +36,3 @@ by_fields c ends sorts x y = list_order (line_key c ends sorts x) (line_key c en
 -- the order of lines: by fields, and then by their bytes where that is asked for, in a direction
 abbrev pub fields_order : Collation → FieldEnds → List FieldSort → LineOrder → List ℕ → List ℕ → Ordering
 fields_order c ends sorts o = ordered_as o (by_fields c ends sorts) list_order
-
--- lines with keys are these lines in the order of their keys, and then of their bytes where that is asked for, in a
--- direction; those of which neither comes first stand as they stood
-pub record AreSortedByKey (key : List ℕ → List ℕ) (o : LineOrder) (lines : List (List ℕ)) (list : List KeyedLine) : Type 0 where
-  pub keyed : AllByRecursion (λ l. l.key.now ≡ key l.line.now) list
-  pub sorted : IsStablySorted (ordered_as o (λ x y. list_order (key x) (key y)) list_order) lines (map line_bytes list)

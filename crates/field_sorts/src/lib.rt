@@ -9,4 +9,4 @@ pub mod sorted_by_fields;
 
 pub use field_sort::{FieldOrder, FieldSort, FieldSorts};
 pub use printed_fields::print_sorted_by_fields;
-pub use sorted_by_fields::{sorted_by_keys, text_sorted_by_fields};
+pub use sorted_by_fields::text_sorted_by_fields;

@@ -1,13 +1,12 @@
 -- Keys of a buffer that grows, and lines with them.
-use Rattle.std.proofs.Common.{◌≡◌, ℕ, suc, ◌+◌, ◌-◌, ◌<◌, ◌≤◌, ◌⊎◌, inl, inr, min, Bool, true, false, ◌&&◌, Bor, List, [], ◌∷◌, ◌++◌, drop, get_or, length, length-append, length-drop, Result, Ok, Err, OnErr, is_ok, nat_eq, nat_le, take, if◌then◌else◌, refl, sym, ap, ◌∙◌, arith}
+use Rattle.std.proofs.Common.{◌≡◌, ℕ, zero, suc, ◌+◌, ◌-◌, ◌<◌, ◌≤◌, ◌⊎◌, inl, inr, min, Bool, true, false, ◌&&◌, List, [], ◌∷◌, ◌++◌, drop, get_or, length, length-append, length-drop, Result, Ok, Err, OnErr, is_ok, nat_eq, nat_le, take, if◌then◌else◌, refl, sym, ap, ◌∙◌, arith}
 use Rattle.std.proofs.Math.Seq.{drop-append_seam, drop-cons, take-length}
 use Rattle.std.proofs.lemmas.Bool.Decides.{nat_tests}
 use Rattle.std.proofs.lemmas.Bool.{cases_lt}
-use Rattle.std.proofs.lemmas.List.{drop-append-le, length-map, take-append-le}
+use Rattle.std.proofs.lemmas.List.{drop-append-le, take-append-le}
 use Rattle.std.specs.List.{zip}
 use Rattle.keyed_lines.specs.KeyBuffers.{keys_cut}
 use Rattle.keyed_lines.specs.KeyParts.{ascends_to, key_part}
-use Rattle.keyed_lines.specs.ShownLines.{shown_lines}
 
 both : (a b : Bool) → (a && b) ≡ true → (a ≡ true) × (b ≡ true)
 both true b h = (refl, h)
@@ -79,14 +78,50 @@ keys_more start (end ∷ ends) bytes key h =
     (part_more bytes key start end (le_of start end hs.0) (reaches end ends (length bytes) hs.1))
     ∙ ap (λ ks. key_part bytes start end ∷ ks) (keys_more end ends bytes key hs.1)
 
+-- as many as ends
+pub keys_count : (start : ℕ) (ends bytes : List ℕ) → length (keys_cut start ends bytes) ≡ length ends
+keys_count start [] bytes = refl
+keys_count start (end ∷ ends) bytes = ap suc (keys_count end ends bytes)
+
+-- the first key
+pub first_key : (start : ℕ) (ends bytes : List ℕ) → 0 < length ends
+    → get_or (keys_cut start ends bytes) 0 [] ≡ key_part bytes start (get_or ends 0 0)
+first_key start [] bytes low = absurd (omega (arith, low))
+first_key start (end ∷ ends) bytes low = refl
+
+-- a key behind another
+pub later_key : (start i : ℕ) (ends bytes : List ℕ) → suc i < length ends
+    → get_or (keys_cut start ends bytes) (suc i) [] ≡ key_part bytes (get_or ends i 0) (get_or ends (suc i) 0)
+later_key start i [] bytes low = absurd (omega (arith, low))
+later_key start zero (end ∷ ends) bytes low = first_key end ends bytes (omega (arith, low))
+later_key start (suc i) (end ∷ ends) bytes low = later_key end i ends bytes (omega (arith, low))
+
+-- a key begins where the one before it ends
+pub key_there : (i : ℕ) (ends bytes : List ℕ) → i < length ends
+    → key_part bytes (if nat_eq i 0 then 0 else get_or ends (i - 1) 0) (get_or ends i 0) ≡ get_or (keys_cut 0 ends bytes) i []
+key_there zero ends bytes low = sym (first_key 0 ends bytes low)
+key_there (suc i) ends bytes low =
+    ap (λ s. key_part bytes s (get_or ends (suc i) 0)) (at (nat_eq (suc i) 0) (grind (arith, nat_tests)) (suc i - 1) (omega arith))
+    ∙ sym (later_key 0 i ends bytes low) where
+      at : (b : Bool) → b ≡ false → (m : ℕ) → m ≡ i → (if b then 0 else get_or ends m 0) ≡ get_or ends i 0
+      at false e m h = ap (λ n. get_or ends n 0) h
+      at true e m h = absurd (cc)
+
+-- behind the last key
+no_key_from : (start i : ℕ) (ends bytes : List ℕ) → length ends ≤ i → get_or (keys_cut start ends bytes) i [] ≡ []
+no_key_from start i [] bytes high = refl
+no_key_from start zero (end ∷ ends) bytes high = absurd (omega (arith, high))
+no_key_from start (suc i) (end ∷ ends) bytes high = no_key_from end i ends bytes (omega (arith, high))
+
+pub no_key : (i : ℕ) (ends bytes : List ℕ) → length ends ≤ i → get_or (keys_cut 0 ends bytes) i [] ≡ []
+no_key i ends bytes high = no_key_from 0 i ends bytes high
+
 -- ---- lines with keys
 
--- the next line with the next key
-pub next_pair : (start i : ℕ) (ends bytes : List ℕ) (lines : List (Bor (List ℕ))) (line : Bor (List ℕ)) → i < length ends → i < length lines
-    → zip (keys_cut start (drop i ends) bytes) (shown_lines (drop i lines))
-    ≡ (key_part bytes start (get_or ends i 0), (get_or lines i line).now)
-    ∷ zip (keys_cut (get_or ends i 0) (drop (suc i) ends) bytes) (shown_lines (drop (suc i) lines))
-next_pair start i ends bytes lines line low high = rw (drop-cons ends i 0 low, drop-cons lines i line high) refl
+-- the next key with the next line
+pub next_pair : (i : ℕ) (keys lines : List (List ℕ)) → i < length keys → i < length lines
+    → zip (drop i keys) (drop i lines) ≡ (get_or keys i [], get_or lines i []) ∷ zip (drop (suc i) keys) (drop (suc i) lines)
+next_pair i keys lines low high = rw (drop-cons keys i [] low, drop-cons lines i [] high) refl
 
 none_left : {X Y : Type 0} (xs : List X) (ys : List Y) → length xs ≡ 0 ⊎ (length ys ≡ 0) → zip xs ys ≡ []
 none_left [] ys h = refl
@@ -94,21 +129,12 @@ none_left (x ∷ xs) [] h = refl
 none_left (x ∷ xs) (y ∷ ys) (inl h) = absurd (cc)
 none_left (x ∷ xs) (y ∷ ys) (inr h) = absurd (cc)
 
-cut_none : (start : ℕ) (ends bytes : List ℕ) → length ends ≡ 0 → length (keys_cut start ends bytes) ≡ 0
-cut_none start [] bytes h = refl
-cut_none start (end ∷ ends) bytes h = absurd (cc)
-
 -- behind the last key or the last line there is no pair
-pub no_pair : (start i : ℕ) (ends bytes : List ℕ) (lines : List (Bor (List ℕ))) → min (length lines) (length ends) ≤ i
-    → zip (keys_cut start (drop i ends) bytes) (shown_lines (drop i lines)) ≡ []
-no_pair start i ends bytes lines high = by (cases_lt i (length ends)) where
-  by : (i < length ends) ⊎ (length ends ≤ i) → zip (keys_cut start (drop i ends) bytes) (shown_lines (drop i lines)) ≡ []
-  by (inr low) =
-      none_left (keys_cut start (drop i ends) bytes) (shown_lines (drop i lines))
-      (inl (cut_none start (drop i ends) bytes (omega (arith, length-drop i ends))))
-  by (inl low) =
-      none_left (keys_cut start (drop i ends) bytes) (shown_lines (drop i lines))
-      (inr (length-map (drop i lines) (λ (line : Bor (List ℕ)). line.now) ∙ omega (arith, length-drop i lines)))
+pub no_pair : (i : ℕ) (keys lines : List (List ℕ)) → min (length lines) (length keys) ≤ i → zip (drop i keys) (drop i lines) ≡ []
+no_pair i keys lines high = by (cases_lt i (length keys)) where
+  by : (i < length keys) ⊎ (length keys ≤ i) → zip (drop i keys) (drop i lines) ≡ []
+  by (inr low) = none_left (drop i keys) (drop i lines) (inl (omega (arith, length-drop i keys)))
+  by (inl low) = none_left (drop i keys) (drop i lines) (inr (omega (arith, length-drop i lines)))
 
 -- where there is room for one more, a push succeeds
 pub succeeds : {T E : Type 0} (r : Result T E) (len room : ℕ) → OnErr r (room ≤ len) → len + 1 ≤ room → is_ok r ≡ true

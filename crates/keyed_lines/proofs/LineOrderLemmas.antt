@@ -5,7 +5,7 @@ use Rattle.std.specs.declared.cmp.Ordering.{Ordering}
 use Rattle.keyed_lines.specs.KeyedOrders.{directed, keyed_order, ordered_as, with_ties}
 use Rattle.keyed_lines.specs.declared.line_order.Direction.{Direction}
 use Rattle.keyed_lines.specs.declared.line_order.Direction.TheVariants.{Ascending, Descending}
-use Rattle.keyed_lines.specs.declared.line_order.KeyedLine.{KeyedLine}
+use Rattle.std.specs.Prelude.{ℕ, List}
 use Rattle.keyed_lines.specs.declared.line_order.LineOrder.{LineOrder}
 use Rattle.keyed_lines.specs.declared.line_order.Ties.{Ties}
 use Rattle.keyed_lines.specs.declared.line_order.Ties.TheVariants.{AsTheyCame, ByBytes}
@@ -28,5 +28,5 @@ ordered_total o order last h k = directed_total o.direction (with_ties o.ties or
 -- that by keys is
 pub keyed_total : (o : LineOrder) → IsTotalOrder (keyed_order o)
 keyed_total o =
-    ordered_total o _ _ (on_total (λ (x : KeyedLine). x.key.now) nat_list_cmp_total)
-    (on_total (λ (x : KeyedLine). x.line.now) nat_list_cmp_total)
+    ordered_total o _ _ (on_total (λ (x : List ℕ × List ℕ). x.0) nat_list_cmp_total)
+    (on_total (λ (x : List ℕ × List ℕ). x.1) nat_list_cmp_total)

@@ -1,12 +1,14 @@
 -- What is appended of lines, one after another.
-use Rattle.std.proofs.Common.{◌≡◌, ℕ, Bool, true, false, List, [], ◌∷◌, ◌++◌, map, if◌then◌else◌, refl}
-use Rattle.keyed_lines.specs.FirstLines.{firsts_behind, have_one_key}
+use Rattle.std.proofs.Common.{◌≡◌, ℕ, Bool, true, false, List, [], ◌∷◌, ◌++◌, map, if◌then◌else◌, refl, sym, length, take, drop, get_or, ◌<◌, ◌-◌, arith, ap}
+use Rattle.keyed_lines.specs.FirstLines.{firsts, firsts_behind, have_one_key}
 use Rattle.keyed_lines.specs.InputLines.{ended_lines}
-use Rattle.keyed_lines.specs.KeyBuffers.{line_bytes}
-use Rattle.keyed_lines.specs.declared.line_order.KeyedLine.{KeyedLine}
+use Rattle.std.proofs.lemmas.List.{take_all}
+use Rattle.keyed_lines.specs.KeyBuffers.{line_bytes, place_pair, pairs_at}
+use Rattle.keyed_lines.specs.declared.keyed_lines.KeyedLines.{KeyedLines}
+use Rattle.keyed_lines.specs.declared.line_places.LinePlace.{LinePlace}
 
 -- the next of those behind another, unless both have one key
-pub next_first : (separator : ℕ) (before x : KeyedLine) (xs : List KeyedLine)
+pub next_first : (separator : ℕ) (before x : List ℕ × List ℕ) (xs : List (List ℕ × List ℕ))
     → ended_lines separator (map line_bytes (firsts_behind have_one_key before (x ∷ xs)))
     ≡ (if have_one_key before x then [] else line_bytes x ++ separator ∷ []) ++ ended_lines separator (map line_bytes (firsts_behind have_one_key x xs))
 next_first separator before x xs = by (have_one_key before x) where
@@ -14,3 +16,14 @@ next_first separator before x xs = by (have_one_key before x) where
       ≡ (if b then [] else line_bytes x ++ separator ∷ []) ++ ended_lines separator (map line_bytes (firsts_behind have_one_key x xs))
   by true = refl
   by false = refl
+
+-- the first, and then those behind it
+pub first_then : (separator : ℕ) (k : KeyedLines) (places : List LinePlace) (d : LinePlace) → 0 < length places
+    → ended_lines separator (map line_bytes (firsts have_one_key (pairs_at k places)))
+    ≡ (line_bytes (place_pair k (get_or places 0 d)) ++ separator ∷ [])
+    ++ ended_lines separator (map line_bytes (firsts_behind have_one_key (place_pair k (get_or places 0 d)) (pairs_at k (take (length places - 1) (drop 1 places)))))
+first_then separator k [] d some = absurd (omega (arith, some))
+first_then separator k (p ∷ ps) d some =
+    ap (λ (qs : List LinePlace). (line_bytes (place_pair k p) ++ separator ∷ [])
+    ++ ended_lines separator (map line_bytes (firsts_behind have_one_key (place_pair k p) (pairs_at k qs))))
+    (sym (take_all (length (p ∷ ps) - 1) ps (omega arith)))

@@ -1,6 +1,5 @@
 -- Which lines are printed of those that are sorted.
 use Rattle.std.specs.Prelude.{ℕ, ◌++◌, Bool, List, [], ◌∷◌, bytes_eq, if◌then◌else◌}
-use Rattle.keyed_lines.specs.declared.line_order.KeyedLine.{KeyedLine}
 use Rattle.keyed_lines.specs.declared.sort_request.Repeats.{Repeats}
 use Rattle.keyed_lines.specs.declared.sort_request.Repeats.TheVariants.{All, FirstOnly}
 
@@ -20,9 +19,9 @@ printed All same xs = xs
 printed FirstOnly same xs = firsts same xs
 
 -- whether lines have one key
-abbrev pub have_one_key : KeyedLine → KeyedLine → Bool
-have_one_key x y = bytes_eq x.key.now y.key.now
+abbrev pub have_one_key : List ℕ × List ℕ → List ℕ × List ℕ → Bool
+have_one_key x y = bytes_eq x.0 y.0
 
 -- a line with a separator, unless it has the key of the line before it
-abbrev pub unrepeated : ℕ → KeyedLine → KeyedLine → List ℕ
-unrepeated separator before line = if have_one_key before line then [] else line.line.now ++ separator ∷ []
+abbrev pub unrepeated : ℕ → List ℕ × List ℕ → List ℕ × List ℕ → List ℕ
+unrepeated separator before line = if have_one_key before line then [] else line.1 ++ separator ∷ []

@@ -1,16 +1,11 @@
 -- Sort keys of lines in one buffer, and lines with them.
-use Rattle.std.specs.Prelude.{ℕ, List, [], ◌∷◌}
+use Rattle.std.specs.Prelude.{ℕ, List, [], ◌∷◌, get_or, map}
+use Rattle.std.specs.List.{zip}
 use Rattle.keyed_lines.specs.KeyParts.{key_part}
+use Rattle.keyed_lines.specs.ShownLines.{shown_lines}
+use Rattle.keyed_lines.specs.declared.keyed_lines.KeyedLines.{KeyedLines}
 use Rattle.keyed_lines.specs.declared.line_keys.LineKeys.{LineKeys}
-use Rattle.keyed_lines.specs.declared.line_order.KeyedLine.{KeyedLine}
-
--- a line with its key, as the two
-abbrev pub pair_of : KeyedLine → List ℕ × List ℕ
-pair_of l = (l.key.now, l.line.now)
-
--- its bytes
-abbrev pub line_bytes : KeyedLine → List ℕ
-line_bytes l = l.line.now
+use Rattle.keyed_lines.specs.declared.line_places.LinePlace.{LinePlace}
 
 -- the parts of a buffer from a start on, by where they end
 abbrev pub keys_cut : ℕ → List ℕ → List ℕ → List (List ℕ)
@@ -20,3 +15,19 @@ keys_cut start (end ∷ ends) bytes = key_part bytes start end ∷ keys_cut end 
 -- the keys of a buffer
 abbrev pub keys_in : LineKeys → List (List ℕ)
 keys_in k = keys_cut 0 k.ends.items k.bytes.items
+
+-- the line of a key and a line
+abbrev pub line_bytes : List ℕ × List ℕ → List ℕ
+line_bytes l = l.1
+
+-- lines with their keys, each as a key and a line
+abbrev pub keyed_pairs : KeyedLines → List (List ℕ × List ℕ)
+keyed_pairs k = zip (keys_in k.keys.now) (shown_lines k.lines.now)
+
+-- the key and the line at a place
+abbrev pub place_pair : KeyedLines → LinePlace → List ℕ × List ℕ
+place_pair k p = (get_or (keys_in k.keys.now) p.index [], get_or (shown_lines k.lines.now) p.index [])
+
+-- those at several places
+abbrev pub pairs_at : KeyedLines → List LinePlace → List (List ℕ × List ℕ)
+pairs_at k places = map (place_pair k) places

@@ -1,10 +1,10 @@
--- The order of lines with sort keys (UTS #10, "Compare Sort Keys").
+-- The order of lines with sort keys, each a key and a line (UTS #10, "Compare Sort Keys").
+use Rattle.std.specs.Prelude.{ℕ, List}
 use Rattle.std.specs.Ordering.{ordering_then}
 use Rattle.std.specs.declared.cmp.Ordering.{Ordering}
 use Rattle.icu_levels.specs.ListOrder.{list_order}
 use Rattle.keyed_lines.specs.declared.line_order.Direction.{Direction}
 use Rattle.keyed_lines.specs.declared.line_order.Direction.TheVariants.{Ascending, Descending}
-use Rattle.keyed_lines.specs.declared.line_order.KeyedLine.{KeyedLine}
 use Rattle.keyed_lines.specs.declared.line_order.LineOrder.{LineOrder}
 use Rattle.keyed_lines.specs.declared.line_order.Ties.{Ties}
 use Rattle.keyed_lines.specs.declared.line_order.Ties.TheVariants.{AsTheyCame, ByBytes}
@@ -24,13 +24,13 @@ abbrev pub ordered_as : {X : Type 0} → LineOrder → (X → X → Ordering) �
 ordered_as o order last = directed o.direction (with_ties o.ties order last)
 
 -- the order of the keys of two lines
-abbrev pub keys_of_lines_order : KeyedLine → KeyedLine → Ordering
-keys_of_lines_order x y = list_order x.key.now y.key.now
+abbrev pub keys_of_lines_order : List ℕ × List ℕ → List ℕ × List ℕ → Ordering
+keys_of_lines_order x y = list_order x.0 y.0
 
 -- the order of their bytes
-abbrev pub bytes_of_lines_order : KeyedLine → KeyedLine → Ordering
-bytes_of_lines_order x y = list_order x.line.now y.line.now
+abbrev pub bytes_of_lines_order : List ℕ × List ℕ → List ℕ × List ℕ → Ordering
+bytes_of_lines_order x y = list_order x.1 y.1
 
 -- by keys, and then by the bytes of the lines
-abbrev pub keyed_order : LineOrder → KeyedLine → KeyedLine → Ordering
+abbrev pub keyed_order : LineOrder → List ℕ × List ℕ → List ℕ × List ℕ → Ordering
 keyed_order o = ordered_as o keys_of_lines_order bytes_of_lines_order

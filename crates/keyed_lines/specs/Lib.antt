@@ -5,3 +5,5 @@ pub mod KeyParts
 pub mod ShownLines
 pub mod KeyBuffers
 pub mod KeyedOrders
+pub mod SortedTexts
+pub mod inner

@@ -2,15 +2,19 @@
 #![tactic(auto)]
 
 pub mod input_lines;
+mod key_front;
+mod keyed_lines;
+pub mod keyed_text;
 pub mod line_keys;
 pub mod line_order;
-pub mod sort_lines;
+mod line_places;
+mod sort_lines;
 pub mod sort_request;
 pub mod written_lines;
 
 pub use input_lines::lines_by;
+pub use keyed_text::text_by_keys;
 pub use line_keys::LineKeys;
-pub use line_order::{Direction, KeyedLine, LineOrder, Ties};
-pub use sort_lines::sort_keyed_lines;
+pub use line_order::{Direction, LineOrder, Ties};
 pub use sort_request::{Repeats, SortRequest};
 pub use written_lines::push_line;

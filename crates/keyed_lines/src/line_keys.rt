@@ -1,11 +1,8 @@
 //! The sort keys of lines in one buffer.
 
-ghost use Rattle.std.specs.Prelude.{◌≡◌, [], ◌∷◌, ◌++◌, length, map, true, IfOk, OnErr, OnOk};
-ghost use Rattle.std.specs.List.{zip};
+ghost use Rattle.std.specs.Prelude.{◌≡◌, ◌<◌, ◌-◌, [], ◌∷◌, ◌++◌, get_or, if◌then◌else◌, length, nat_eq, true, OnErr, OnOk};
 ghost use Rattle.keyed_lines.specs.KeyParts.{ascends_to, key_part};
-ghost use Rattle.keyed_lines.specs.ShownLines.{shown_lines};
 
-use crate::line_order::KeyedLine;
 use std::alloc::{AllocError, Global};
 
 /// The bytes of a buffer from a start up to an end, none where there are no such bytes.
@@ -30,7 +27,7 @@ pub struct LineKeys {
 }
 
 impl LineKeys {
-    ghost use Rattle.keyed_lines.specs.KeyBuffers.{keys_in, pair_of};
+    ghost use Rattle.keyed_lines.specs.KeyBuffers.{keys_in};
 
     /// No keys. Does not allocate.
     pub fn new(alloc: Global) -> LineKeys
@@ -59,27 +56,40 @@ impl LineKeys {
         Ok(())
     }
 
-    /// Lines with these keys, the first with the first, as far as there are both.
-    ///
-    /// # Errors
-    ///
-    /// Fails only where an allocation does.
-    pub fn with_lines<'a>(&'a self, lines: &[&'a [u8]]) -> Result<Vec<KeyedLine<'a>>, AllocError>
-        ensures { IfOk result (λ keyed.
-            map pair_of keyed.items ≡ zip (keys_in self.now) (shown_lines lines.now)) }
+    /// How many keys there are.
+    #[tactic(auto, using(crate::proofs::KeyBufferLemmas::keys_count))]
+    pub fn count(&self) -> usize
+        ensures { result ≡ length (keys_in self.now) }
     {
-        let count = lines.len().min(self.ends.len());
-        let mut keyed = Vec::with_capacity(self.alloc, count)?;
-        let mut start = 0;
-        for index in 0..count {
-            let end = self.ends[index];
-            let key = key_part(self.bytes.as_slice(), start, end);
-            keyed.push(KeyedLine {
-                key,
-                line: lines[index],
-            })?;
-            start = end;
+        self.ends.len()
+    }
+
+    /// Where the key at an index begins.
+    fn start(&self, index: usize) -> usize
+        requires { index < length self.now.ends.items }
+        ensures { result
+            ≡ (if nat_eq index 0 then 0 else get_or self.now.ends.items (index - 1) 0) }
+    {
+        if index == 0 { 0 } else { self.ends[index - 1] }
+    }
+
+    /// Where the key at an index ends.
+    fn end(&self, index: usize) -> usize
+        requires { index < length self.now.ends.items }
+        ensures { result ≡ get_or self.now.ends.items index 0 }
+    {
+        self.ends[index]
+    }
+
+    /// The key at an index, without a byte where there is none.
+    #[tactic(auto, using(crate::proofs::KeyBufferLemmas::no_key))]
+    pub fn key(&self, index: usize) -> &[u8]
+        ensures { result.now ≡ get_or (keys_in self.now) index [] }
+    {
+        if index < self.ends.len() {
+            key_part(self.bytes.as_slice(), self.start(index), self.end(index))
+        } else {
+            &[]
         }
-        Ok(keyed)
     }
 }

@@ -1,28 +1,52 @@
 //! Lines with keys, sorted.
 
-ghost use Rattle.std.specs.Prelude.{◌≡◌, OnErr, OnOk};
+ghost use Rattle.std.specs.Prelude.{◌≡◌, IfOk, take};
+ghost use Rattle.std.specs.List.{AllByRecursion};
 ghost use Rattle.std.specs.List.Sorted.{IsPermutation, IsSorted, IsStable};
+ghost use Rattle.keyed_lines.specs.KeyBuffers.{keyed_pairs, pairs_at};
 ghost use Rattle.keyed_lines.specs.KeyedOrders.{keyed_order};
+ghost use Rattle.keyed_lines.specs.inner.PlaceOrders.{IsLinePlace};
 
-use crate::line_order::{KeyedLine, LineOrder};
-use std::alloc::AllocError;
-use std::cmp::Ordering;
+use crate::key_front::key_front;
+use crate::keyed_lines::KeyedLines;
+use crate::line_order::LineOrder;
+use crate::line_places::{LinePlace, sort_places};
+use std::alloc::{AllocError, Global};
 
-/// Sorts lines by their keys, stably: lines of which neither comes before the other stand as they stood. Lines that
-/// are in order, or parts of them that are, take fewer comparisons.
+/// The places of lines with keys, one behind another.
+fn places_of(alloc: Global, keyed: &KeyedLines<'_>) -> Result<Vec<LinePlace>, AllocError>
+    ensures all { IfOk result (λ places. pairs_at keyed.now places.items ≡ keyed_pairs keyed.now) }
+    ensures right { IfOk result (λ places. AllByRecursion (IsLinePlace keyed.now) places.items) }
+{
+    let mut places = Vec::with_capacity(alloc, keyed.lines.len())?;
+    for index in 0..keyed.count() {
+        places.push(LinePlace {
+            front: key_front(keyed.keys.key(index)),
+            index,
+        })?;
+    }
+    Ok(places)
+}
+
+/// The places of lines with keys, sorted by the keys, stably: lines of which neither comes before the other stand as
+/// they stood. Lines that are in order, or parts of them that are, take fewer comparisons.
 ///
 /// # Errors
 ///
-/// Fails only where an allocation does, and leaves the lines as they were.
-pub fn sort_keyed_lines(lines: &mut Vec<KeyedLine<'_>>, order: LineOrder) -> Result<(), AllocError>
-    ensures permutation { IsPermutation lines.old.items lines.new.items }
-    ensures sorted { OnOk result (IsSorted (keyed_order order) lines.new.items) }
-    ensures stable { IsStable (keyed_order order) lines.old.items lines.new.items }
-    ensures err { OnErr result (lines.new.items ≡ lines.old.items) }
+/// Fails only where an allocation does.
+pub(crate) fn sorted_places(
+    alloc: Global,
+    keyed: &KeyedLines<'_>,
+    order: LineOrder,
+) -> Result<Vec<LinePlace>, AllocError>
+    ensures permutation { IfOk result (λ places.
+        IsPermutation (keyed_pairs keyed.now) (pairs_at keyed.now places.items)) }
+    ensures sorted { IfOk result (λ places.
+        IsSorted (keyed_order order) (pairs_at keyed.now places.items)) }
+    ensures stable { IfOk result (λ places.
+        IsStable (keyed_order order) (keyed_pairs keyed.now) (pairs_at keyed.now places.items)) }
 {
-    lines.sort_by(
-        |one, other| -> Ordering
-            ensures { result ≡ keyed_order order one.now other.now }
-        { order.compare(one, other) },
-    )
+    let mut places = places_of(alloc, keyed)?;
+    sort_places(&mut places, keyed, order)?;
+    Ok(places)
 }

@@ -1,11 +1,12 @@
 //! Lines as they are printed.
 
 ghost use Rattle.std.specs.Prelude.{◌≡◌, ◌++◌, ◌∷◌, [], IfOk, OnOk, map};
-ghost use Rattle.keyed_lines.specs.FirstLines.{firsts, have_one_key, printed, unrepeated};
+ghost use Rattle.keyed_lines.specs.FirstLines.{firsts, firsts_behind, have_one_key, printed, unrepeated};
 ghost use Rattle.keyed_lines.specs.InputLines.{ended_lines};
-ghost use Rattle.keyed_lines.specs.KeyBuffers.{line_bytes};
+ghost use Rattle.keyed_lines.specs.KeyBuffers.{line_bytes, place_pair, pairs_at};
 
-use crate::line_order::KeyedLine;
+use crate::keyed_lines::KeyedLines;
+use crate::line_places::LinePlace;
 use crate::sort_request::{Repeats, SortRequest};
 use std::alloc::{AllocError, Global};
 
@@ -18,49 +19,83 @@ pub fn push_line(text: &mut Vec<u8>, line: &[u8], separator: u8) -> Result<(), A
     Ok(())
 }
 
-/// Each line.
-fn each_line(alloc: Global, lines: &[KeyedLine<'_>], separator: u8) -> Result<Vec<u8>, AllocError>
-    ensures { IfOk result (λ text. text.items ≡ ended_lines separator (map line_bytes lines.now)) }
-{
-    let mut text = Vec::new(alloc);
+/// How many bytes lines have with what ends them.
+fn ended_length(lines: &[&[u8]]) -> usize {
+    let mut length: usize = 0;
     for line in lines {
-        push_line(&mut text, line.line, separator)?;
+        length = length.saturating_add(line.len()).saturating_add(1);
     }
-    Ok(text)
+    length
+}
+
+/// Each line.
+fn each_line(
+    keyed: &KeyedLines<'_>,
+    places: &[LinePlace],
+    separator: u8,
+    text: &mut Vec<u8>,
+) -> Result<(), AllocError>
+    ensures { OnOk result (text.new.items ≡ text.old.items
+        ++ ended_lines separator (map line_bytes (pairs_at keyed.now places.now))) }
+{
+    for place in places {
+        push_line(text, keyed.line(place.index), separator)?;
+    }
+    Ok(())
 }
 
 /// Appends a line and a separator, unless it has the key of the line before it.
 fn push_other(
-    text: &mut Vec<u8>,
-    before: KeyedLine<'_>,
-    line: KeyedLine<'_>,
+    keyed: &KeyedLines<'_>,
+    before: LinePlace,
+    place: LinePlace,
     separator: u8,
+    text: &mut Vec<u8>,
 ) -> Result<(), AllocError>
     ensures { OnOk result (text.new.items ≡ text.old.items
-        ++ unrepeated separator before.entry line.entry) }
+        ++ unrepeated separator (place_pair keyed.now before) (place_pair keyed.now place)) }
 {
-    if before.key == line.key {
+    if keyed.keys.key(before.index) == keyed.keys.key(place.index) {
         return Ok(());
     }
-    push_line(text, line.line, separator)
+    push_line(text, keyed.line(place.index), separator)
+}
+
+/// Behind a line, the first of those that stand together and have another key.
+fn first_lines_behind(
+    keyed: &KeyedLines<'_>,
+    first: LinePlace,
+    places: &[LinePlace],
+    separator: u8,
+    text: &mut Vec<u8>,
+) -> Result<(), AllocError>
+    ensures { let k = keyed.now in OnOk result (text.new.items ≡ text.old.items
+        ++ ended_lines separator (map line_bytes
+        (firsts_behind have_one_key (place_pair k first) (pairs_at k places.now)))) }
+{
+    let mut before = first;
+    for place in places {
+        push_other(keyed, before, *place, separator, text)?;
+        before = *place;
+    }
+    Ok(())
 }
 
 /// The first line of those that stand together and have one key.
-fn first_lines(alloc: Global, lines: &[KeyedLine<'_>], separator: u8) -> Result<Vec<u8>, AllocError>
-    ensures { IfOk result (λ text. text.items
-        ≡ ended_lines separator (map line_bytes (firsts have_one_key lines.now))) }
+fn first_lines(
+    keyed: &KeyedLines<'_>,
+    places: &[LinePlace],
+    separator: u8,
+    text: &mut Vec<u8>,
+) -> Result<(), AllocError>
+    ensures { OnOk result (text.new.items ≡ text.old.items ++ ended_lines separator
+        (map line_bytes (firsts have_one_key (pairs_at keyed.now places.now)))) }
 {
-    let mut text = Vec::new(alloc);
-    let [first, rest @ ..] = lines else {
-        return Ok(text);
+    let [first, rest @ ..] = places else {
+        return Ok(());
     };
-    push_line(&mut text, first.line, separator)?;
-    let mut before = *first;
-    for line in rest {
-        push_other(&mut text, before, *line, separator)?;
-        before = *line;
-    }
-    Ok(text)
+    push_line(text, keyed.line(first.index), separator)?;
+    first_lines_behind(keyed, *first, rest, separator, text)
 }
 
 /// Those that a request asks for of lines that are sorted, each with a separator behind it.
@@ -68,16 +103,19 @@ fn first_lines(alloc: Global, lines: &[KeyedLine<'_>], separator: u8) -> Result<
 /// # Errors
 ///
 /// Fails only where an allocation does.
-pub fn written_lines(
+pub(crate) fn written_lines(
     alloc: Global,
-    lines: &[KeyedLine<'_>],
+    keyed: &KeyedLines<'_>,
+    places: &[LinePlace],
     request: SortRequest,
 ) -> Result<Vec<u8>, AllocError>
     ensures { IfOk result (λ text. text.items ≡ ended_lines request.separator
-        (map line_bytes (printed request.repeats have_one_key lines.now))) }
+        (map line_bytes (printed request.repeats have_one_key (pairs_at keyed.now places.now)))) }
 {
+    let mut text = Vec::with_capacity(alloc, ended_length(keyed.lines))?;
     match request.repeats {
-        Repeats::All => each_line(alloc, lines, request.separator),
-        Repeats::FirstOnly => first_lines(alloc, lines, request.separator),
+        Repeats::All => each_line(keyed, places, request.separator, &mut text)?,
+        Repeats::FirstOnly => first_lines(keyed, places, request.separator, &mut text)?,
     }
+    Ok(text)
 }

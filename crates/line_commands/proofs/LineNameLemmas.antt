@@ -1,14 +1,34 @@
 -- The order of lines is that of their keys.
-use Rattle.std.proofs.Common.{◌≡◌, sym}
+use Rattle.std.proofs.Common.{◌≡◌, ℕ, List, ap, ◌∙◌, subst, sym}
+use Rattle.std.specs.Ordering.{is_eq}
 use Rattle.icu_checks.specs.WellFormedTables.{IsWellFormedTables}
 use Rattle.icu_collator.specs.Collators.{collation_borrowed, tables_borrowed}
 use Rattle.icu_collator.specs.declared.collator.CollatorBorrowed.{CollatorBorrowed}
 use Rattle.icu_index.proofs.NameLemmas.{names_keep}
-use Rattle.icu_index.specs.Listings.{name_order}
+use Rattle.icu_index.specs.Listings.{IsStablySorted, name_order}
 use Rattle.icu_levels.specs.ListOrder.{list_order}
+use Rattle.keyed_lines.specs.FirstLines.{printed}
+use Rattle.keyed_lines.specs.InputLines.{ended_lines, lines_by}
+use Rattle.keyed_lines.specs.KeyedOrders.{ordered_as}
+use Rattle.keyed_lines.specs.SortedTexts.{SortsByKey}
+use Rattle.keyed_lines.specs.declared.sort_request.SortRequest.{SortRequest}
 use Rattle.line_commands.specs.LineOrders.{key_of_line}
+use Rattle.line_commands.specs.SortedInputs.{SortsInput}
 
 -- the order of names, as a function, is that of the keys of lines
 pub orders_by_keys : (c : CollatorBorrowed) → IsWellFormedTables (tables_borrowed c)
     → (λ x y. list_order (key_of_line (collation_borrowed c) x) (key_of_line (collation_borrowed c) y)) ≡ name_order (collation_borrowed c)
 orders_by_keys c well_formed = λ i x y. (sym (names_keep c well_formed x y)) i
+
+-- lines that are sorted by their keys are sorted by the collator
+pub sorts_input : (c : CollatorBorrowed) → IsWellFormedTables (tables_borrowed c) → (r : SortRequest) (input text : List ℕ)
+    → SortsByKey (key_of_line (collation_borrowed c)) r (lines_by r.separator input) text → SortsInput (collation_borrowed c) r input text
+sorts_input c well_formed r input text h =
+    let same = orders_by_keys c well_formed in
+    record {
+      lines = h.sorted;
+      sorted =
+          subst (λ f. IsStablySorted (ordered_as r.order f list_order) (lines_by r.separator input) h.sorted) same
+          (record { permutation = h.permutation; ascends = h.ascends; stable = h.stable });
+      written = h.written ∙ ap (λ f. ended_lines r.separator (printed r.repeats (λ x y. is_eq (f x y)) h.sorted)) same;
+    }

@@ -1,15 +1,12 @@
 -- The order of lines (UTS #10, "Compare Sort Keys"). A line is bytes in UTF-8 that may be damaged.
-use Rattle.std.specs.Prelude.{◌≡◌, ℕ, List, map}
-use Rattle.std.specs.List.{AllByRecursion}
+use Rattle.std.specs.Prelude.{ℕ, List}
 use Rattle.std.specs.declared.cmp.Ordering.{Ordering}
 use Rattle.icu_encodings.specs.DecodedTexts.{utf8_text}
-use Rattle.icu_index.specs.Listings.{name_order, IsStablySorted}
+use Rattle.icu_index.specs.Listings.{name_order}
 use Rattle.icu_levels.specs.ListOrder.{list_order}
 use Rattle.icu_text_order.specs.Collations.{Collation}
 use Rattle.icu_text_order.specs.TextOrder.{text_key}
-use Rattle.keyed_lines.specs.KeyBuffers.{line_bytes}
 use Rattle.keyed_lines.specs.KeyedOrders.{ordered_as}
-use Rattle.keyed_lines.specs.declared.line_order.KeyedLine.{KeyedLine}
 use Rattle.keyed_lines.specs.declared.line_order.LineOrder.{LineOrder}
 
 -- the sort key of a line
@@ -19,8 +16,3 @@ key_of_line c line = text_key c (utf8_text line)
 -- the order of lines: that of their texts, and then of their bytes where that is asked for, in a direction
 abbrev pub line_order : Collation → LineOrder → List ℕ → List ℕ → Ordering
 line_order c o = ordered_as o (name_order c) list_order
-
--- lines with their keys are these lines in order, those of which neither comes first as they stood
-pub record AreSorted (c : Collation) (o : LineOrder) (lines : List (List ℕ)) (list : List KeyedLine) : Type 0 where
-  pub keyed : AllByRecursion (λ l. l.key.now ≡ key_of_line c l.line.now) list
-  pub sorted : IsStablySorted (line_order c o) lines (map line_bytes list)

@@ -1,16 +1,14 @@
 //! Lines, sorted by a collator.
 
 ghost use Rattle.std.specs.Prelude.{◌≡◌, ◌++◌, IfOk, OnOk, map};
-ghost use Rattle.icu_checks.specs.WellFormedTables.{IsWellFormedTables};
-ghost use Rattle.icu_collator.specs.Collators.{collation_borrowed, collation_kept, tables_borrowed};
+ghost use Rattle.icu_collator.specs.Collators.{collation_borrowed, collation_kept};
 ghost use Rattle.keyed_lines.specs.KeyBuffers.{keys_in};
 ghost use Rattle.keyed_lines.specs.ShownLines.{shown_lines};
-ghost use Rattle.line_commands.specs.LineOrders.{AreSorted, key_of_line};
+ghost use Rattle.line_commands.specs.LineOrders.{key_of_line};
 ghost use Rattle.line_commands.specs.SortedInputs.{SortsInput};
 
 use icu_collator::{Collator, CollatorBorrowed};
-use keyed_lines::written_lines::written_lines;
-use keyed_lines::{KeyedLine, LineKeys, LineOrder, SortRequest, lines_by, sort_keyed_lines};
+use keyed_lines::{LineKeys, SortRequest, lines_by, text_by_keys};
 use std::alloc::{AllocError, Global};
 
 /// Writes the sort key of a line, in UTF-8 that may be damaged, behind other bytes.
@@ -51,24 +49,6 @@ fn keys_of_lines(
     Ok(keys)
 }
 
-/// Lines with their keys, sorted.
-fn sorted_lines<'a>(
-    collator: &CollatorBorrowed<'_>,
-    keys: &'a LineKeys,
-    lines: &[&'a [u8]],
-    order: LineOrder,
-) -> Result<Vec<KeyedLine<'a>>, AllocError>
-    requires well_formed { IsWellFormedTables (tables_borrowed collator.now) }
-    requires keyed { keys_in keys.now
-        ≡ map (key_of_line (collation_borrowed collator.now)) (shown_lines lines.now) }
-    ensures { IfOk result (λ sorted. AreSorted (collation_borrowed collator.now) order
-        (shown_lines lines.now) sorted.items) }
-{
-    let mut keyed = keys.with_lines(lines)?;
-    sort_keyed_lines(&mut keyed, order)?;
-    Ok(keyed)
-}
-
 /// The lines of a text in order, as they are to be printed.
 ///
 /// # Errors
@@ -87,7 +67,6 @@ pub fn sorted_text(
     collator.has_well_formed_tables();
     let lines = lines_by(alloc, bytes, request.separator)?;
     let keys = keys_of_lines(alloc, &collator, lines.as_slice())?;
-    let sorted = sorted_lines(&collator, &keys, lines.as_slice(), request.order)?;
-    let text = written_lines(alloc, sorted.as_slice(), request)?;
+    let text = text_by_keys(alloc, &keys, lines.as_slice(), request)?;
     Ok(text)
 }

@@ -1,14 +1,14 @@
 -- The records behind the header are sorted by their keys, and those that are asked for are written behind it.
 use Rattle.std.proofs.lemmas.Result.{err_from_is_err_and}
-use Rattle.std.proofs.Common.{◌≡◌, ◌++◌, ℕ, List, map, ap, ◌∙◌, subst}
+use Rattle.std.proofs.Common.{◌≡◌, ◌++◌, ℕ, Bool, List, map, ap, ◌∙◌, subst}
 use Rattle.std.specs.List.{AllByRecursion}
+use Rattle.std.specs.Ordering.{is_eq}
 use Rattle.icu_collator.specs.Collators.{collation_kept}
 use Rattle.icu_index.specs.Listings.{IsStablySorted}
 use Rattle.icu_levels.specs.ListOrder.{list_order}
-use Rattle.keyed_lines.proofs.FirstLineLemmas.{printed_as}
-use Rattle.keyed_lines.specs.FirstLines.{have_one_key, printed}
+use Rattle.keyed_lines.specs.FirstLines.{printed}
 use Rattle.keyed_lines.specs.InputLines.{ended_lines}
-use Rattle.keyed_lines.specs.KeyBuffers.{keys_in, line_bytes}
+use Rattle.keyed_lines.specs.KeyBuffers.{keys_in}
 use Rattle.keyed_lines.specs.KeyedOrders.{ordered_as}
 use Rattle.keyed_lines.specs.ShownLines.{shown_lines}
 use Rattle.csv_sorts.proofs.ErrorLemmas.{csv_lacks, csv_open}
@@ -25,8 +25,6 @@ returns-clause-sorts c =
     let columns = r.columns.now in
     let key : List ℕ → List ℕ = columns_key collation d columns in
     let records = shown_lines c.in_ok-records.records.items in
-    let sorted = c.in_ok-sorted.sorted.items in
-    let lines = map line_bytes sorted in
     let header = c.header_of-header.result.now in
     let body = c.body_of-body.result.now in
     let head : shown_lines header ≡ header_of r.has_header records =
@@ -37,24 +35,27 @@ returns-clause-sorts c =
     ∙ (shown_body r.has_header c.as_slice-2.result.now ∙ ap (λ rs. body_of r.has_header (shown_lines rs)) c.as_slice-2.ensures.value) in
     let keyed : keys_in c.in_ok-keys.keys ≡ map key (shown_lines body) =
     c.in_ok-keys.ensures.keys ∙ ap (λ k. map (columns_key k d columns) (shown_lines body)) c.as_borrowed.ensures in
-    let are = c.in_ok-sorted.ensures key keyed in
-    let ends = ended_lines 10 (map line_bytes (printed c.written_as-written.result.repeats have_one_key c.as_slice-3.result.now)) in
+    let w = c.written_as.result in
+    let by_key = c.in_ok-sorted.ensures key keyed in
+    let same : List ℕ → List ℕ → Bool = (λ x y. is_eq (list_order (key x) (key y))) in
     let last =
-    ap (λ p. ended_lines 10 (map line_bytes (printed p have_one_key c.as_slice-3.result.now))) c.written_as-written.ensures.repeats
-    ∙ (ap (λ ls. ended_lines 10 (map line_bytes (printed r.repeats have_one_key ls))) c.as_slice-3.ensures.value
-    ∙ ap (ended_lines 10) (printed_as key r.repeats sorted are.keyed)) in
+    c.as_slice-3.ensures.value
+    ∙ (by_key.written
+    ∙ (ap (λ s. ended_lines s (printed w.repeats same by_key.sorted)) c.written_as.ensures.separator
+    ∙ ap (λ p. ended_lines 10 (printed p same by_key.sorted)) c.written_as.ensures.repeats)) in
     record {
       records = records;
       cut = c.in_ok-records.ensures.cut;
       complete = subst (λ rs. AllByRecursion (HasColumns d columns) rs) behind c.in_ok-keys.ensures.has;
-      lines = lines;
+      lines = by_key.sorted;
       sorted =
-          subst (λ ls. IsStablySorted (columns_order collation d columns r.direction) ls lines) behind
-          (subst (λ o. IsStablySorted (ordered_as o (λ x y. list_order (key x) (key y)) list_order) (shown_lines body) lines) c.written_as-written.ensures.order are.sorted);
+          subst (λ ls. IsStablySorted (columns_order collation d columns r.direction) ls by_key.sorted) behind
+          (subst (λ o. IsStablySorted (ordered_as o (λ x y. list_order (key x) (key y)) list_order) (shown_lines body) by_key.sorted) c.written_as.ensures.order
+          (record { permutation = by_key.permutation; ascends = by_key.ascends; stable = by_key.stable }));
       written =
           c.in_ok-output.ensures
-          ∙ (ap (λ (m : List ℕ). m ++ (ended_lines 10 (shown_lines header) ++ ends)) c.front_mark.ensures
-          ∙ (ap (λ hs. front_mark c.args.text.now ++ (ended_lines 10 hs ++ ends)) head
+          ∙ (ap (λ (m : List ℕ). m ++ (ended_lines 10 (shown_lines header) ++ c.as_slice-3.result.now)) c.front_mark.ensures
+          ∙ (ap (λ hs. front_mark c.args.text.now ++ (ended_lines 10 hs ++ c.as_slice-3.result.now)) head
           ∙ ap (λ (e : List ℕ). front_mark c.args.text.now ++ (ended_lines 10 (header_of r.has_header records) ++ e)) last));
     }
 

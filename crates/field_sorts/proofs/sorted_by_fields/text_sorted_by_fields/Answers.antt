@@ -1,11 +1,9 @@
--- The lines that were cut are sorted, and those that are asked for are written.
+-- The lines that were cut are sorted by their keys.
 use Rattle.std.proofs.Common.{◌≡◌, ℕ, List, map, ap, ◌∙◌, subst, sym}
 use Rattle.icu_collator.specs.Collators.{collation_kept}
 use Rattle.icu_index.specs.Listings.{IsStablySorted}
-use Rattle.keyed_lines.proofs.FirstLineLemmas.{printed_as}
-use Rattle.keyed_lines.specs.FirstLines.{have_one_key, printed}
-use Rattle.keyed_lines.specs.InputLines.{ended_lines, lines_by}
-use Rattle.keyed_lines.specs.KeyBuffers.{keys_in, line_bytes}
+use Rattle.keyed_lines.specs.InputLines.{lines_by}
+use Rattle.keyed_lines.specs.KeyBuffers.{keys_in}
 use Rattle.keyed_lines.specs.ShownLines.{shown_lines}
 use Rattle.field_sorts.specs.FieldOrders.{fields_order, line_key}
 use Rattle.field_sorts.proofs.sorted_by_fields.text_sorted_by_fields.Goals as goal
@@ -17,19 +15,16 @@ returns c =
     let sorts = c.args.fields.sorts.now in
     let key : List ℕ → List ℕ = line_key collation ends sorts in
     let r = c.args.request in
-    let sorted = c.in_ok-sorted.sorted.items in
-    let lines = map line_bytes sorted in
     let cut : shown_lines c.as_slice-2.result.now ≡ lines_by r.separator c.args.bytes.now = ap shown_lines c.as_slice-2.ensures.value ∙ c.in_ok-lines.ensures in
     let keyed : keys_in c.in_ok-keys.keys ≡ map key (shown_lines c.as_slice-2.result.now) =
     c.in_ok-keys.ensures
     ∙ (ap (λ k. map (line_key k ends sorts) (shown_lines c.as_slice.result.now)) c.as_borrowed.ensures
     ∙ ap (λ ls. map key (shown_lines ls)) (c.as_slice.ensures.value ∙ sym c.as_slice-2.ensures.value)) in
-    let are = c.in_ok-sorted.ensures key keyed in
+    let by_key = c.in_ok-text.ensures key keyed in
     record {
-      lines = lines;
-      sorted = subst (λ ls. IsStablySorted (fields_order collation ends sorts r.order) ls lines) cut are.sorted;
-      written =
-          c.in_ok-text.ensures
-          ∙ (ap (λ ls. ended_lines r.separator (map line_bytes (printed r.repeats have_one_key ls))) c.as_slice-3.ensures.value
-          ∙ ap (ended_lines r.separator) (printed_as key r.repeats sorted are.keyed));
+      lines = by_key.sorted;
+      sorted =
+          subst (λ ls. IsStablySorted (fields_order collation ends sorts r.order) ls by_key.sorted) cut
+          (record { permutation = by_key.permutation; ascends = by_key.ascends; stable = by_key.stable });
+      written = by_key.written;
     }

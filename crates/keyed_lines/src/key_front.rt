@@ -1,0 +1,36 @@
+//! The number that a key begins with.
+
+ghost use Rattle.std.specs.Prelude.{◌≡◌, slice_index};
+ghost use Rattle.icu_beginnings.specs.KeyBeginnings.{AreBytes};
+ghost use Rattle.icu_keyed_names.specs.inner.NameEntries.{prefix_of};
+
+/// The byte at an index, or zero behind the last.
+fn byte_or_zero(key: &[u8], index: usize) -> u8
+    ensures { result ≡ slice_index key.now index }
+{
+    match key.get(index) {
+        Some(byte) => *byte,
+        None => 0,
+    }
+}
+
+/// The first eight bytes of a key as a number, the first one highest; a key that is shorter is filled up with zeros.
+pub(crate) fn key_front(key: &[u8]) -> u64
+    ensures front { result ≡ prefix_of key.now }
+    ensures bytes { AreBytes key.now }
+{
+    let bytes = match key {
+        [a, b, c, d, e, f, g, h, ..] => [*a, *b, *c, *d, *e, *f, *g, *h],
+        _ => [
+            byte_or_zero(key, 0),
+            byte_or_zero(key, 1),
+            byte_or_zero(key, 2),
+            byte_or_zero(key, 3),
+            byte_or_zero(key, 4),
+            byte_or_zero(key, 5),
+            byte_or_zero(key, 6),
+            byte_or_zero(key, 7),
+        ],
+    };
+    u64::from_be_bytes(bytes)
+}

@@ -1,0 +1,35 @@
+//! Lines in the order of their keys.
+
+ghost use Rattle.std.specs.Prelude.{◌≡◌, ℕ, List, IfOk, map};
+ghost use Rattle.keyed_lines.specs.KeyBuffers.{keys_in};
+ghost use Rattle.keyed_lines.specs.ShownLines.{shown_lines};
+ghost use Rattle.keyed_lines.specs.SortedTexts.{SortsByKey};
+
+use crate::keyed_lines::KeyedLines;
+use crate::line_keys::LineKeys;
+use crate::sort_lines::sorted_places;
+use crate::sort_request::SortRequest;
+use crate::written_lines::written_lines;
+use std::alloc::{AllocError, Global};
+
+/// The lines that a request asks for, in its order, each with a separator behind it. The first key is that of the first
+/// line; lines without a key don't count. Lines of which neither comes first stand as they stood. Those that are in
+/// order, or parts of them that are, take fewer comparisons.
+///
+/// # Errors
+///
+/// Fails only where an allocation does.
+pub fn text_by_keys(
+    alloc: Global,
+    keys: &LineKeys,
+    lines: &[&[u8]],
+    request: SortRequest,
+) -> Result<Vec<u8>, AllocError>
+    ensures { (key : List ℕ → List ℕ) → keys_in keys.now ≡ map key (shown_lines lines.now)
+        → IfOk result (λ text. SortsByKey key request (shown_lines lines.now) text.items) }
+{
+    let keyed = KeyedLines { keys, lines };
+    let places = sorted_places(alloc, &keyed, request.order)?;
+    let text = written_lines(alloc, &keyed, places.as_slice(), request)?;
+    Ok(text)
+}

@@ -1,0 +1,86 @@
+//! Places of lines, and their order.
+
+ghost use Rattle.std.specs.Prelude.{◌≡◌, OnErr, OnOk};
+ghost use Rattle.std.specs.List.Sorted.{IsPermutation, IsSorted, IsStable};
+ghost use Rattle.keyed_lines.specs.KeyedOrders.{with_ties};
+ghost use Rattle.keyed_lines.specs.inner.PlaceOrders.{bytes_of_places, keys_of_places, place_order};
+
+use crate::keyed_lines::KeyedLines;
+use crate::line_order::{Direction, LineOrder, Ties};
+use std::alloc::AllocError;
+use std::cmp::Ordering;
+
+/// Where a line stands among lines with keys, and the number that its key begins with.
+#[derive(Debug, Clone, Copy)]
+pub(crate) struct LinePlace {
+    pub(crate) front: u64,
+    pub(crate) index: usize,
+}
+
+/// The order of two places of which the keys begin alike.
+#[inline(never)]
+fn behind_fronts(keyed: &KeyedLines<'_>, ties: Ties, one: &LinePlace, other: &LinePlace) -> Ordering
+    requires { one.now.front ≡ other.now.front }
+    ensures { result ≡ with_ties ties (keys_of_places keyed.now) (bytes_of_places keyed.now)
+        one.now other.now }
+{
+    let by_keys = keyed.keys.key(one.index).cmp(keyed.keys.key(other.index));
+    if by_keys.is_ne() {
+        return by_keys;
+    }
+    match ties {
+        Ties::AsTheyCame => Ordering::Equal,
+        Ties::ByBytes => keyed.line(one.index).cmp(keyed.line(other.index)),
+    }
+}
+
+/// The order of two places by their keys, and then by the bytes of their lines where that is asked for.
+#[inline(always)]
+fn tied_order(keyed: &KeyedLines<'_>, ties: Ties, one: &LinePlace, other: &LinePlace) -> Ordering
+    ensures { result ≡ with_ties ties (keys_of_places keyed.now) (bytes_of_places keyed.now)
+        one.now other.now }
+{
+    if one.front == other.front {
+        behind_fronts(keyed, ties, one, other)
+    } else {
+        one.front.cmp(&other.front)
+    }
+}
+
+/// The order of two places: Less where the first comes before the second.
+#[inline(always)]
+fn compare_places(
+    keyed: &KeyedLines<'_>,
+    order: LineOrder,
+    one: &LinePlace,
+    other: &LinePlace,
+) -> Ordering
+    ensures { result ≡ place_order keyed.now order one.now other.now }
+{
+    match order.direction {
+        Direction::Ascending => tied_order(keyed, order.ties, one, other),
+        Direction::Descending => tied_order(keyed, order.ties, other, one),
+    }
+}
+
+/// Sorts places, stably.
+///
+/// # Errors
+///
+/// Fails only where an allocation does, and leaves the places as they were.
+pub(crate) fn sort_places(
+    places: &mut Vec<LinePlace>,
+    keyed: &KeyedLines<'_>,
+    order: LineOrder,
+) -> Result<(), AllocError>
+    ensures permutation { IsPermutation places.old.items places.new.items }
+    ensures sorted { OnOk result (IsSorted (place_order keyed.now order) places.new.items) }
+    ensures stable { IsStable (place_order keyed.now order) places.old.items places.new.items }
+    ensures err { OnErr result (places.new.items ≡ places.old.items) }
+{
+    places.sort_by(
+        |one, other| -> Ordering
+            ensures { result ≡ place_order keyed.entry.now order one.now other.now }
+        { compare_places(keyed, order, one, other) },
+    )
+}
