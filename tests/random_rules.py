@@ -1,11 +1,12 @@
 #!/usr/bin/env python3
 """Makes random small lists of rules, and compares the order of texts by them with that of ICU4C, over the root of CLDR.
 
-    tests/random_rules.py [--sets N] [--seed N] [--root FILE] [--folder FOLDER]
+    tests/random_rules.py [--sets N] [--seed N] [--root FILE] [--folder FOLDER] [--program FILE]
 
 It is no part of the gate. It wants g++, libicu-dev and pkg-config. The library is built as it stands, with no proof, in a copy of the
-crates, and then takes some seconds for each list; both programs print sort keys (tests/rule_keys), whose order and level of difference are compared for all pairs of the texts
-of a set. ICU4C is asked for keys, since the order of its comparisons isn't always theirs. It prints how many sets were compared, how
+crates, and then takes some seconds for each list; with --program it is asked by a program of tests/rule_keys that was built before, which takes a
+fortieth of a second for each. Both programs print sort keys (tests/rule_keys), whose order and level of difference are compared for all pairs of the texts
+of a set. First the library is asked for the rows of tests/rule_keys/rows.txt, whose levels are ICU4C's. ICU4C is asked for keys, since the order of its comparisons isn't always theirs. It prints how many sets were compared, how
 many were refused by both, by ICU4C alone, and by the library alone with the reasons, and each pair that is ordered otherwise. Status
 1: some are, or ICU4C alone refuses some.
 """
@@ -14,6 +15,7 @@ import collections
 import itertools
 import os
 import random
+import re
 import shutil
 import subprocess
 import sys
@@ -38,6 +40,7 @@ SETTINGS = (
 )
 RELATIONS = ("<", "<<", "<<<", "<<<<", "=")
 CHANCES = (8, 6, 6, 1, 1)
+SIGNS = ("=", "<", "<<", "<<<", "<<<<")
 TEXTS = 12
 
 
@@ -125,9 +128,10 @@ def levels(key):
 
 
 def without_case(key):
-    """The levels of a key of the library but the case level, for which ICU4C writes nothing where it is off."""
-    primary, secondary, _, *others = levels(key)
-    return [primary, secondary, *others]
+    """The levels of a key of the library but the case level, for which ICU4C writes nothing where it is off, and what is empty between
+    the separators that close the tertiary level and open the quaternary one."""
+    primary, secondary, _, tertiary, _, *others = levels(key)
+    return [primary, secondary, tertiary, *others]
 
 
 def unlike_pairs(texts, ours, peers):
@@ -177,6 +181,48 @@ def keys_here(crate, root, lines, seconds):
     return answers
 
 
+def keys_of_program(program, folder, root, lines):
+    """What a program prints that was built before."""
+    target = os.path.join(folder, "FractionalUCA.txt")
+    if not os.path.exists(target):
+        shutil.copy(root, target)
+    asked = "".join(f"{line}\n" for line in lines)
+    done = subprocess.run([os.path.realpath(program)], cwd=folder, input=asked, capture_output=True, text=True, check=False)
+    answers = done.stdout.splitlines()
+    if len(answers) != len(lines):
+        sys.exit(f"random_rules: {len(answers)} answers to {len(lines)} lists\n{done.stderr[-2000:]}")
+    return answers
+
+
+def unescaped(text):
+    """A text of a row."""
+    return re.sub(r"\\u([0-9A-F]{4})", lambda it: chr(int(it[1], 16)), text)
+
+
+def rows():
+    """The rows of small rules: the rules, the texts, and the levels between them."""
+    with open(os.path.join(HERE, NAME, "rows.txt"), encoding="utf-8") as it:
+        for line in it:
+            if " => " not in line or line.startswith("# "):
+                continue
+            rules, order = line.rstrip("\n").split(" => ")
+            words = order.split(" ")
+            yield rules.replace("\\n", "\n"), [unescaped(word) for word in words[::2]], [SIGNS.index(word) for word in words[1::2]]
+
+
+def wrong_rows(asked, answers):
+    """Prints the rows that have another order. Returns how many have."""
+    wrong = 0
+    for (rules, texts, wanted), answer in zip(asked, answers):
+        keys = [without_case(key) for key in answer.split("\t")[1:]] if answer.startswith("ok") else []
+        found = [-difference(one, other) for one, other in itertools.pairwise(keys)]
+        if found != wanted:
+            wrong += 1
+            print(f"row: {rules}: {texts}: {found or answer}, not {wanted}")
+    print(f"{len(asked)} rows, {wrong} wrong")
+    return wrong
+
+
 def keys_there(folder, lines):
     """What ICU4C prints."""
     program = os.path.join(folder, "icu_rule_keys")
@@ -216,13 +262,20 @@ def main():
     words.add_argument("--root", default=ROOT)
     words.add_argument("--folder", default=os.path.join(tempfile.gettempdir(), "random-rules"))
     words.add_argument("--seconds", type=int, default=3600)
+    words.add_argument("--program")
     chosen = words.parse_args()
     os.makedirs(chosen.folder, exist_ok=True)
     maker = Maker(chosen.seed)
     lines = [maker.line() for _ in range(chosen.sets)]
+    small = [row for row in rows() if "\n" not in row[0]]
+    asked = ["\t".join([rules, *texts]) for rules, texts, _ in small] + lines
     peers = keys_there(chosen.folder, lines)
-    ours = keys_here(copied(chosen.folder), chosen.root, lines, chosen.seconds)
-    sys.exit(0 if compare(lines, ours, peers) else 1)
+    if chosen.program:
+        ours = keys_of_program(chosen.program, chosen.folder, chosen.root, asked)
+    else:
+        ours = keys_here(copied(chosen.folder), chosen.root, asked, chosen.seconds)
+    wrong = wrong_rows(small, ours)
+    sys.exit(0 if compare(lines, ours[len(small):], peers) and not wrong else 1)
 
 
 if __name__ == "__main__":

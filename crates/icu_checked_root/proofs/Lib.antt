@@ -1,6 +1,6 @@
 mod KeyPlaceLemmas
 mod WindowLemmas
 mod KeyCollectionLemmas
-mod RootEntryLemmas
+pub mod RootEntryLemmas
 mod RootWeightLemmas
 mod LevelListLemmas

@@ -262,14 +262,16 @@ pub diacritic_mappings : (tables : Tables) (c secondary : ℕ) → diacritic_of 
 unfolding root_mappings_of
 diacritic_mappings tables c secondary e = rw (e, root_mappings_of) refl
 
-abbrev pub alone_diacritic : ℕ → SymbolicMapping
-alone_diacritic secondary = record { prefix = []; suffix = []; elements = of_root (of_secondary secondary) ∷ [] }
+-- the mapping of a character alone that gives these elements
+abbrev pub plain_mapping : List SymbolicElement → SymbolicMapping
+plain_mapping elements = record { prefix = []; suffix = []; elements = elements }
 
-pub diacritic_behind : (secondary : ℕ) (before : List ℕ)
-    → mappings_behind (alone_diacritic secondary ∷ []) (beginnings before) ≡ alone_diacritic secondary ∷ []
-diacritic_behind secondary before =
-    behind_longest (alone_diacritic secondary ∷ []) before 0 (omega arith)
-    (λ i h k. own_none [] (take i before) (alone_diacritic secondary ∷ []) (refl, tt) (something_taken i before h k)) refl
+-- a character that has no other is mapped so whatever stands before it
+pub plain_behind : (elements : List SymbolicElement) (before : List ℕ)
+    → mappings_behind (plain_mapping elements ∷ []) (beginnings before) ≡ plain_mapping elements ∷ []
+plain_behind elements before =
+    behind_longest (plain_mapping elements ∷ []) before 0 (omega arith)
+    (λ i h k. own_none [] (take i before) (plain_mapping elements ∷ []) (refl, tt) (something_taken i before h k)) refl
 
 roots_say : (number : SymbolicElement → Element) (tables : Tables) → tables.tailoring ≡ None
     → HasDistinctMappings tables.root → GivesBackElements number tables.root
@@ -284,7 +286,7 @@ roots_say number tables none d g = record {
     elements = of_root (of_secondary secondary) ∷ [];
     alone = λ before.
         ap (λ ms. mappings_behind (map mapping_of_root ms) (beginnings before)) (diacritic_mappings tables c secondary e)
-        ∙ diacritic_behind secondary before;
+        ∙ plain_behind (of_root (of_secondary secondary) ∷ []) before;
     weights = ap (λ x. weighted (x ∷ [])) (g.diacritics secondary);
   };
 }

@@ -414,6 +414,35 @@ impl<'r, R: RootWeights + RootMappings> SymbolicTailoring<'r, R> {
         }
     }
 
+    /// What statements of rules say, one after another.
+    ///
+    /// An error has the place of the first statement that is refused, and why it is.
+    pub fn of_statements(
+        alloc: Global,
+        root: &'r R,
+        statements: &'r [PlacedStatement],
+    ) -> Result<SymbolicTailoring<'r, R>, TailoringError>
+        ensures says { IfOk result (λ t. state_in R.mappings_of t
+            ≡ tailoring_of (root_in R.root R.mappings_of root.now)
+            (rules_of statements.now)) }
+        ensures sound { IfOk result (λ _.
+            let root = root_in R.root R.mappings_of root.now in
+            first_error root (first_state root) statements.now ≡ None) }
+        ensures err { IfErr result (
+            let root = root_in R.root R.mappings_of root.now in
+            IsError (first_error root (first_state root) statements.now)) }
+        ensures touched { IfOk result (λ t.
+            HasTouched root.now (rules_of statements.now) (kept_mappings t)) }
+    {
+        let mut tailoring = SymbolicTailoring::new(alloc, root);
+        for placed in statements {
+            if let Err(error) = tailoring.read_statement(alloc, root, &placed.statement) {
+                return Err(error.at(placed.place, placed.import));
+            }
+        }
+        Ok(tailoring)
+    }
+
     /// What rules say.
     ///
     /// An error has the place of the first statement that is refused, and why it is.
@@ -434,13 +463,7 @@ impl<'r, R: RootWeights + RootMappings> SymbolicTailoring<'r, R> {
         ensures touched { IfOk result (λ t.
             HasTouched root.now (rules_of rules.now.statements.items) (kept_mappings t)) }
     {
-        let mut tailoring = SymbolicTailoring::new(alloc, root);
-        for placed in &rules.statements {
-            if let Err(error) = tailoring.read_statement(alloc, root, &placed.statement) {
-                return Err(error.at(placed.place, placed.import));
-            }
-        }
-        Ok(tailoring)
+        SymbolicTailoring::of_statements(alloc, root, rules.statements.as_slice())
     }
 
     /// Whether more tailored weights were made than there were before this one.
@@ -448,6 +471,13 @@ impl<'r, R: RootWeights + RootMappings> SymbolicTailoring<'r, R> {
         ensures { result ≡ nat_lt weight (state_in R.mappings_of self.now).made }
     {
         weight < self.rule.tree().made()
+    }
+
+    /// The elements of the last reset or relation.
+    pub fn elements(&self) -> &[SymbolicElement]
+        ensures { result.now ≡ (state_in R.mappings_of self.now).elements }
+    {
+        self.rule.elements()
     }
 
     /// The order of weights.
@@ -459,8 +489,9 @@ impl<'r, R: RootWeights + RootMappings> SymbolicTailoring<'r, R> {
 
     /// The mappings of characters.
     pub fn mappings(&self) -> &Mappings<'r, R>
-        ensures { mappings_in R.mappings_of result.now
+        ensures says { mappings_in R.mappings_of result.now
             ≡ (state_in R.mappings_of self.now).mappings }
+        ensures kept { result.now ≡ kept_mappings self.now }
     {
         &self.mappings
     }

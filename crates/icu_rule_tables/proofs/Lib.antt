@@ -1,3 +1,4 @@
 mod RuleSettingLemmas
 mod NoImportLemmas
 mod TailoringLemmas
+pub mod TailoredHalves

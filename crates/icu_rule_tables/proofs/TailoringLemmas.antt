@@ -17,6 +17,7 @@ use Rattle.icu_checked_root.specs.declared.checked_root.CheckedRoot.{CheckedRoot
 use Rattle.icu_tailoring_numbers.specs.declared.tailoring_numbers.TailoringNumbers.{TailoringNumbers}
 use Rattle.icu_symbolic_mappings.specs.declared.kept_mappings.Mappings.{Mappings}
 use Rattle.icu_tailored_entries.specs.TailoredJamo.{TailorsJamo, jamo_or, root_or}
+use Rattle.icu_tailored_entries.specs.TailoredDiacritics.{TailorsDiacritics}
 use Rattle.icu_tailored_entries.specs.declared.jamo_table.JamoVectors.{JamoVectors}
 use Rattle.icu_rule_tables.specs.declared.rule_tables_error.RuleTablesError.{RuleTablesError}
 
@@ -52,6 +53,16 @@ GivesJamo numbers kept own t =
 pub jamo_given : (numbers : TailoringNumbers) (kept : Mappings CheckedRoot) (own : Option OwnJamo) (at root : CheckedTables)
     → at ≡ root → GivesJamo numbers kept own at → GivesJamo numbers kept own root
 jamo_given numbers kept own at root same gives = subst (GivesJamo numbers kept own) same gives
+
+-- what tables give for marks
+pub diacritics_given : (numbers : TailoringNumbers) (kept : Mappings CheckedRoot) (at root : CheckedTables) (read made checked : List ℕ)
+    → at ≡ root → checked ≡ made → read ≡ (checked_tables at).tables.diacritics
+    → TailorsDiacritics mappings_beside numbers kept read made
+    → TailorsDiacritics mappings_beside numbers kept (checked_tables root).tables.diacritics checked
+diacritics_given numbers kept at root read made checked same is from gives =
+    subst (λ (own : List ℕ). TailorsDiacritics mappings_beside numbers kept (checked_tables root).tables.diacritics own) (sym is)
+    (subst (λ (before : List ℕ). TailorsDiacritics mappings_beside numbers kept before made)
+    (from ∙ ap (λ (t : CheckedTables). (checked_tables t).tables.diacritics) same) gives)
 
 -- what was made, if anything was, over a root and jamo that are these
 pub made_over : (numbers : TailoringNumbers) (kept : Mappings CheckedRoot) (over base : Data) (jamo base_jamo : List ℕ) (found made : Option JamoVectors)

@@ -14,12 +14,15 @@ use Rattle.icu_rules.specs.declared.statement.RuleSetting.{RuleSetting}
 use Rattle.icu_rules.specs.Statements.{SpellStatements}
 use Rattle.icu_tailoring.specs.Steps.{TailoringState, first_state}
 use Rattle.icu_symbolic_mappings.specs.KeptMappings.{mappings_in}
+use Rattle.icu_symbolic_mappings.specs.TouchedCharacters.{root_of}
 use Rattle.icu_symbolic_mappings.specs.declared.kept_mappings.Mappings.{Mappings}
 use Rattle.icu_tailored_entries.specs.GivenMappings.{TailorsCharacter}
 use Rattle.icu_tailored_entries.specs.TailoredJamo.{TailorsJamo}
+use Rattle.icu_tailored_entries.specs.TailoredDiacritics.{TailorsDiacritics}
 use Rattle.icu_tailoring_numbers.specs.declared.tailoring_numbers.TailoringNumbers.{TailoringNumbers}
 use Rattle.icu_rule_steps.specs.RuleFaults.{first_error}
 use Rattle.icu_checked_root.specs.declared.checked_root.CheckedRoot.{CheckedRoot}
+use Rattle.icu_checked_root.specs.RootEntries.{root_mappings_of}
 use Rattle.icu_checked_root.specs.StoredRoots.{stored_root, tables_beside}
 use Rattle.icu_rule_tables.specs.RuleReorderings.{IsReorderingOf}
 use Rattle.icu_rule_tables.specs.RuleSettings.{tailored_bits}
@@ -61,13 +64,15 @@ tailored_tables t = record {
   reordering = option_map owned_reordering t.reordering;
 }
 
--- The mappings of a state, as they are kept, by which a tailoring gives each character its entry, and a table of jamo,
--- with the root to whose lists it refers, each jamo.
-pub record GivesState (over : Tables) (numbers : TailoringNumbers) (state : TailoringState) (root : Data) (jamo : List ℕ) (own : Data) : Type 0 where
+-- The mappings of a state, as they are kept over this root, by which a tailoring gives each character its entry, a
+-- table of jamo, with the root to whose lists it refers, each jamo, and a table of diacritics each mark its weight.
+pub record GivesState (over : Tables) (numbers : TailoringNumbers) (state : TailoringState) (root : Data) (jamo : List ℕ) (own : Data) (diacritics : List ℕ) : Type 0 where
   pub kept : Mappings CheckedRoot
   pub same : mappings_in mappings_beside kept ≡ state.mappings
+  pub of_root : mappings_beside (root_of kept) ≡ root_mappings_of over
   pub gives : (c : ℕ) → c < code_point_count → TailorsCharacter mappings_beside numbers kept own c
   pub gives_jamo : TailorsJamo mappings_beside numbers kept over.root over.jamo root jamo
+  pub gives_diacritics : TailorsDiacritics mappings_beside numbers kept over.diacritics diacritics
 
 -- the tables of a root with a tailoring, and with entries of jamo, that give what a state says, by these numbers, with
 -- its settings, and with the reordering that it says
@@ -75,8 +80,8 @@ pub record HasTablesOf (over : CheckedRoot) (numbers : TailoringNumbers) (state 
   pub root : Data
   pub jamo : List ℕ
   pub own : Data
-  pub given : GivesState (checked_tables (tables_beside over)).tables numbers state root jamo own
   pub diacritics : List ℕ
+  pub given : GivesState (checked_tables (tables_beside over)).tables numbers state root jamo own diacritics
   pub reordering : Option Reordering
   pub reordered : IsReorderingOf over numbers state reordering
   pub are : tailored_tables t ≡ tables_by_rules (checked_tables (tables_beside over)) state.settings root jamo own diacritics reordering

@@ -87,6 +87,8 @@ fn lent_reordering(
 impl<'t> Tailoring<'t> {
     ghost use Rattle.icu_rule_tables.specs.RuleReorderings.{IsReorderingOf};
     ghost use Rattle.std.specs.Prelude.{chars};
+    ghost use Rattle.icu_rule_steps.specs.SymbolicTailorings.{kept_mappings};
+    ghost use Rattle.icu_symbolic_mappings.specs.TouchedCharacters.{root_of};
     ghost use Rattle.icu_rule_tables.specs.StatesByRules.{said_by};
     ghost use Rattle.icu_rule_tables.specs.Tailorings.{HasTablesOf, SaysRules, SaysText};
 
@@ -98,8 +100,9 @@ impl<'t> Tailoring<'t> {
         numbers: &TailoringNumbers,
         reordering: Option<OwnedReordering>,
     ) -> Result<Tailoring<'t>, RuleTablesError>
-        requires { IsReorderingOf root.now numbers.now (said_by said.now)
+        requires reordered { IsReorderingOf root.now numbers.now (said_by said.now)
             (option_map owned_reordering reordering) }
+        requires over { root_of (kept_mappings said.now) ≡ root.now }
         ensures ok { IfOk result (HasTablesOf root.now numbers.now (said_by said.now)) }
         ensures err { (statements : List PlacedStatement)
             → IfErr result (IsErrorOfRules (stored_root root.now) statements) }

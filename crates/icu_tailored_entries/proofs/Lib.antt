@@ -3,3 +3,4 @@ pub mod BegunSuffixLemmas
 pub mod NearestMappingLemmas
 pub mod TailoredCharacterLemmas
 pub mod JamoTableLemmas
+pub mod OwnDiacriticLemmas

@@ -1,3 +1,4 @@
 pub mod GivenMappings
 pub mod TailoredJamo
+pub mod TailoredDiacritics
 pub mod inner

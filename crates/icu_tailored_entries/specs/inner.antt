@@ -2,3 +2,4 @@
 pub mod MappingEntries
 pub mod TailoredSets
 pub mod RootLists
+pub mod OwnDiacritics

@@ -1,4 +1,9 @@
 //! The secondary weights of diacritics under a tailoring.
+ghost use Rattle.std.specs.Prelude.{◌≡◌, IfOk, IfSome};
+ghost use Rattle.icu_entries.specs.Elements.{of_secondary};
+ghost use Rattle.icu_symbolic_mappings.specs.StoredMappings.{symbolic_mappings};
+ghost use Rattle.icu_tailored_entries.specs.TailoredDiacritics.{HaveSecondaryAlone, TailorsDiacritics};
+ghost use Rattle.icu_tailored_entries.specs.inner.OwnDiacritics.{IsOwnSecondary};
 
 use crate::error::TailoredEntriesError;
 use crate::jamo_table::own_mappings;
@@ -36,7 +41,9 @@ fn stands_before(touched: &[TouchedCharacter<'_>], c: char) -> bool {
 }
 
 /// The secondary weight of an element that has nothing else of its own.
-fn lone_secondary(element: CollationElement) -> Option<u16> {
+fn lone_secondary(element: CollationElement) -> Option<u16>
+    ensures { IfSome result (λ s. element ≡ of_secondary s) }
+{
     if element.primary() == 0 && element.secondary() != 0 && element.lower() == COMMON {
         Some(element.secondary())
     } else {
@@ -45,7 +52,9 @@ fn lone_secondary(element: CollationElement) -> Option<u16> {
 }
 
 /// The secondary weight of a character that has nothing else by these mappings.
-fn secondary_by(numbers: &TailoringNumbers, own: &[SymbolicMapping]) -> Option<u16> {
+fn secondary_by(numbers: &TailoringNumbers, own: &[SymbolicMapping]) -> Option<u16>
+    ensures { IfSome result (HaveSecondaryAlone numbers.now (symbolic_mappings own.now)) }
+{
     match own {
         [mapping] => match mapping.elements.as_slice() {
             [element] => lone_secondary(numbers.element(*element)?),
@@ -61,7 +70,9 @@ fn tailored_secondary(
     numbers: &TailoringNumbers,
     c: char,
     secondary: u16,
-) -> Option<u16> {
+) -> Option<u16>
+    ensures { IfSome result (IsOwnSecondary touched.now numbers.now c secondary) }
+{
     if stands_before(touched, c) {
         return None;
     }
@@ -79,7 +90,10 @@ pub fn tailored_diacritics<R: RootMappings>(
     root: &[u16],
     numbers: &TailoringNumbers,
     mappings: &Mappings<'_, R>,
-) -> Result<Vec<u16>, TailoredEntriesError> {
+) -> Result<Vec<u16>, TailoredEntriesError>
+    ensures { IfOk result (λ own. TailorsDiacritics R.mappings_of numbers.now mappings.now
+        root.now own.items) }
+{
     let touched = mappings.touched_characters(alloc)?;
     let mut found = Vec::new(alloc);
     let mut code = FIRST;

@@ -4,4 +4,6 @@ pub mod SaidMappingLemmas
 pub mod AloneMappings
 pub mod RootHalves
 pub mod UntouchedMappings
+pub mod GrownRoots
+pub mod MarkedWeights
 pub mod TailoredTextLemmas

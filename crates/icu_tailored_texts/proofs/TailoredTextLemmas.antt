@@ -26,6 +26,8 @@ use Rattle.icu_mapped_texts.proofs.DistinctLemmas.{ascending_are_distinct}
 use Rattle.icu_mapped_texts.proofs.MappedTextLemmas.{some_read_by_mappings}
 use Rattle.icu_mapped_texts.proofs.RootTextLemmas.{diacritic_mappings, no_diacritic_mappings, says_own_mappings}
 use Rattle.icu_tailored_texts.specs.TailoredTexts.{AreLegible, IsScalarCode, is_scalar_code, TailorTables, TextsAreReadByTailorings}
+use Rattle.icu_tailored_texts.proofs.GrownRoots.{mappings_stay}
+use Rattle.icu_tailored_texts.proofs.MarkedWeights.{marks_alone}
 use Rattle.icu_tailored_texts.proofs.RootHalves.{halves_give_back}
 use Rattle.icu_tailored_texts.proofs.SaidMappingLemmas.{given_said, no_fallback}
 use Rattle.icu_tailored_texts.proofs.UntouchedMappings.{untouched_are_roots}
@@ -86,7 +88,7 @@ other_entry_is tables own c is j =
     ∙ ap (unlisted_entry tables c) is
 
 module _ {R : Type 0} (mappings_of : R → ℕ → List RootMapping) (t : TailoringNumbers) (m : Mappings R) (over : Tables) (own : Data) (tables : Tables)
-    (stays : RootElementsStay) (made : TailorTables mappings_of t m over own tables) (ok : AreLegible mappings_of t m over own tables) where
+    (stays : RootElementsStay) (made : TailorTables mappings_of t m over own tables) (ok : AreLegible mappings_of m over own tables) where
   abbrev Says : Data → ℕ → ℕ → Type 0
   Says d c e = SaysMappings (numbered_element t) d c e (mappings_in mappings_of m c)
 
@@ -108,13 +110,23 @@ module _ {R : Type 0} (mappings_of : R → ℕ → List RootMapping) (t : Tailor
           subst (λ (xs : List SymbolicMapping). SaysMappings (numbered_element t) tables.root c (root_entry over c) xs)
           (sym (root_are c char none ∙ ap (map mapping_of_root) are)) h
 
-      by_diacritic : (o : Option ℕ) → diacritic_of over c ≡ o → Says tables.root c (root_entry over c)
-      by_diacritic (Some s) is =
-          said (diacritic_mapping s ∷ []) (diacritic_mappings over c s is) (ok.root_diacritics c s char no_diacritic is)
-      by_diacritic None is =
-          said (entry_mappings tables.root c (root_entry over c)) (no_diacritic_mappings over c is ∙ sym (ok.kept c char))
+      by_entry : (ms : List RootMapping) → entry_mappings tables.root c (root_entry over c) ≡ ms
+          → SaysMappings (numbered_element t) tables.root c (root_entry over c) (map mapping_of_root ms)
+      by_entry ms are =
+          subst (λ (xs : List RootMapping). SaysMappings (numbered_element t) tables.root c (root_entry over c) (map mapping_of_root xs)) are
           (says_own_mappings (numbered_element t) tables.root (ascending_are_distinct tables.root ok.ascending_root)
           (halves_give_back stays t tables.root ok.halves) c (root_entry over c))
+
+      stay : entry_mappings tables.root c (root_entry over c) ≡ entry_mappings over.root c (root_entry over c)
+      stay = mappings_stay over.root tables.root c made.jamo.extends.lists (root_entry over c) (ok.rooted c char)
+
+      by_diacritic : (o : Option ℕ) → diacritic_of over c ≡ o → Says tables.root c (root_entry over c)
+      by_diacritic (Some s) is =
+          said (diacritic_mapping s ∷ []) (diacritic_mappings over c s is)
+          (by_entry (diacritic_mapping s ∷ []) (stay ∙ ok.plain c s char no_diacritic is))
+      by_diacritic None is =
+          said (entry_mappings over.root c (root_entry over c)) (no_diacritic_mappings over c is)
+          (by_entry (entry_mappings over.root c (root_entry over c)) stay)
 
   -- ---- a character with such mappings
 
@@ -168,7 +180,8 @@ module _ {R : Type 0} (mappings_of : R → ℕ → List RootMapping) (t : Tailor
   pub tables_say : SayMappingsOf is_scalar_code (numbered_element t) tables (mappings_in mappings_of m)
   tables_say = record {
     entries = λ c char no_diacritic. by_jamo c char no_diacritic (is_jamo c) refl;
-    diacritics = λ c secondary char is. ok.diacritics c secondary char is;
+    diacritics = λ c secondary char is.
+        marks_alone mappings_of t m over tables made.of_root made.diacritics stays c secondary (ok.alone c char) is;
   } where
     by_jamo : (c : ℕ) → IsScalarCode c → diacritic_of tables c ≡ None → (b : Bool) → is_jamo c ≡ b → SaysHomed c (entry_of tables c)
     by_jamo c char no_diacritic true j = subst (SaysHomed c) (sym (jamo_entry_is tables c j)) (jamo_says c char no_diacritic j)

@@ -8,10 +8,11 @@ use Rattle.icu_collation_data.specs.Data.{Data}
 use Rattle.icu_provider.specs.Tables.{Tables, diacritic_of}
 use Rattle.icu_checks.specs.WellFormedTables.{HasAscendingContexts}
 use Rattle.icu_elements.specs.TextElements.{non_numeric_reading, elements_of}
+use Rattle.icu_matches.specs.WellFormedEntries.{IsWellFormedFrom}
 use Rattle.icu_checked_root.specs.RootEntries.{diacritic_mapping, entry_mappings, root_entry, root_mappings_of}
 use Rattle.icu_tailoring.specs.Rules.{is_scalar}
 use Rattle.icu_tailoring.specs.TailoredRoots.{RootMapping}
-use Rattle.icu_tailoring.specs.TailoredMappings.{mapping_of_root, symbolic_elements}
+use Rattle.icu_tailoring.specs.TailoredMappings.{symbolic_elements}
 use Rattle.icu_tailoring_numbers.specs.NumberedElements.{numbered_element}
 use Rattle.icu_tailoring_numbers.specs.declared.tailoring_numbers.TailoringNumbers.{TailoringNumbers}
 use Rattle.icu_symbolic_mappings.specs.KeptMappings.{mappings_in}
@@ -19,7 +20,8 @@ use Rattle.icu_symbolic_mappings.specs.TouchedCharacters.{root_of}
 use Rattle.icu_symbolic_mappings.specs.declared.kept_mappings.Mappings.{Mappings}
 use Rattle.icu_tailored_entries.specs.GivenMappings.{TailorsCharacter}
 use Rattle.icu_tailored_entries.specs.TailoredJamo.{TailorsJamo}
-use Rattle.icu_mapped_texts.specs.MappedTexts.{IsMappedAlone, SaysMappings, weighted}
+use Rattle.icu_tailored_entries.specs.TailoredDiacritics.{TailorsDiacritics}
+use Rattle.icu_mapped_texts.specs.MappedTexts.{weighted}
 use Rattle.icu_tailored_texts.specs.SaidMappings.{HasMappingAlone}
 
 -- whether a number is a scalar value (Unicode Standard, "Unicode Encoding Forms")
@@ -37,25 +39,30 @@ pub record TailorTables {R : Type 0} (mappings_of : R → ℕ → List RootMappi
   pub tailoring : tables.tailoring ≡ Some own
   pub characters : (c : ℕ) → c < code_point_count → TailorsCharacter mappings_of t m own c
   pub jamo : TailorsJamo mappings_of t m over.root over.jamo tables.root tables.jamo
+  pub diacritics : TailorsDiacritics mappings_of t m over.diacritics tables.diacritics
 
--- What is asked of these tables: that contexts ascend, that elements have lower halves of 16 bits, that what was added
--- to the lists of the root changes no mapping of it, and that diacritics have by their table what their mappings are.
-pub record AreLegible {R : Type 0} (mappings_of : R → ℕ → List RootMapping) (t : TailoringNumbers) (m : Mappings R) (over : Tables) (own : Data) (tables : Tables) : Type 0 where
+-- A mark that the root's table of diacritics has, and this table hasn't, is mapped by its entry in the root as by the
+-- root's table.
+abbrev pub HasPlainDiacritics : Tables → Tables → Type 0
+HasPlainDiacritics over tables = (c secondary : ℕ) → IsScalarCode c → diacritic_of tables c ≡ None
+    → diacritic_of over c ≡ Some secondary
+    → entry_mappings over.root c (root_entry over c) ≡ diacritic_mapping secondary ∷ []
+
+-- What is asked of these tables: that contexts ascend, that elements have lower halves of 16 bits, that the root's
+-- entries refer to what is there, and that a mark which only the root's table of diacritics has is mapped so by its
+-- entry too.
+pub record AreLegible {R : Type 0} (mappings_of : R → ℕ → List RootMapping) (m : Mappings R) (over : Tables) (own : Data) (tables : Tables) : Type 0 where
   pub ascending : HasAscendingContexts own
   pub ascending_root : HasAscendingContexts tables.root
   pub halves : AllByRecursion (λ (x : Element). x.lower < 2 ^ 16) tables.root.elements
-  pub kept : (c : ℕ) → IsScalarCode c
-      → entry_mappings tables.root c (root_entry over c) ≡ entry_mappings over.root c (root_entry over c)
-  pub diacritics : (c secondary : ℕ) → IsScalarCode c → diacritic_of tables c ≡ Some secondary
-      → IsMappedAlone (numbered_element t) secondary (mappings_in mappings_of m c)
-  pub root_diacritics : (c secondary : ℕ) → IsScalarCode c → diacritic_of tables c ≡ None → diacritic_of over c ≡ Some secondary
-      → SaysMappings (numbered_element t) tables.root c (root_entry over c) (mapping_of_root (diacritic_mapping secondary) ∷ [])
+  pub rooted : (c : ℕ) → IsScalarCode c → IsWellFormedFrom over.root c (root_entry over c)
+  pub plain : HasPlainDiacritics over tables
   pub alone : (c : ℕ) → IsScalarCode c → HasMappingAlone (mappings_in mappings_of m c)
 
 -- by such tables a decomposed text has the elements that it has by the mappings, but for elements without weights
 abbrev pub TextsAreReadByTailorings : {R : Type 0} → (R → ℕ → List RootMapping) → Type 0
 TextsAreReadByTailorings {R} mappings_of = (t : TailoringNumbers) (m : Mappings R) (over : Tables) (own : Data) (tables : Tables)
-    → TailorTables mappings_of t m over own tables → AreLegible mappings_of t m over own tables
+    → TailorTables mappings_of t m over own tables → AreLegible mappings_of m over own tables
     → (text : List ℕ) → AllByRecursion IsScalarCode text
     → weighted (elements_of (non_numeric_reading tables) text)
     ≡ weighted (map (numbered_element t) (symbolic_elements (mappings_in mappings_of m) text))

@@ -43,7 +43,7 @@ const ORDERS: [(&str, &str); 17] = [
 ];
 
 /// The tables of Mini, checked.
-fn checked_mini(alloc: Global) -> Result<CheckedTables, Fail> {
+pub(crate) fn checked_mini(alloc: Global) -> Result<CheckedTables, Fail> {
     let mini = Mini::new(alloc)?;
     let provider = mini.provider();
     let set = load_tables(&provider, "", None)?;

@@ -4,6 +4,8 @@
 #[cfg(test)]
 mod checked_root_rows;
 #[cfg(test)]
+mod held_rows;
+#[cfg(test)]
 mod order_rows;
 #[cfg(test)]
 mod reordered_rows;

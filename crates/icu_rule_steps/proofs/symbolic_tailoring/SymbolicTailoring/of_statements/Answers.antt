@@ -8,13 +8,13 @@ use Rattle.icu_rule_steps.proofs.RuleLoopLemmas.{one_placed}
 use Rattle.icu_tailoring.specs.Rules.{rules_of, statement_rules}
 use Rattle.icu_symbolic_mappings.specs.TouchedCharacters.{is_related, suppressed_by}
 use Rattle.icu_rule_steps.proofs.TouchedRuleLemmas.{touched_more}
-use Rattle.icu_rule_steps.proofs.symbolic_tailoring.SymbolicTailoring.of_rules.Goals as goal
+use Rattle.icu_rule_steps.proofs.symbolic_tailoring.SymbolicTailoring.of_statements.Goals as goal
 
 pub loop-placed-preserved : goal.loop-placed-preserved
 loop-placed-preserved g c =
     let mappings_of = g.R.RootMappings.mappings_of in
     let root : Root = root_in g.R.RootWeights.root mappings_of c.args.root.now in
-    let placed : List PlacedStatement = c.deref-placed-items.result.now in
+    let placed : List PlacedStatement = c.args.statements.now in
     let i : ℕ = c.loop-placed.placed-index in
     let p : PlacedStatement = c.placed-item.result in
     let next : drop i placed ≡ p ∷ drop (i + 1) placed =

@@ -1,0 +1,4 @@
+mod SameElements
+pub mod RelatedLemmas
+mod PrefixErrors
+mod HeldStringLemmas

@@ -1,0 +1,2 @@
+pub mod HeldRelations
+pub mod inner

@@ -1,0 +1,2 @@
+mod RuleTextLemmas
+mod RelatedTextLemmas

@@ -1,0 +1,2 @@
+pub mod RuleTexts
+pub mod RelatedTexts
