@@ -1,17 +1,19 @@
 -- Primary weights of one byte that a reordering keeps apart.
-use Rattle.std.proofs.Common.{◌≡◌, ◌⊎◌, ℕ, ◌/◌, ◌<◌, ◌≤◌, Bool, true, false, ◌==◌, List, [], ◌∷◌, length, map, take, get_or, set, replicate, refl, sym, ap, ◌∙◌, arith, inl, inr}
-use Rattle.std.specs.Prelude.{slice_index_or}
+use Rattle.std.proofs.Common.{◌≡◌, ◌⊎◌, ℕ, ◌/◌, ◌<◌, ◌≤◌, Bool, true, false, ◌==◌, List, [], ◌∷◌, Option, Some, None, length, map, take, get_or, set, replicate, refl, sym, ap, ◌∙◌, arith, inl, inr}
+use Rattle.std.specs.Prelude.{slice_index_or, is_some}
+use Rattle.std.specs.Option.{option_map}
 use Rattle.std.specs.declared.cmp.Ordering.{Ordering}
 use Rattle.std.specs.declared.cmp.Ordering.TheVariants.{Less, Equal, Greater}
 use Rattle.std.specs.Ordering.{ordering_then}
-use Rattle.std.proofs.lemmas.Bool.{cases_eq, and_from, and_parts, and_right, eqb-true, false≢true}
+use Rattle.std.proofs.lemmas.Bool.{cases_eq, and_from, and_parts, and_right, eqb-true, false≢true, true≢false}
 use Rattle.std.proofs.lemmas.Grind.{common_steps}
 use Rattle.std.proofs.lemmas.List.{length-take, length-map, get_or-set_other}
 use Rattle.unicode_normalization.specs.Forms.{nfd}
 use Rattle.icu_levels.specs.ListOrder.{list_order}
 use Rattle.icu_levels.specs.Keys.{primaries_order}
 use Rattle.icu_levels.proofs.Order.{less_cases, tied_lists}
-use Rattle.icu_provider.specs.CollatorTables.{reorder}
+use Rattle.icu_provider.specs.Reorderings.{Reordering}
+use Rattle.icu_provider.specs.CollatorTables.{reorder, reorder_by}
 use Rattle.icu_weighting.specs.Collations.{Collation}
 use Rattle.icu_weighting.specs.Forms.{compression_of}
 use Rattle.icu_text_order.specs.TextOrder.{lists_by, text_order}
@@ -45,6 +47,19 @@ none_lone p = and_right (low p == 0) _ (unmarked 256 (p / 0x1000000))
 
 pub no_marks : (c : Collation) → AreApart c (replicate 256 false)
 no_marks c = λ p q one other differ. absurd (false≢true (sym (none_lone p) ∙ one))
+
+-- ---- all marks
+
+-- without a reordering weights are compared as they are
+pub all_apart : (c : Collation) → c.tables.reordering ≡ None → AreApart c (replicate 256 true)
+all_apart c none = λ p q one other differ same. differ (sym (as_it_is p) ∙ same ∙ as_it_is q)
+  where
+    as_it_is : (p : ℕ) → reorder c.tables p ≡ p
+    as_it_is p = ap (λ (o : Option Reordering). reorder_by o p) none
+
+pub apart_without : {A : Type 0} (f : A → Reordering) (o : Option A) (c : Collation) → is_some o ≡ false → option_map f o ≡ c.tables.reordering → AreApart c (replicate 256 true)
+apart_without f None c none is = all_apart c (sym is)
+apart_without f (Some x) c none is = absurd (true≢false none)
 
 -- ---- one mark
 

@@ -1,11 +1,11 @@
 -- What the first primary weights of a text tell.
-use Rattle.std.proofs.Common.{◌≡◌, ℕ, ◌+◌, ◌<◌, ◌≤◌, Bool, true, false, ◌&&◌, ◌||◌, ◌==◌, nat_le, nat_lt, List, [], ◌∷◌, ◌++◌, Option, Some, None, ◌%◌, if◌then◌else◌, length, map, drop, get_or, refl, sym, ap, ◌∙◌, subst, arith, inl, inr, length-append, append_assoc, append-nil}
+use Rattle.std.proofs.Common.{◌≡◌, ℕ, suc, ◌+◌, ◌<◌, ◌≤◌, Bool, true, false, ◌&&◌, ◌||◌, ◌==◌, nat_le, nat_lt, List, [], ◌∷◌, ◌++◌, Option, Some, None, ◌%◌, if◌then◌else◌, length, map, take, drop, get_or, refl, sym, ap, ◌∙◌, subst, arith, inl, inr, length-append, append_assoc, append-nil}
 use Rattle.std.specs.Prelude.{not, find, slice_index}
 use Rattle.std.specs.Ordering.{is_eq}
 use Rattle.std.specs.declared.cmp.Ordering.TheVariants.{Equal}
 use Rattle.std.proofs.lemmas.Bool.{cases_Bool, le-leb, lt-leb, lt-ltb, ne_eqb, or_right}
 use Rattle.std.proofs.lemmas.List.{get_or-map, get_or_append_left, length-map, map-append, take-append-drop}
-use Rattle.std.proofs.Math.Seq.{get_or-append_seam}
+use Rattle.std.proofs.Math.Seq.{get_or-append_seam, take-suc}
 use Rattle.unicode_normalization.specs.Forms.{nfd}
 use Rattle.icu_options.specs.declared.settings.AlternateHandling.{AlternateHandling}
 use Rattle.icu_options.specs.declared.settings.AlternateHandling.TheVariants.{NonIgnorable, Shifted, Blanked}
@@ -108,6 +108,12 @@ pub primaries_counted : (c : Collation) (text : List ℕ) → (lists_by c (nfd t
 unfolding lists_by
 primaries_counted c text = handled_counted c.settings.alternate_handling (last_variable_by c) false (elements_of (reading_by c) (nfd text))
 
+-- so many count
+pub counted_weights : (c : Collation) (text : List ℕ) (es : List Element) → es ≡ elements_of (reading_by c) (nfd text)
+    → length (counted_primaries (last_variable_by c) es) ≡ length (lists_by c (nfd text)).primaries
+counted_weights c text es is =
+    ap (λ (l : List Element). length (counted_primaries (last_variable_by c) l)) is ∙ sym (ap length (primaries_counted c text))
+
 -- ---- some elements, and one more
 
 pub counted-append : (last : ℕ) (xs ys : List Element) → counted_primaries last (xs ++ ys) ≡ counted_primaries last xs ++ counted_primaries last ys
@@ -130,6 +136,12 @@ one_counts last xs x is =
 pub one_counts_not : (last : ℕ) (xs : List Element) (x : Element) → counts last x.primary ≡ false → counted_primaries last (xs ++ x ∷ []) ≡ counted_primaries last xs
 one_counts_not last xs x not =
     counted-append last xs (x ∷ []) ∙ ap (λ (l : List ℕ). counted_primaries last xs ++ l) (passed last x [] not ∙ nothing last) ∙ append-nil (counted_primaries last xs)
+
+-- the elements up to an index, and the one there
+pub one_more : (es : List Element) (i : ℕ) (x : Element) → i < length es → x ≡ get_or es i x → take (i + 1) es ≡ take i es ++ x ∷ []
+one_more es i x inside is =
+    let after : i + 1 ≡ suc i = omega arith in
+    ap (λ n. take n es) after ∙ take-suc es i x inside ∙ ap (λ (y : Element). take i es ++ y ∷ []) (sym is)
 
 -- ---- weights that are known to count
 

@@ -1,5 +1,4 @@
 pub mod ShortestLemmas
-pub mod PrimaryCountLemmas
 pub mod LongerPartLemmas
 pub mod PartWalks
 pub mod OverlappingLemmas

@@ -1,12 +1,12 @@
 -- Elements without weights and variable ones give nothing below the quaternary level.
-use Rattle.std.proofs.Common.{◌≡◌, ℕ, Bool, true, false, not, ◌&&◌, ◌||◌, ◌==◌, nat_le, nat_lt, bit_and, List, [], ◌∷◌, ◌++◌, Option, Some, None, map, reverse, if◌then◌else◌, refl, sym, ap, ◌∙◌, subst, inl, inr}
+use Rattle.std.proofs.Common.{◌≡◌, ℕ, Bool, true, false, not, ◌&&◌, ◌||◌, ◌==◌, nat_le, nat_lt, bit_and, List, [], ◌∷◌, ◌++◌, Option, Some, None, map, reverse, if◌then◌else◌, refl, sym, ap, ◌∙◌, inl, inr}
 use Rattle.std.specs.List.{list_all}
 use Rattle.std.specs.declared.cmp.Ordering.{Ordering}
 use Rattle.std.proofs.lemmas.Bool.{cases_Bool, and_parts, and_from, eqb-true, eq-eqb}
 use Rattle.icu_options.specs.declared.settings.AlternateHandling.{AlternateHandling}
 use Rattle.icu_options.specs.declared.settings.AlternateHandling.TheVariants.{NonIgnorable, Shifted, Blanked}
 use Rattle.icu_levels.specs.ListOrder.{list_order, segments_order}
-use Rattle.icu_levels.specs.Keys.{LevelLists, in_turn, primaries_order, secondaries_order, cases_order, tertiaries_order, quaternaries_order, characters_order, levels_order}
+use Rattle.icu_levels.specs.Keys.{LevelLists, in_turn, secondaries_order, cases_order, tertiaries_order, quaternaries_order, characters_order, levels_order}
 use Rattle.icu_levels.specs.Primaries.{Compression}
 use Rattle.icu_levels.specs.declared.forms.CaseForm.{CaseForm}
 use Rattle.icu_levels.specs.declared.forms.KeyForm.{KeyForm}
@@ -16,7 +16,7 @@ use Rattle.icu_levels.specs.declared.forms.TertiaryForm.{TertiaryForm}
 use Rattle.icu_levels.specs.declared.forms.TertiaryForm.TheVariants.{WithoutCase, LowerFirst, UpperFirst}
 use Rattle.icu_entries.specs.Elements.{Element, tertiary_mask}
 use Rattle.icu_entries.specs.ElementConditions.{separator_primary}
-use Rattle.icu_weighting.specs.Handled.{HandledElement, stayed, shifted_primary, is_variable, handled_variable, handled, stayed_elements}
+use Rattle.icu_weighting.specs.Handled.{HandledElement, stayed, is_variable, handled_variable, handled, stayed_elements}
 use Rattle.icu_weighting.specs.Levels.{weights, primary_of, secondary_of, primaries, secondaries, parted, segments, case_reads, case_rank, cases_in, cased_mask, masked_tertiary, tertiary_in, tertiaries_in, level_lists}
 use Rattle.icu_text_search.specs.inner.SilentStarts.{is_weightless, is_silent, begins_with_primary, EndsAtTertiaries}
 

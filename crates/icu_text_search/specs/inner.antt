@@ -1,5 +1,4 @@
 -- Words of private contracts and proofs only: no public contract names them.
-pub mod PrimaryCounts
 pub mod PartOutcomes
 pub mod OnePrimaries
 pub mod FirstWeights

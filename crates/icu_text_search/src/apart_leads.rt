@@ -1,4 +1,5 @@
-//! Primary weights of one byte that no reordering makes the same: those of Latin letters, as the collator orders them.
+//! Primary weights of one byte that no reordering makes the same: all of them where there is none, and else those of
+//! Latin letters, as the collator orders them.
 
 ghost use Rattle.std.specs.Prelude.{◌≡◌, ◌⊎◌, ◌<◌, ◌≤◌, ℕ, true, IfOk, IfSome};
 ghost use Rattle.std.specs.Option.{ForSome};
@@ -9,7 +10,7 @@ ghost use Rattle.icu_weighting.specs.Collations.{Collation};
 ghost use Rattle.icu_text_search.specs.inner.FirstWeights.{AreApart, RiseTo, IsComparedAsLess, is_lone, low};
 
 use crate::first_weights::{KnownVariables, low};
-use crate::pattern_weights::{first_primaries, most_primaries, only_primary};
+use crate::pattern_weights::{first_primaries, only_primary, weight_count};
 use icu_collator::CollatorBorrowed;
 use std::alloc::{AllocError, Global};
 use std::cmp::Ordering;
@@ -87,10 +88,10 @@ fn rising(
     requires variable { known.variable ≤ last_variable_by (collation_borrowed collator.now) }
     ensures { IfOk result (λ o. IfSome o (IsComparedAsLess (collation_borrowed collator.now))) }
 {
-    let most = most_primaries(collator, letter)?;
+    let count = weight_count(collator, letter)?;
     let below = first_primaries(alloc, collator, longer, known)?;
     let above = first_primaries(alloc, collator, letter, known)?;
-    if most != 1 || below.len() != 2 || above.len() != 1 {
+    if count != 1 || below.len() != 2 || above.len() != 1 {
         return Ok(None);
     }
     match collator.order(longer, letter) {
@@ -161,7 +162,8 @@ fn marks_from(
     Ok(marks)
 }
 
-/// Marks of lead bytes that are kept apart, where one of these weights has one byte. No marks say nothing.
+/// Marks of lead bytes that are kept apart: all of them where there is no reordering, and else those of letters, where
+/// one of these weights has one byte. No marks say nothing.
 pub(crate) fn apart_leads(
     alloc: Global,
     collator: &CollatorBorrowed<'_>,
@@ -173,6 +175,9 @@ pub(crate) fn apart_leads(
     requires variable { known.variable ≤ last_variable_by (collation_borrowed collator.now) }
     ensures { IfOk result (AreApart (collation_borrowed collator.now)) }
 {
+    if collator.checked_tables().reordering().is_none() {
+        return Ok([true; 256]);
+    }
     match first_letter(collator, primaries)? {
         Some(first) => {
             let marks = marks_from(alloc, collator, known, first)?;

@@ -72,17 +72,15 @@ pub(crate) fn known_primaries(
     Ok(primaries)
 }
 
-/// So many elements are looked at, beside two for each primary weight of a pattern.
-const FEW: usize = 64;
-
-/// Whether no part with which a text begins may have primary weights that begin with these. It may have none where this
-/// returns false.
+/// Whether no part with which a text begins may have primary weights that begin with these: so many elements of the
+/// text are looked at. It may have none where this returns false.
 pub(crate) fn rules_out(
     collator: &CollatorBorrowed<'_>,
     known: KnownVariables,
     primaries: &[u32],
     apart: &[bool; 256],
     text: &[char],
+    most: usize,
 ) -> bool
     requires sure { ForSome known.sure
         (λ p. last_variable_by (collation_borrowed collator.now) < p) }
@@ -94,7 +92,7 @@ pub(crate) fn rules_out(
     let mut met = 0;
     let tables = collator.cursor_tables();
     let mut cursor = FactsCursor::new(&tables, CharsText(text));
-    for _ in 0..primaries.len().saturating_mul(2).saturating_add(FEW) {
+    for _ in 0..most {
         if met == primaries.len() {
             return false;
         }

@@ -61,10 +61,17 @@ impl<'s, 'c> SearchedText<'s, 'c> {
         if self.searcher.equals_empty() {
             return self.shortest_stop_to(start, last);
         }
+        let piece = self.piece_from(start, last);
+        if self.searcher.begins_otherwise(piece, 1) {
+            return Ok(None);
+        }
         if self.begins_silently(start) {
             return Ok(None);
         }
-        if self.searcher.begins_otherwise(self.piece_from(start, last)) {
+        if self
+            .searcher
+            .begins_otherwise(piece, self.searcher.looks_at())
+        {
             return Ok(None);
         }
         self.shortest_stop_to(start, last)

@@ -7,20 +7,34 @@ ghost use Rattle.icu_elements.specs.Reading.{reading_of};
 ghost use Rattle.icu_text_order.specs.TextOrder.{reading_by, lists_by};
 ghost use Rattle.icu_text_order.specs.Forms.{last_variable_by};
 ghost use Rattle.unicode_normalization.specs.Forms.{nfd};
-ghost use Rattle.icu_text_search.specs.inner.FirstWeights.{BeginsWith};
+ghost use Rattle.icu_text_search.specs.inner.FirstWeights.{BeginsWith, counted_primaries, counts};
 ghost use Rattle.icu_text_search.specs.inner.OnePrimaries.{HasOnePrimary};
-ghost use Rattle.icu_text_search.specs.inner.PrimaryCounts.{primaries_from};
 
 use crate::first_weights::{KnownVariables, known_primaries};
 use icu_collator::CollatorBorrowed;
 use icu_elements::{CollationElement, TextReading, all_elements};
+use icu_entries::element::MERGE_SEPARATOR_PRIMARY;
 use std::alloc::{AllocError, Global};
 
-/// How many of these elements have a primary weight from this one on.
-pub(crate) fn primaries_from(elements: &[CollationElement], least: u32) -> usize
-    ensures { result ≡ primaries_from least elements.now }
+/// Whether a primary weight counts, where the last variable one is this: it is there, and elements that have it aren't
+/// variable.
+fn counts(last: u32, primary: u32) -> bool
+    ensures { result ≡ counts last primary }
 {
-    elements.iter().filter(|e| e.primary() >= least).count()
+    primary != 0 && !(primary > MERGE_SEPARATOR_PRIMARY && primary <= last)
+}
+
+/// How many primary weights of these elements count, where the last variable one is this.
+pub(crate) fn counted(elements: &[CollationElement], last: u32) -> usize
+    ensures { result ≡ length (counted_primaries last elements.now) }
+{
+    let mut count = 0;
+    for element in elements {
+        if counts(last, element.primary()) {
+            count += 1;
+        }
+    }
+    count
 }
 
 /// How a collator reads texts.
@@ -30,33 +44,13 @@ pub(crate) fn reading_of_collator<'c>(collator: &CollatorBorrowed<'c>) -> TextRe
     collator.cursor_tables().places().reading()
 }
 
-/// How many primary weights the elements of a text have: no more of them count.
-pub(crate) fn most_primaries(
-    collator: &CollatorBorrowed<'_>,
-    text: &str,
-) -> Result<usize, AllocError>
-    ensures { IfOk result (λ n. length (lists_by (collation_borrowed collator.now)
-        (nfd (chars text.now))).primaries ≤ n) }
-{
-    let elements = all_elements(reading_of_collator(collator), text.chars())?;
-    Ok(primaries_from(elements.as_slice(), 1))
-}
-
-/// How many primary weights of a text surely count, by a weight from which on none is that of a variable element.
-pub(crate) fn fewest_primaries(
-    collator: &CollatorBorrowed<'_>,
-    text: &str,
-    sure: Option<u32>,
-) -> Result<usize, AllocError>
-    requires { ForSome sure (λ p. last_variable_by (collation_borrowed collator.now) < p) }
-    ensures { IfOk result (λ n. n ≤ length (lists_by (collation_borrowed collator.now)
+/// How many primary weights of a text count.
+pub(crate) fn weight_count(collator: &CollatorBorrowed<'_>, text: &str) -> Result<usize, AllocError>
+    ensures { IfOk result (λ n. n ≡ length (lists_by (collation_borrowed collator.now)
         (nfd (chars text.now))).primaries) }
 {
-    let Some(least) = sure else {
-        return Ok(0);
-    };
     let elements = all_elements(reading_of_collator(collator), text.chars())?;
-    Ok(primaries_from(elements.as_slice(), least))
+    Ok(counted(elements.as_slice(), collator.last_variable()))
 }
 
 /// The primary weight of a text that has one element.

@@ -20,8 +20,7 @@ ghost use Rattle.icu_text_search.specs.inner.PartOutcomes.{equals_pattern};
 use crate::apart_leads::apart_leads;
 use crate::first_weights::{KnownVariables, rules_out};
 use crate::pattern_weights::{
-    fewest_primaries, first_primaries, first_sure, most_primaries, primaries_from,
-    reading_of_collator,
+    counted, first_primaries, first_sure, reading_of_collator, weight_count,
 };
 use crate::silent_starts::{ends_at_tertiaries, starts_silently};
 use icu_collator::{Collator, CollatorBorrowed};
@@ -39,10 +38,8 @@ pub struct Searcher<'c> {
     pattern: String,
     /// From this primary weight on none is that of a variable element.
     sure: Option<u32>,
-    /// So many primary weights of the pattern count at least.
-    fewest: usize,
-    /// So many of them count at most.
-    most: usize,
+    /// So many primary weights of the pattern count.
+    count: usize,
     /// The empty text is equal to the pattern.
     equals_empty: bool,
     /// The primary weights with which it begins.
@@ -53,13 +50,14 @@ pub struct Searcher<'c> {
     ghost first_is: { BeginsWith first.items (lists_by (collation_borrowed collator)
         (nfd (chars (string_bytes pattern)))).primaries },
     ghost sure_is: { ForSome sure (λ p. last_variable_by (collation_borrowed collator) < p) },
-    ghost fewest_is: { fewest ≤ length (lists_by (collation_borrowed collator)
+    ghost count_is: { count ≡ length (lists_by (collation_borrowed collator)
         (nfd (chars (string_bytes pattern)))).primaries },
-    ghost most_is: { length (lists_by (collation_borrowed collator)
-        (nfd (chars (string_bytes pattern)))).primaries ≤ most },
     ghost equals_empty_is: { equals_empty ≡ is_eq (text_order (collation_borrowed collator) []
         (chars (string_bytes pattern))) },
 }
+
+/// So many elements of a text are looked at, beside two for each primary weight of a pattern.
+const FEW: usize = 64;
 
 /// Whether the empty text is equal to another.
 fn is_empty_text(collator: &CollatorBorrowed<'_>, text: &str) -> bool
@@ -141,9 +139,8 @@ impl<'c> Searcher<'c> {
             ≡ search_for (collation_kept collator.entry.now) (chars (string_bytes pattern))) }
     {
         let borrowed = collator.as_borrowed();
-        let most = most_primaries(&borrowed, pattern.as_str())?;
+        let count = weight_count(&borrowed, pattern.as_str())?;
         let sure = first_sure(&borrowed);
-        let fewest = fewest_primaries(&borrowed, pattern.as_str(), sure)?;
         let equals_empty = is_empty_text(&borrowed, pattern.as_str());
         let known = KnownVariables {
             sure,
@@ -156,8 +153,7 @@ impl<'c> Searcher<'c> {
             collator: borrowed,
             pattern,
             sure,
-            fewest,
-            most,
+            count,
             equals_empty,
             first,
             apart,
@@ -198,9 +194,9 @@ impl<'c> Searcher<'c> {
         self.equals_empty
     }
 
-    /// Whether no part with which a text begins is equal to the pattern, up to a place: the first primary weights tell.
-    /// None may be equal where this returns false.
-    pub(crate) fn begins_otherwise(&self, text: &[char]) -> bool
+    /// Whether no part with which a text begins is equal to the pattern, up to a place: the primary weights of so many
+    /// of its first elements tell. None may be equal where this returns false.
+    pub(crate) fn begins_otherwise(&self, text: &[char], most: usize) -> bool
         ensures { let s = search_of self.now in let c = s.collation in result ≡ true
             → (part rest : List ℕ) → (lists_by c (nfd text.now)).primaries
             ≡ (lists_by c (nfd part)).primaries ++ rest → equals_pattern s part ≡ false }
@@ -215,7 +211,13 @@ impl<'c> Searcher<'c> {
             self.first.as_slice(),
             &self.apart,
             text,
+            most,
         )
+    }
+
+    /// So many elements of a text are looked at: two for each primary weight of the pattern, and a few.
+    pub(crate) fn looks_at(&self) -> usize {
+        self.first.len().saturating_mul(2).saturating_add(FEW)
     }
 
     /// Whether each text may be searched in pieces that are cut before a character. False says nothing.
@@ -238,28 +240,23 @@ impl<'c> Searcher<'c> {
         ends_at_tertiaries(&self.collator) && starts_silently(&self.collator, first, rest)
     }
 
-    /// Whether a part of a text with these elements has fewer primary weights than the pattern. It may have fewer where
-    /// this returns false.
+    /// Whether a part of a text with these elements has fewer primary weights than the pattern.
     pub(crate) fn is_too_short(&self, elements: &[CollationElement]) -> bool
         ensures { let s = search_of self.now in (text : List ℕ)
             → elements.now ≡ elements_of (reading_by s.collation) (nfd text)
             → result ≡ true → length (lists_by s.collation (nfd text)).primaries
             < length (lists_by s.collation (nfd s.pattern)).primaries }
     {
-        primaries_from(elements, 1) < self.fewest
+        counted(elements, self.collator.last_variable()) < self.count
     }
 
-    /// Whether a part of a text with these elements has more primary weights than the pattern. It may have more where
-    /// this returns false.
+    /// Whether a part of a text with these elements has more primary weights than the pattern.
     pub(crate) fn is_too_long(&self, elements: &[CollationElement]) -> bool
         ensures { let s = search_of self.now in (text : List ℕ)
             → elements.now ≡ elements_of (reading_by s.collation) (nfd text)
             → result ≡ true → length (lists_by s.collation (nfd s.pattern)).primaries
             < length (lists_by s.collation (nfd text)).primaries }
     {
-        match self.sure {
-            Some(least) => primaries_from(elements, least) > self.most,
-            None => false,
-        }
+        counted(elements, self.collator.last_variable()) > self.count
     }
 }

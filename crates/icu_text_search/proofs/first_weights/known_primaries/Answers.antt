@@ -1,9 +1,9 @@
-use Rattle.std.proofs.Common.{◌≡◌, ℕ, suc, ◌+◌, ◌<◌, List, [], ◌∷◌, ◌++◌, length, take, drop, get_or, ◌∙◌, sym, ap, arith, rules}
-use Rattle.std.proofs.Math.Seq.{take-suc, take-append_seam}
+use Rattle.std.proofs.Common.{◌≡◌, ℕ, ◌+◌, List, [], ◌∷◌, ◌++◌, length, take, drop, ◌∙◌, sym, ap, rules}
+use Rattle.std.proofs.Math.Seq.{take-append_seam}
 use Rattle.std.proofs.lemmas.List.{take-append-drop}
 use Rattle.icu_entries.specs.Elements.{Element}
 use Rattle.icu_text_search.specs.inner.FirstWeights.{BeginsWith, counted_primaries, counts}
-use Rattle.icu_text_search.proofs.FirstWeightLemmas.{counted-append, one_counts, one_counts_not}
+use Rattle.icu_text_search.proofs.FirstWeightLemmas.{counted-append, one_counts, one_counts_not, one_more}
 use Rattle.icu_text_search.proofs.first_weights.known_primaries.Goals as goal
 use Rattle.icu_text_search.proofs.first_weights.known_primaries.Goals.{then-counts+in_ok-push, else-counts}
 
@@ -11,11 +11,6 @@ begins : (last i : ℕ) (es : List Element) (v : List ℕ) → counted_primaries
 begins last i es v is =
     ap (take (length v)) (ap (counted_primaries last) (sym (take-append-drop i es)) ∙ counted-append last (take i es) (drop i es) ∙ ap (λ (l : List ℕ). l ++ counted_primaries last (drop i es)) is)
     ∙ take-append_seam v (counted_primaries last (drop i es))
-
-one_more : (es : List Element) (i : ℕ) (x : Element) → i < length es → x ≡ get_or es i x → take (i + 1) es ≡ take i es ++ x ∷ []
-one_more es i x inside is =
-    let after : i + 1 ≡ suc i = omega arith in
-    ap (λ n. take n es) after ∙ take-suc es i x inside ∙ ap (λ (y : Element). take i es ++ y ∷ []) (sym is)
 
 pub loop-element-init : goal.loop-element-init
 unfolding counted_primaries

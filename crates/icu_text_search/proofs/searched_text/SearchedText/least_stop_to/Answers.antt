@@ -7,7 +7,7 @@ use Rattle.icu_text_search.proofs.searched_text.SearchedText.least_stop_to.Goals
 pub returns-then-begins_otherwise : goal.returns-then-begins_otherwise
 returns-then-begins_otherwise c =
     let t = c.args.self.now in
-    told_ruled_out (searched_in t) (text_searched t) c.args.start c.args.last c.piece_from.result.now c.piece_from.ensures
+    told_ruled_out (searched_in t) (text_searched t) c.args.start c.args.last c.piece_from-piece.result.now c.piece_from-piece.ensures
     (c.begins_otherwise.ensures c.if-begins_otherwise.true)
     c.requires.ordered (sym c.equals_empty.ensures ∙ c.if-equals_empty.false)
 
@@ -15,3 +15,10 @@ pub returns-then-begins_silently : goal.returns-then-begins_silently
 returns-then-begins_silently c =
     let t = c.args.self.now in
     told_silent (searched_in t) (text_searched t) c.args.start c.args.last (sym c.equals_empty.ensures ∙ c.if-equals_empty.false) (c.begins_silently.ensures c.if-begins_silently.true)
+
+pub returns-then-begins_otherwise-2 : goal.returns-then-begins_otherwise-2
+returns-then-begins_otherwise-2 c =
+    let t = c.args.self.now in
+    told_ruled_out (searched_in t) (text_searched t) c.args.start c.args.last c.piece_from-piece.result.now c.piece_from-piece.ensures
+    (c.begins_otherwise-2.ensures c.if-begins_otherwise-2.true)
+    c.requires.ordered (sym c.equals_empty.ensures ∙ c.if-equals_empty.false)

@@ -9,4 +9,4 @@ use Rattle.icu_text_search.proofs.searcher.Searcher.of_pattern.Goals as goal
 pub invariant_of-result-clause-first_is : goal.invariant_of-result-clause-first_is
 invariant_of-result-clause-first_is c =
     let front = c.in_ok-first.first.items in
-    subst (λ (bytes : List ℕ). BeginsWith front (lists_by (collation_borrowed c.as_borrowed-borrowed.result) (nfd (chars bytes))).primaries) c.as_str-4.ensures.value c.in_ok-first.ensures
+    subst (λ (bytes : List ℕ). BeginsWith front (lists_by (collation_borrowed c.as_borrowed-borrowed.result) (nfd (chars bytes))).primaries) c.as_str-3.ensures.value c.in_ok-first.ensures
