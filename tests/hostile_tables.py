@@ -184,6 +184,16 @@ def of_counted_weights(leads):
     return builder
 
 
+def of_unlike_blocks(size):
+    """A root in which all characters have one contraction of 100 mappings, a list of 31 elements, and two that count their weights, but
+    one character in each of 250 blocks a size, which has an entry of its own."""
+    builder = with_rows([COUNTED_ENTRY, 1 << 13 | LISTED, 32 << 13 | COUNTED_ENTRY], 100)
+    builder.ces = [0xA0 << 56 | COUNTED_ELEMENT, *unlike_elements(31), 0xA1 << 56 | COUNTED_ELEMENT]
+    for number in range(250 * size):
+        builder.set_entry(0x4000 + BLOCK * number, unlike_entry(0x32, number))
+    return builder
+
+
 def of_prefixes(size):
     """A root in which a prefix has 750 mappings a size, each to one contraction of as many."""
     builder = Builder(0xCF)

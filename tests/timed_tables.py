@@ -5,7 +5,8 @@ The time is that of some checks more, so that reading the questions is no part o
 """
 from driver import numbers
 from hostile_tables import (DATA, GROWING, REORDERED, SIZES, of_counted_rows, of_counted_weights, of_implicit, of_listed_mappings,
-                            of_lists, of_many_lists, of_mappings, root_like_cldr, splits_implicit, tailoring_like_cldr)
+                            of_lists, of_many_lists, of_mappings, of_unlike_blocks, root_like_cldr, splits_implicit,
+                            tailoring_like_cldr)
 from timing import RUNS, Slowed, least_times
 
 # How often a check is made beyond the first time, how many times as long as Mini's it may take for each number that its tables
@@ -33,12 +34,14 @@ def refused_implicit():
 
 
 # Tables that are held against Mini's by time alone, by how many times as long their checks may take: in which all characters reach
-# entries that count their weights, 1.1 million for each entry, one of them beside 2,000 mappings, or eleven from lead bytes in a row;
-# 2,400 lists of 31 elements, which share their members; and a reordering that takes half of the implicit weights to a lead byte where
+# entries that count their weights, 1.1 million for each entry, one of them beside 2,000 mappings, eleven from lead bytes in a row, or seventeen,
+# more than are kept; in which 1,000 blocks have unlike entries that lead to such; 2,400 lists of 31 elements, which share their members; and a reordering that takes half of the implicit weights to a lead byte where
 # none may be.
 LIMITED = {
     "counted-rows": (lambda: TimedTables("counted-rows", "Mini", of_counted_rows(4)), 150),
     "counted-weights": (lambda: TimedTables("counted-weights", "Mini", of_counted_weights(range(0x44, 0x4F))), 900),
+    "more-counted": (lambda: TimedTables("more-counted", "Mini", of_counted_weights(range(0x20, 0x31))), 2_000),
+    "unlike-blocks": (lambda: TimedTables("unlike-blocks", "Mini", of_unlike_blocks(4)), 600),
     "many-lists": (lambda: TimedTables("many-lists", "Mini", of_many_lists(4)), 100),
     "refused-implicit": (refused_implicit, 100),
 }

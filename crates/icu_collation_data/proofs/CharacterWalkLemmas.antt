@@ -12,7 +12,7 @@ use Rattle.icu_collation_data.specs.Reachable.{reachable_from, reachable_at, Ref
 use Rattle.icu_collation_data.specs.Walks.{CharVisit, visit_of, after_all, after_run, after_visits, IsReachableVisit}
 use Rattle.icu_collation_data.specs.inner.VisitedEntries.{IsRemembered}
 use Rattle.icu_collation_data.specs.inner.Visitors.{holds}
-use Rattle.icu_collation_data.specs.inner.BlockWalks.{is_wanted, leads_to, sought_count, with_room, with_sought, AreSought, after_runs, WalkedTo, AreClear, IsShared, IsRun}
+use Rattle.icu_collation_data.specs.inner.BlockWalks.{is_wanted, leads_to, sought_count, with_room, with_sought, AreSought, after_wanted, after_runs, WalkedTo, AreClear, IsShared, IsRun}
 use Rattle.icu_collation_data.proofs.ListLemmas.{all_append, all_members, all_where, of_member, in_map, nothing_in, in_first}
 use Rattle.icu_collation_data.proofs.SameEntryLemmas.{none_passes}
 use Rattle.icu_collation_data.proofs.CollectedWeightLemmas.{held-contained}
@@ -273,6 +273,10 @@ module _ {V : Type 0} (after : V → Data → ℕ → ℕ → V) (falls_back : B
       is ∙ ap (λ v. after_run after v home first e 64) ran ∙ ap (λ x. after_run after (after_runs after s home first (take i es)) home first x 64) at
       ∙ sym (fold_more (λ v e. after_run after v home first e 64) s es i 0 inside)
 
+  pub each_more : (s t u : V) (c : ℕ) (es : List ℕ) (i e : ℕ) → i < length es → e ≡ get_or es i 0 → t ≡ after_all after s home c (take i es) → u ≡ after t home c e → u ≡ after_all after s home c (take (i + 1) es)
+  each_more s t u c es i e inside at ran is =
+      is ∙ ap (λ v. after v home c e) ran ∙ ap (λ x. after (after_all after s home c (take i es)) home c x) at ∙ sym (fold_more (λ v e. after v home c e) s es i 0 inside)
+
   off_fallback : (b : Bool) → (b && false) ≡ false
   off_fallback true = refl
   off_fallback false = refl
@@ -295,3 +299,80 @@ module _ {V : Type 0} (after : V → Data → ℕ → ℕ → V) (falls_back : B
       all_where_reach : (es : List ℕ) → ((f : ℕ) → Contains es f → (c : ℕ) → first ≤ c → c < first + 64 → IsReachableVisit falls_back home (visit_of c f))
           → AllByRecursion (λ f. (c : ℕ) → first ≤ c → c < first + 64 → IsReachableVisit falls_back home (visit_of c f)) es
       all_where_reach es each = all_where (λ f. (c : ℕ) → first ≤ c → c < first + 64 → IsReachableVisit falls_back home (visit_of c f)) es each
+
+  -- one character, with which each entry of the part was visited
+  pub walked_each : (part : Part) (s t : V) (c : ℕ) (es : List ℕ) → IsScalar c → (home.value c == 0xC0) ≡ false → AreSought part home (home.value c) es true → t ≡ after_all after s home c es → To part s t c (c + 1)
+  walked_each part s t c es scalar kept sought is = record {
+    visits = map (visit_of c) es;
+    reach = led_reach after falls_back home c es scalar (λ e has. subst (λ xs. Contains xs e) (sym at) (sought.reachable e has));
+    adds_up = is ∙ sym (visits_add after falls_back home s c es);
+    each = λ d e low high scalar has wanted.
+        let same : c ≡ d = omega (arith, low, high) in
+        subst (λ d. Contains (map (visit_of c) es) (visit_of d e)) same
+        (in_map (visit_of c) es e (sought.all refl e (subst (λ xs. Contains xs e) at (subst (λ d. Contains (reachable_at falls_back home d) e) (sym same) has)) wanted));
+  }
+    where
+      at : reachable_at falls_back home c ≡ reachable_from home (home.value c)
+      at = at_is falls_back home c (home.value c) refl (ap (λ b. falls_back && b) kept ∙ off_fallback falls_back)
+
+  -- ---- entries of a part among others
+
+  -- those of these entries that are of the part
+  wanted_of : Part → List ℕ → List ℕ
+  wanted_of part [] = []
+  wanted_of part (e ∷ es) = if is_wanted part e then e ∷ wanted_of part es else wanted_of part es
+
+  wanted_one : (part : Part) (v : V) (first e : ℕ) (es rest : List ℕ) (b : Bool) → ((v : V) → after_all (after_wanted after part) v home first es ≡ after_runs after v home first rest)
+      → after_all (after_wanted after part) (if b then after_run after v home first e 64 else v) home first es ≡ after_runs after v home first (if b then e ∷ rest else rest)
+  wanted_one part v first e es rest true below = below (after_run after v home first e 64)
+  wanted_one part v first e es rest false below = below v
+
+  wanted_add : (part : Part) (v : V) (first : ℕ) (es : List ℕ) → after_all (after_wanted after part) v home first es ≡ after_runs after v home first (wanted_of part es)
+  unfolding wanted_of
+  wanted_add part v first [] = refl
+  wanted_add part v first (e ∷ es) = wanted_one part v first e es (wanted_of part es) (is_wanted part e) (λ v. wanted_add part v first es)
+
+  abbrev IsOf : Part → List ℕ → ℕ → Type 0
+  IsOf part es e = Contains es e × (is_wanted part e ≡ true)
+
+  within_one : (part : Part) (f : ℕ) (es rest : List ℕ) (e : ℕ) (b : Bool) → is_wanted part f ≡ b → (Contains rest e → IsOf part es e) → Contains (if b then f ∷ rest else rest) e → IsOf part (f ∷ es) e
+  within_one part f es rest e true is below has =
+      elim (in_first f e rest has) [
+        | inl same ↦ (subst (Contains (f ∷ es)) same (Contains-append_left (f ∷ []) es f (Contains-push [] f)), subst (λ e. is_wanted part e ≡ true) same is)
+        | inr later ↦ (Contains-append_right (f ∷ []) es e (below later).0, (below later).1)
+      ]
+  within_one part f es rest e false is below has = (Contains-append_right (f ∷ []) es e (below has).0, (below has).1)
+
+  wanted_within : (part : Part) (es : List ℕ) (e : ℕ) → Contains (wanted_of part es) e → IsOf part es e
+  unfolding wanted_of
+  wanted_within part [] e has = absurd (nothing_in e has)
+  wanted_within part (f ∷ es) e has = within_one part f es (wanted_of part es) e (is_wanted part f) refl (wanted_within part es e) has
+
+  has_one : (part : Part) (f : ℕ) (es rest : List ℕ) (e : ℕ) (b : Bool) → is_wanted part f ≡ b → is_wanted part e ≡ true → (Contains es e → Contains rest e) → Contains (f ∷ es) e → Contains (if b then f ∷ rest else rest) e
+  has_one part f es rest e true is wanted below has =
+      elim (in_first f e es has) [
+        | inl same ↦ subst (Contains (f ∷ rest)) same (Contains-append_left (f ∷ []) rest f (Contains-push [] f))
+        | inr later ↦ Contains-append_right (f ∷ []) rest e (below later)
+      ]
+  has_one part f es rest e false is wanted below has =
+      elim (in_first f e es has) [
+        | inl same ↦ absurd (clash (is_wanted part f) (subst (λ e. is_wanted part e ≡ true) (sym same) wanted) is)
+        | inr later ↦ below later
+      ]
+
+  wanted_has : (part : Part) (es : List ℕ) (e : ℕ) → Contains es e → is_wanted part e ≡ true → Contains (wanted_of part es) e
+  unfolding wanted_of
+  wanted_has part [] e has wanted = absurd (nothing_in e has)
+  wanted_has part (f ∷ es) e has wanted = has_one part f es (wanted_of part es) e (is_wanted part f) refl wanted (λ later. wanted_has part es e later wanted) has
+
+  -- 64 characters with one entry, where all that it leads to was gone through
+  pub walked_wanted : (part : Part) (s t : V) (first e : ℕ) → IsRun home first e → ((c : ℕ) → first ≤ c → c < first + 64 → IsScalar c) → (e == 0xC0) ≡ false
+      → t ≡ after_all (after_wanted after part) s home first (reachable_from home e) → To part s t first (first + 64)
+  walked_wanted part s t first e run scalars kept is =
+      walked_runs part s t first e (wanted_of part (reachable_from home e)) run scalars kept
+      (record {
+        wanted = λ f has. (wanted_within part (reachable_from home e) f has).1;
+        reachable = λ f has. (wanted_within part (reachable_from home e) f has).0;
+        all = λ whole f has wanted. wanted_has part (reachable_from home e) f has wanted;
+      })
+      (is ∙ wanted_add part s first (reachable_from home e))

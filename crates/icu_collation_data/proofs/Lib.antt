@@ -11,6 +11,7 @@ mod ClearLemmas
 mod CharacterWalkLemmas
 mod BlockWalkLemmas
 mod VisitedLemmas
+mod SoughtListLemmas
 pub mod ViolationLemmas
 pub mod CollectedWeightLemmas
 pub mod BothLemmas

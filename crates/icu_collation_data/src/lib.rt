@@ -15,9 +15,12 @@ pub mod element_walk;
 mod prefix_mappings;
 pub mod reachable_condition;
 pub mod reachable_weights;
+mod sought_entries;
+mod sought_lists;
 pub mod violation;
 mod visited_entries;
 pub mod walk;
+mod wanted_walk;
 
 pub use code_point_table::CodePointTable;
 pub use context::{Context, ContextMapping, ContextTable, FoundContext, FoundMapping};

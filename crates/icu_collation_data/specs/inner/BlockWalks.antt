@@ -1,6 +1,6 @@
 -- How a walk goes on from block to block. It has parts: one for what says the same with each character, and one for
 -- each kind of entry that goes by its character.
-use Rattle.std.specs.Prelude.{ℕ, ◌≡◌, ◌*◌, ◌<◌, ◌≤◌, ◌⊎◌, nat_lt, Bool, true, false, not, ◌&&◌, if◌then◌else◌, List, [], ◌∷◌, ◌++◌, length, fold, flat_map, slice_index_or, ⊤, Some, Option}
+use Rattle.std.specs.Prelude.{ℕ, ◌≡◌, ◌*◌, ◌<◌, ◌≤◌, ◌⊎◌, nat_lt, Bool, true, false, not, ◌&&◌, if◌then◌else◌, List, [], ◌∷◌, ◌++◌, length, fold, flat_map, slice_index_or, take, ⊤, Some}
 use Rattle.std.specs.Char.{IsScalar}
 use Rattle.std.specs.List.{AllByRecursion, Contains, list_any}
 use Rattle.icu_entries.specs.declared.entry.EntryKind.{EntryKind}
@@ -9,6 +9,7 @@ use Rattle.icu_entries.specs.Entries.{kind_of}
 use Rattle.icu_collation_data.specs.declared.block_walk.BlockState.{BlockState}
 use Rattle.icu_collation_data.specs.declared.block_walk.BlockState.TheVariants.{Unread, Visited, Shared}
 use Rattle.icu_collation_data.specs.declared.character_walk.Part.{Part}
+use Rattle.icu_collation_data.specs.declared.sought_lists.SoughtFrom.{SoughtFrom}
 use Rattle.icu_collation_data.specs.declared.character_walk.Part.TheVariants.{Counted, Implicit}
 use Rattle.icu_collation_data.specs.declared.visited_entries.VisitedEntries.{VisitedEntries}
 use Rattle.icu_collation_data.specs.declared.context.ContextMapping.{ContextMapping}
@@ -51,9 +52,18 @@ pub record AreSought (part : Part) (home : Data) (e : ℕ) (es : List ℕ) (whol
   pub reachable : (f : ℕ) → Contains es f → Contains (reachable_from home e) f
   pub all : whole ≡ true → (f : ℕ) → Contains (reachable_from home e) f → is_wanted part f ≡ true → Contains es f
 
--- these are the entries that were sought last, if any were
-abbrev pub IsLast : Part → Data → Option ℕ → List ℕ → Bool → Type 0
-IsLast part home of es whole = (e : ℕ) → of ≡ Some e → AreSought part home e es whole
+-- these were sought from an entry, if any were
+abbrev pub IsSought : Part → Data → SoughtFrom → Type 0
+IsSought part home kept =
+    (e : ℕ) → kept.of ≡ Some e → AreSought part home e (take kept.sought.count kept.sought.entries) kept.sought.whole
+
+-- that holds of each of these places
+abbrev pub AreKept : Part → Data → List SoughtFrom → Type 0
+AreKept part home places = (kept : SoughtFrom) → Contains places kept → IsSought part home kept
+
+-- what a visitor is after visits of an entry with 64 characters in a row, if the entry is of the part
+abbrev pub after_wanted : {V : Type 0} → (V → Data → ℕ → ℕ → V) → Part → V → Data → ℕ → ℕ → V
+after_wanted after part v home first e = if is_wanted part e then after_run after v home first e 64 else v
 
 -- what a visitor is after visits of entries, each with 64 characters in a row
 abbrev pub after_runs : {V : Type 0} → (V → Data → ℕ → ℕ → V) → V → Data → ℕ → List ℕ → V

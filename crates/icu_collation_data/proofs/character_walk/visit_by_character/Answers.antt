@@ -10,7 +10,7 @@ differ e h = cc
 
 pub loop-index-init : goal.loop-index-init
 loop-index-init g c = record {
-  last = λ e is. absurd (differ e (sym c.new-last.ensures ∙ is));
+  known = λ kept has e is. absurd (differ e (sym (c.new-known.ensures kept has) ∙ is));
   clear = λ e has. absurd (c.new-clear.ensures e has);
   walked = walked_none g.V.Visit.after c.args.falls_back (data_of c.args.home) c.args.part _ 0;
   states = no_states c.args.part c.args.home 0x10000;
@@ -20,7 +20,7 @@ pub loop-index-preserved : goal.loop-index-preserved
 loop-index-preserved g c =
     let next : 64 * c.loop-index.index + 64 ≡ 64 * (c.loop-index.index + 1) = omega arith in
     record {
-      last = c.in_ok-visit_index.ensures.last;
+      known = c.in_ok-visit_index.ensures.known;
       clear = c.in_ok-visit_index.ensures.clear;
       walked =
           subst (WalkedTo g.V.Visit.after c.args.falls_back c.args.part (data_of c.args.home) _ _ 0) next

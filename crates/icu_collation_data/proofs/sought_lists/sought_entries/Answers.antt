@@ -1,6 +1,6 @@
 use Rattle.icu_collation_data.specs.StoredData.{data_of}
 use Rattle.icu_collation_data.proofs.CharacterWalkLemmas.{sought_from}
-use Rattle.icu_collation_data.proofs.character_walk.sought_entries.Goals as goal
+use Rattle.icu_collation_data.proofs.sought_lists.sought_entries.Goals as goal
 
 pub returns : goal.returns
 returns c =
