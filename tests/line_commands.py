@@ -23,20 +23,28 @@ EXPLAINED = [
     (["1"], "ba\u0301", "b\tU+0062\t[61 14, 05, 05]\na\u0301\tU+0061 U+0301\t[61 10, 05, 05][, 47, 05]\nprimary\t61 14 10\n"),
     (["1"], "", "primary\t\n"),
 ]
-# The strength and further words, two texts, the sign, and the level that decides.
+# The strength and further words, two texts, the sign, the level that decides, and the characters of each that do.
 REASONS = [
-    (["3"], "ab", "b", "<", "primary level"),
-    (["3"], "áb", "ab", ">", "secondary level"),
-    (["3"], "áa", "ab", "<", "primary level"),
-    (["3"], "a", "A", "<", "tertiary level"),
+    (["3"], "ab", "b", "<", "primary level", "a", "b"),
+    (["3"], "áb", "ab", ">", "secondary level", "á", "a"),
+    (["3"], "bab", "baáb", ">", "primary level", "b", "á"),
+    (["3"], "cab", "cáb", "<", "secondary level", "a", "á"),
+    (["3"], "a", "a\u0301", "<", "secondary level", "a", "a\u0301"),
+    (["3"], "\u0301", "", ">", "secondary level", "\u0301", ""),
+    (["3"], "áa", "ab", "<", "primary level", "a", "b"),
+    (["3"], "ab", "abc", "<", "primary level", "", "c"),
+    (["3"], "a", "A", "<", "tertiary level", "a", "A"),
+    (["3"], "ábA", "ába", ">", "tertiary level", "A", "a"),
     (["3"], "a", "a", "=", "no level differs"),
     (["1"], "a", "á", "=", "no level differs"),
-    (["1", "--case-level"], "A", "a", ">", "case level"),
-    (["3", "--case-level"], "á", "A", ">", "secondary level"),
-    (["3", "--case-level"], "a", "A", "<", "case level"),
-    (["4", "--alternate=shifted"], "a-b", "ab", "<", "quaternary level"),
-    (["i", "--alternate=blanked"], "a-b", "ab", "<", "identical level"),
+    (["1", "--case-level"], "A", "a", ">", "case level", "A", "a"),
+    (["1", "--case-level"], "bá", "bA", "<", "case level", "á", "A"),
+    (["3", "--case-level"], "á", "A", ">", "secondary level", "á", "A"),
+    (["3", "--case-level"], "a", "A", "<", "case level", "a", "A"),
+    (["4", "--alternate=shifted"], "a-b", "ab", "<", "quaternary level", "-", "b"),
+    (["i", "--alternate=blanked"], "a-b", "ab", "<", "identical level", "-", "b"),
     (["i"], "á", "a\u0301", "=", "no level differs"),
+    (["3", "--numeric"], "a10", "a9", ">", "primary level", "10", "9"),
 ]
 
 
@@ -46,10 +54,10 @@ def wrong_explanations(program, letters):
         ran = run(program, over(letters, "explain", strength, *words, "--", text))
         if ran.came_to() != (0, printed.encode(), b""):
             found.append(f"explain {strength} {words} {text!r}: {ran}; wanted: {printed!r}")
-    for (strength, *words), one, other, sign, level in REASONS:
+    for (strength, *words), one, other, *printed in REASONS:
         ran = run(program, over(letters, "why", strength, *words, "--", one, other))
-        if ran.came_to() != (int(sign != "="), f"{sign}\t{level}\n".encode(), b""):
-            found.append(f"why {strength} {words} {one!r} {other!r}: {ran}; wanted: {sign} {level}")
+        if ran.came_to() != (int(printed[0] != "="), ("\t".join(printed) + "\n").encode(), b""):
+            found.append(f"why {strength} {words} {one!r} {other!r}: {ran}; wanted: {printed}")
     return found
 
 
@@ -87,6 +95,27 @@ SEARCHES = [
     (["1"], "a", "b\na", 0, "a\n"),
     (["1"], "a", "", 1, ""),
     (["3", "--numeric"], "7", "a07b\n17\n", 0, "a07b\n"),
+    (["3", "-q"], "a", LINES, 0, ""),
+    (["3", "-q"], "c", LINES, 1, ""),
+    (["1", "--color=always"], "a", "bA\n", 0, f"b{ON}A{OFF}\n"),
+]
+# Further words, the input, and the status and the output that are wanted: at the strength 3, where no other is said.
+PATTERNS = [
+    (["-e", "a"], LINES, 0, "a b\nab\n"),
+    (["-e", "á", "-e", "ab"], LINES, 0, "á\nab\n"),
+    (["-e", "-a", "-e", "c"], "-a\nb\n", 0, "-a\n"),
+    (["-v", "-e", "a", "-e", "b"], "á\nab\nA\n", 0, "á\nA\n"),
+    # Of matches that overlap the one that begins first, or the longest: as GNU grep.
+    (["-o", "-e", "a", "-e", "ab"], "ab b a\n", 0, "ab\na\n"),
+    (["-o", "-e", "ab", "-e", "bc"], "abc bc\n", 0, "ab\nbc\n"),
+    (["-o", "-e", "bc", "-e", "ab"], "abc bc\n", 0, "ab\nbc\n"),
+    (["-o", "-e", "", "-e", "b"], "ab\n", 0, "b\n"),
+    (["--color=always", "-e", "b", "-e", "a"], "ab c\n", 0, f"{ON}a{OFF}{ON}b{OFF} c\n"),
+    (["-i", "-e", "a"], LINES, 0, "bA\na b\nab\n"),
+    (["-i", "a"], LINES, 0, "bA\na b\nab\n"),
+    (["-i", "--strength", "1", "a"], LINES, 0, "á\nbA\na b\nab\n"),
+    (["-i", "--strength", "3", "a"], LINES, 0, "a b\nab\n"),
+    (["-c", "-e", "a", "-e", "A"], LINES, 0, "3\n"),
 ]
 
 
@@ -113,6 +142,31 @@ def wrong_searches(program, letters, room):
         ran = run(program, over(letters, "search", "3", *words, "--", pattern, one, two))
         if ran.came_to() != (0, printed.encode(), b""):
             found.append(f"search {words} {pattern!r} in two files: {ran}; wanted: {printed!r}")
+    for words, given, status, printed in PATTERNS:
+        ran = run(program, ["search", "--root", letters, *words], given.encode())
+        if ran.came_to() != (status, printed.encode(), b""):
+            found.append(f"search {words}: {ran}; wanted: {status}, {printed!r}")
+    return found + wrong_missing(program, letters, one, two)
+
+
+def wrong_missing(program, letters, one, two):
+    """Searches of files of which one is missing: it is named, and the others are searched; GNU grep ends with its status for that too,
+    but where it is quiet and a line was found."""
+    found, said = [], b"absent: not opened\n"
+    rows = [
+        (["b", one, "absent", two], 3, f"{one}:b\n{two}:b\n".encode(), said),
+        (["c", "absent", two], 3, b"", said),
+        (["-q", "b", "absent", two], 0, b"", said),
+        (["-q", "b", one, "absent"], 0, b"", b""),
+        (["-q", "c", one, "absent"], 3, b"", said),
+        (["-e", "a", one], 0, b"a\n", b""),
+        (["-e", "a", "-e", "b", one, two], 0, f"{one}:a\n{one}:b\n{two}:b\n".encode(), b""),
+        (["b", "/", two], 3, f"{two}:b\n".encode(), b"/: read failed\n"),
+    ]
+    for words, *wanted in rows:
+        ran = run(program, over(letters, "search", "3", *words))
+        if ran.came_to() != tuple(wanted):
+            found.append(f"search {words}: {ran}; wanted: {wanted}")
     return found
 
 
@@ -144,7 +198,20 @@ WRONG_FIELDS = [
     (["-k1b2"], "'1b2'"),
     (["-t", ""], "''"),
     (["-t..", "-k1"], "'..'"),
-    (["-c", "-k1"], "--check"),
+    (["-c", "-k1x"], "'1x'"),
+    (["--check=loudly"], "loudly"),
+]
+# Further words of a check, the input, and the status and what is said.
+CHECKED = [
+    (["-t.", "-k2"], "b.a\na.b\n", 0, ""),
+    (["-t.", "-k2"], "a.b\nb.a\n", 1, "collate-cldr: line 2 is out of order: b.a\n"),
+    (["-t.", "-k2r"], "a.b\nb.a\n", 0, ""),
+    (["-t.", "-k2,2"], "b.a\na.a\n", 1, "collate-cldr: line 2 is out of order: a.a\n"),
+    (["-s", "-t.", "-k2,2"], "b.a\na.a\n", 0, ""),
+    (["-u", "-t.", "-k2,2"], "a.a\nb.a\n", 1, "collate-cldr: line 2 is out of order: b.a\n"),
+    (["-t.", "-k2n"], "a.9\na.10\na.8\n", 1, "collate-cldr: line 3 is out of order: a.8\n"),
+    (["-r", "-t.", "-k2,2"], "a.b\nb.a\n", 0, ""),
+    (["-k1"], "", 0, ""),
 ]
 
 
@@ -158,6 +225,14 @@ def wrong_fields(program, letters):
         ran = run(program, over(letters, "sort", "3", *words), b"a\n")
         if ran.status != 2 or ran.output or named.encode() not in ran.faults:
             found.append(f"sort {words}: {ran}; wanted: status 2, and {named} named")
+    quietly = [["-C"], ["--check-quietly"], ["--check=quiet"], ["--check=silent"]]
+    for words, given, status, said in CHECKED:
+        commands = [(["check"], said), (["check", "-q"], ""), (["sort", "-c"], said), (["sort", "--check"], said),
+                    (["sort", "--check=diagnose-first"], said), *((["sort", *it], "") for it in quietly)]
+        for command, wanted in commands:
+            ran = run(program, [*command, "--root", letters, *words], given.encode())
+            if ran.came_to() != (status, b"", wanted.encode()):
+                found.append(f"{command} {words}: {ran}; wanted: {status}, {wanted!r}")
     return found
 
 
@@ -191,7 +266,17 @@ def unlike_gnu(program, letters, times=120):
         ran = run(program, over(letters, "sort", "1", *words), given)
         if ran.came_to() != (0, sorted_by_gnu(words, given), b""):
             found.append(f"sort {words} of {given!r}: {ran}")
+        found += unlike_check(program, letters, words, chance.choice([given, ran.output]))
     return found
+
+
+def unlike_check(program, letters, words, given):
+    """A check whose status, and the line that it names, aren't those of GNU sort."""
+    gnu = subprocess.run(["sort", "-c", *words], input=given, stderr=subprocess.PIPE, env={**os.environ, "LC_ALL": "C"}, check=False)
+    ran = run(program, over(letters, "sort", "1", "-c", *words), given)
+    named = gnu.stderr.removeprefix(b"sort: -:").replace(b": disorder:", b" is out of order:")
+    wanted = (gnu.returncode, b"", b"collate-cldr: line " * bool(named) + named)
+    return [] if ran.came_to() == wanted else [f"check {words} of {given!r}: {ran}; wanted: {wanted}"]
 
 
 # ---- the run of all, and programs with a fault
@@ -206,7 +291,8 @@ FAULTY = [
 
 def check_lines(report, room, program, letters):
     report.say("collate-cldr: explanations and reasons", wrong_explanations(program, letters), len(EXPLAINED) + len(REASONS))
-    report.say("collate-cldr: searches", wrong_searches(program, letters, room), len(SEARCHES) + 5)
-    report.say("collate-cldr: sorts by fields", wrong_fields(program, letters), len(FIELDS) + len(WRONG_FIELDS))
-    report.say("collate-cldr: sorts by fields as those of GNU sort", unlike_gnu(program, letters), 120)
+    report.say("collate-cldr: searches", wrong_searches(program, letters, room), len(SEARCHES) + len(PATTERNS) + 13)
+    report.say("collate-cldr: sorts by fields", wrong_fields(program, letters),
+               len(FIELDS) + len(WRONG_FIELDS) + 9 * len(CHECKED))
+    report.say("collate-cldr: sorts and checks by fields as those of GNU sort", unlike_gnu(program, letters), 240)
     report.say("collate-cldr: programs with a fault in lines are found", faults_missed(room, "lines", program, letters, FAULTY), len(FAULTY))

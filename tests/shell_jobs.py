@@ -47,9 +47,11 @@ SCRIPTS = [
     ('if "$@" check -q; then echo in order; else echo not in order; fi', b"a\nb\n", b"in order\n", b""),
     ('if "$@" check -q; then echo in order; else echo not in order; fi', b"b\na\n", b"not in order\n", b""),
     ('"$@" check || echo "status $?"', b"b\na\n", b"status 1\n", b"collate-cldr: line 2 is out of order: a\n"),
-    # A pipe that nobody reads any more is a write that failed.
-    ('{ "$@" sort; echo "status $?" >&2; } | head -n 1', b"b\n" * 100_000, b"b\n", b"collate-cldr: write failed\nstatus 3\n"),
-    ('{ "$@" keys; echo "status $?" >&2; } | true', b"b\n" * 100_000, b"", b"collate-cldr: write failed\nstatus 3\n"),
+    # A pipe that nobody reads any more is a write that failed, of which nothing is said.
+    ('{ "$@" sort; echo "status $?" >&2; } | head -n 1', b"b\n" * 100_000, b"b\n", b"status 3\n"),
+    ('{ "$@" keys; echo "status $?" >&2; } | true', b"b\n" * 100_000, b"", b"status 3\n"),
+    ('{ "$@" search b; echo "status $?" >&2; } | true', b"b\n" * 100_000, b"", b"status 3\n"),
+    ('"$@" sort >/dev/full || echo "status $?"', b"b\n", b"status 3\n", b"collate-cldr: write failed\n"),
 ]
 
 

@@ -11,9 +11,9 @@ use csv_sorts::{
     first_column_disorder, print_sorted_by_columns, text_sorted_by_columns,
 };
 use icu_collator::Collator;
-use named_files::{read_inputs, replace_file};
+use named_files::{RunProgress, read_inputs, replace_file};
 use std::io::{Read, Write};
-use std::rt::{Env, Files};
+use std::rt::{Clock, Env, Files};
 
 /// The name of the input, for what is said of it.
 fn source_of<'m, 'a>(matches: &'m ArgMatches<'a>) -> &'m str {
@@ -81,16 +81,19 @@ fn write_sorted_csv<R: Files + AllocGlobal, W: Write>(
 }
 
 /// Prints records of CSV in order, or writes them to the file that is asked for.
-pub(crate) fn sort_csv<R: Files + Env + AllocGlobal, I: Read, W: Write>(
+pub(crate) fn sort_csv<R: Files + Env + Clock + AllocGlobal, I: Read, W: Write, E: Write>(
     rt: &R,
     matches: &ArgMatches<'_>,
+    progress: &mut RunProgress,
     input: &mut I,
     output: &mut W,
+    errors: &mut E,
 ) -> Result<u8, ProgramError>
     ensures { IfOk result (λ status. status ≤ 3) }
 {
     let collator = collator_by_words(rt, matches)?;
-    let bytes = read_inputs(rt, files_of(matches), b'\n', input)?;
+    let files = files_of(matches);
+    let bytes = read_inputs(rt, files, b'\n', input, progress, errors)?;
     let columns = columns(rt, matches, bytes.as_slice())?;
     let request = csv_request_of(matches, columns.as_slice());
     write_sorted_csv(rt, matches, &collator, request, bytes.as_slice(), output)?;
@@ -99,17 +102,19 @@ pub(crate) fn sort_csv<R: Files + Env + AllocGlobal, I: Read, W: Write>(
 
 /// Whether records of CSV are in order. Where they are not, and that is to be said, the first that isn't is printed,
 /// with the line at which it begins.
-pub(crate) fn check_csv<R: Files + Env + AllocGlobal, I: Read, E: Write>(
+pub(crate) fn check_csv<R: Files + Env + Clock + AllocGlobal, I: Read, E: Write>(
     rt: &R,
     matches: &ArgMatches<'_>,
     is_quiet: bool,
+    progress: &mut RunProgress,
     input: &mut I,
     errors: &mut E,
 ) -> Result<u8, ProgramError>
     ensures { IfOk result (λ status. status ≤ 3) }
 {
     let collator = collator_by_words(rt, matches)?;
-    let bytes = read_inputs(rt, files_of(matches), b'\n', input)?;
+    let files = files_of(matches);
+    let bytes = read_inputs(rt, files, b'\n', input, progress, errors)?;
     let columns = columns(rt, matches, bytes.as_slice())?;
     let request = csv_request_of(matches, columns.as_slice());
     let wrong = match first_column_disorder(rt.alloc(), &collator, request, bytes.as_slice()) {

@@ -3,11 +3,15 @@
 
 mod asked_collator;
 mod csv_command;
+mod line_orders;
 mod program;
+mod reports;
 mod search_command;
 
 use collate_commands::Input;
-use program::{report, run};
+use named_files::WatchedOutput;
+use program::{Terminals, run};
+use reports::report;
 use std::io::IsTerminal;
 use std::process::ExitCode;
 
@@ -16,9 +20,12 @@ fn main(rt: HostRuntime) -> ExitCode {
         Ok(words) => run(
             &rt,
             words.as_slice(),
-            rt.stdout().is_terminal(),
+            Terminals {
+                output: rt.stdout().is_terminal(),
+                errors: rt.stderr().is_terminal(),
+            },
             Input(rt.stdin()),
-            &mut rt.stdout(),
+            &mut WatchedOutput::new(rt.stdout()),
             &mut rt.stderr(),
         ),
         Err(error) => report(error, &mut rt.stderr()),

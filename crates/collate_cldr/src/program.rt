@@ -4,71 +4,27 @@ ghost use Rattle.std.specs.Prelude.{◌≤◌, IfOk};
 
 use crate::asked_collator::collator_by_words;
 use crate::csv_command::{check_csv, sort_csv};
+use crate::line_orders::{check_lines, sort_lines};
+use crate::reports::{DIFFERS, DONE, WRONG_WORDS, report, report_unless_closed};
 use crate::search_command::search;
 use clap::ArgMatches;
 use clap::error::{Error, ErrorKind};
 use cldr_collators::{cldr_folder, locale_lines, read_file, root_file};
 use collate_commands::{ProgramError, write_text};
 use collate_words::{
-    asks_for_csv, asks_for_fields, collator_request, field_ends, files_of, keys_of, program,
-    say_wrong_field, separator_of, sort_request_of, text_of, wrong_csv_words, wrong_field_word,
+    CheckWanted, asks_for_csv, asks_for_fields, check_of, collator_request, files_of, program,
+    say_wrong_field, separator_of, text_of, wrong_csv_words, wrong_field_word,
 };
 use compiled_tables::{cldr_version, compiled_tables};
 use counted_neighbours::print_neighbours;
-use field_sorts::{FieldSorts, print_sorted_by_fields, text_sorted_by_fields};
-use icu_collator::Collator;
-use keyed_lines::SortRequest;
-use line_commands::{
-    disorder_text, first_disorder, print_comparison, print_key, print_keys, print_sorted,
-    sorted_text,
-};
-use line_fields::FieldEnds;
-use named_files::{read_inputs, replace_file};
+use line_commands::{print_comparison, print_key, print_keys};
+use named_files::{RunProgress, WatchedOutput, read_inputs, replace_file};
 use order_reasons::{print_explanation, print_reason};
 use std::io::{Read, Write};
-use std::rt::{Env, Files};
+use std::rt::{Clock, Env, Files};
 
 /// The version of the program.
 const VERSION: &str = "0.1";
-
-/// The status of a run: nothing is wrong.
-const DONE: u8 = 0;
-/// Lines aren't in order, or texts differ.
-const DIFFERS: u8 = 1;
-/// The words are wrong.
-const WRONG_WORDS: u8 = 2;
-/// Data, memory, input or output are missing or fail.
-const FAILED: u8 = 3;
-
-/// What is said where lines are to be checked by fields.
-const NO_CHECK_OF_FIELDS: &str =
-    "collate-cldr: --key is for lines that are sorted, and not for --check\n";
-
-/// Writes to standard error what kept the program from its end, and returns the status. That a write fails there
-/// changes nothing.
-pub(crate) fn report<E: Write>(error: ProgramError, errors: &mut E) -> u8
-    ensures { result ≤ 3 }
-{
-    match error {
-        ProgramError::WrongWords => {
-            let _ = write_text(errors, b"collate-cldr: an argument isn't in UTF-8\n");
-            return WRONG_WORDS;
-        }
-        ProgramError::NoMemory => {
-            let _ = write_text(errors, b"collate-cldr: no memory\n");
-        }
-        ProgramError::Refused(line) => {
-            let _ = write_text(errors, line.as_bytes());
-        }
-        ProgramError::ReadFailed => {
-            let _ = write_text(errors, b"collate-cldr: read failed\n");
-        }
-        ProgramError::WriteFailed => {
-            let _ = write_text(errors, b"collate-cldr: write failed\n");
-        }
-    }
-    FAILED
-}
 
 /// Prints a text that was asked for.
 fn print<W: Write>(text: &str, output: &mut W) -> Result<u8, ProgramError>
@@ -162,101 +118,6 @@ fn compile<R: Files + Env + AllocGlobal>(
     Ok(DONE)
 }
 
-/// Whether lines are in order. Where they are not, and that is to be said, the first line that isn't is printed, with
-/// its number from 1 on.
-fn check<R: Files + Env + AllocGlobal, I: Read, E: Write>(
-    rt: &R,
-    matches: &ArgMatches<'_>,
-    is_quiet: bool,
-    input: &mut I,
-    errors: &mut E,
-) -> Result<u8, ProgramError>
-    ensures { IfOk result (λ status. status ≤ 3) }
-{
-    let request = sort_request_of(matches);
-    let collator = collator_by_words(rt, matches)?;
-    let bytes = read_inputs(rt, files_of(matches), request.separator, input)?;
-    let Some(index) = first_disorder(rt.alloc(), &collator, bytes.as_slice(), request)? else {
-        return Ok(DONE);
-    };
-    if !is_quiet {
-        let said = disorder_text(rt.alloc(), bytes.as_slice(), request, index)?;
-        let _ = write_text(errors, said.as_slice());
-    }
-    Ok(DIFFERS)
-}
-
-/// Prints the lines of an input in order, or writes them to a file.
-fn write_sorted<R: Files + AllocGlobal, W: Write>(
-    rt: &R,
-    file: Option<&str>,
-    collator: &Collator,
-    bytes: &[u8],
-    request: SortRequest,
-    output: &mut W,
-) -> Result<(), ProgramError> {
-    match file {
-        Some(file) => {
-            let text = sorted_text(rt.alloc(), collator, bytes, request)?;
-            replace_file(rt, file, text.as_slice())
-        }
-        None => print_sorted(rt.alloc(), collator, bytes, request, output),
-    }
-}
-
-/// Prints the lines of an input in the order of their fields, or writes them to a file.
-fn write_sorted_by_fields<R: Files + AllocGlobal, W: Write>(
-    rt: &R,
-    file: Option<&str>,
-    collator: &Collator,
-    fields: FieldSorts<'_>,
-    bytes: &[u8],
-    request: SortRequest,
-    output: &mut W,
-) -> Result<(), ProgramError> {
-    match file {
-        Some(file) => {
-            let text = text_sorted_by_fields(rt.alloc(), collator, fields, bytes, request)?;
-            replace_file(rt, file, text.as_slice())
-        }
-        None => print_sorted_by_fields(rt.alloc(), collator, fields, bytes, request, output),
-    }
-}
-
-/// Prints lines in order, or writes them to the file that is asked for.
-fn sort<R: Files + Env + AllocGlobal, I: Read, W: Write>(
-    rt: &R,
-    matches: &ArgMatches<'_>,
-    input: &mut I,
-    output: &mut W,
-) -> Result<u8, ProgramError>
-    ensures { IfOk result (λ status. status ≤ 3) }
-{
-    let request = sort_request_of(matches);
-    let collator = collator_by_words(rt, matches)?;
-    let bytes = read_inputs(rt, files_of(matches), request.separator, input)?;
-    let file = matches.get_str("output");
-    if !asks_for_fields(matches) {
-        write_sorted(rt, file, &collator, bytes.as_slice(), request, output)?;
-        return Ok(DONE);
-    }
-    let sorts = keys_of(rt.alloc(), matches)?;
-    let fields = FieldSorts {
-        ends: field_ends(matches).unwrap_or(FieldEnds::AtBlanks),
-        sorts: sorts.as_slice(),
-    };
-    write_sorted_by_fields(
-        rt,
-        file,
-        &collator,
-        fields,
-        bytes.as_slice(),
-        request,
-        output,
-    )?;
-    Ok(DONE)
-}
-
 /// What is said where keys are asked for of records of CSV.
 const NO_KEYS_OF_RECORDS: &str = "collate-cldr: --key is for lines, and --column for --csv\n";
 
@@ -292,29 +153,31 @@ fn says_wrong_csv<R: AllocGlobal, E: Write>(
     }
 }
 
-/// The command `check`: over lines, or over records of CSV.
-fn check_asked<R: Files + Env + AllocGlobal, I: Read, E: Write>(
+/// Checks lines, or records of CSV.
+fn check_asked<R: Files + Env + Clock + AllocGlobal, I: Read, E: Write>(
     rt: &R,
     matches: &ArgMatches<'_>,
     is_quiet: bool,
+    progress: &mut RunProgress,
     input: &mut I,
     errors: &mut E,
 ) -> Result<u8, ProgramError>
     ensures { IfOk result (λ status. status ≤ 3) }
 {
-    if says_wrong_csv(rt, matches, errors)? {
+    if says_wrong_words(rt, matches, errors)? {
         return Ok(WRONG_WORDS);
     }
     if asks_for_csv(matches) {
-        return check_csv(rt, matches, is_quiet, input, errors);
+        return check_csv(rt, matches, is_quiet, progress, input, errors);
     }
-    check(rt, matches, is_quiet, input, errors)
+    check_lines(rt, matches, is_quiet, progress, input, errors)
 }
 
-/// The command `sort`: to sort, or to check.
-fn sort_or_check<R: Files + Env + AllocGlobal, I: Read, W: Write, E: Write>(
+/// Sorts lines, or records of CSV.
+fn sort_asked<R: Files + Env + Clock + AllocGlobal, I: Read, W: Write, E: Write>(
     rt: &R,
     matches: &ArgMatches<'_>,
+    progress: &mut RunProgress,
     input: &mut I,
     output: &mut W,
     errors: &mut E,
@@ -324,17 +187,27 @@ fn sort_or_check<R: Files + Env + AllocGlobal, I: Read, W: Write, E: Write>(
     if says_wrong_words(rt, matches, errors)? {
         return Ok(WRONG_WORDS);
     }
-    let is_quiet = matches.get_flag("check-quietly");
-    let is_check = is_quiet || matches.get_flag("check");
-    if is_check && asks_for_fields(matches) {
-        let _ = write_text(errors, NO_CHECK_OF_FIELDS.as_bytes());
-        return Ok(WRONG_WORDS);
+    if asks_for_csv(matches) {
+        return sort_csv(rt, matches, progress, input, output, errors);
     }
-    match (is_check, asks_for_csv(matches)) {
-        (true, true) => check_csv(rt, matches, is_quiet, input, errors),
-        (true, false) => check(rt, matches, is_quiet, input, errors),
-        (false, true) => sort_csv(rt, matches, input, output),
-        (false, false) => sort(rt, matches, input, output),
+    sort_lines(rt, matches, progress, input, output, errors)
+}
+
+/// The command `sort`: to sort, or to check.
+fn sort_or_check<R: Files + Env + Clock + AllocGlobal, I: Read, W: Write, E: Write>(
+    rt: &R,
+    matches: &ArgMatches<'_>,
+    progress: &mut RunProgress,
+    input: &mut I,
+    output: &mut W,
+    errors: &mut E,
+) -> Result<u8, ProgramError>
+    ensures { IfOk result (λ status. status ≤ 3) }
+{
+    match check_of(matches) {
+        CheckWanted::No => sort_asked(rt, matches, progress, input, output, errors),
+        CheckWanted::Loudly => check_asked(rt, matches, false, progress, input, errors),
+        CheckWanted::Quietly => check_asked(rt, matches, true, progress, input, errors),
     }
 }
 
@@ -402,17 +275,20 @@ fn why<R: Files + Env + AllocGlobal, W: Write>(
 }
 
 /// Prints lines with their keys.
-fn keys<R: Files + Env + AllocGlobal, I: Read, W: Write>(
+fn keys<R: Files + Env + Clock + AllocGlobal, I: Read, W: Write, E: Write>(
     rt: &R,
     matches: &ArgMatches<'_>,
+    progress: &mut RunProgress,
     input: &mut I,
     output: &mut W,
+    errors: &mut E,
 ) -> Result<u8, ProgramError>
     ensures { IfOk result (λ status. status ≤ 3) }
 {
     let separator = separator_of(matches);
     let collator = collator_by_words(rt, matches)?;
-    let bytes = read_inputs(rt, files_of(matches), separator, input)?;
+    let files = files_of(matches);
+    let bytes = read_inputs(rt, files, separator, input, progress, errors)?;
     print_keys(rt.alloc(), &collator, bytes.as_slice(), separator, output)?;
     Ok(DONE)
 }
@@ -430,27 +306,51 @@ fn neighbours<R: Files + Env + AllocGlobal, I: Read + Drop, W: Write>(
     print_neighbours(rt.alloc(), &collator, input, output)
 }
 
+/// Which streams are terminals.
+#[derive(Debug, Clone, Copy)]
+pub(crate) struct Terminals {
+    /// Standard output: matches are shown in colour there, unless words say otherwise.
+    pub(crate) output: bool,
+    /// Standard error: how far a long run has come is said there.
+    pub(crate) errors: bool,
+}
+
 /// What a command does, by its name and what was matched behind it.
-fn run_command<R: Files + Env + AllocGlobal, I: Read + Drop, W: Write, E: Write>(
+fn run_command<R: Files + Env + Clock + AllocGlobal, I: Read + Drop, W: Write, E: Write>(
     rt: &R,
     name: &str,
     matches: &ArgMatches<'_>,
-    is_terminal: bool,
+    terminals: Terminals,
     mut input: I,
     output: &mut W,
     errors: &mut E,
 ) -> Result<u8, ProgramError>
     ensures { IfOk result (λ status. status ≤ 3) }
 {
+    let mut progress = RunProgress::new(rt, terminals.errors);
     match name {
-        "sort" => sort_or_check(rt, matches, &mut input, output, errors),
-        "check" => check_asked(rt, matches, matches.get_flag("quiet"), &mut input, errors),
+        "sort" => sort_or_check(rt, matches, &mut progress, &mut input, output, errors),
+        "check" => {
+            let is_quiet = matches.get_flag("quiet");
+            check_asked(rt, matches, is_quiet, &mut progress, &mut input, errors)
+        }
         "compare" => compare(rt, matches, output),
         "why" => why(rt, matches, output),
-        "search" => search(rt, matches, is_terminal, &mut input, output),
+        "search" => {
+            let is_coloured = terminals.output;
+            search(
+                rt,
+                matches,
+                is_coloured,
+                &mut progress,
+                &mut input,
+                output,
+                errors,
+            )
+        }
         "key" => key(rt, matches, output),
         "explain" => explain(rt, matches, output),
-        "keys" => keys(rt, matches, &mut input, output),
+        "keys" => keys(rt, matches, &mut progress, &mut input, output, errors),
         "compile" => compile(rt, matches),
         _ => neighbours(rt, matches, input, output),
     }
@@ -459,21 +359,26 @@ fn run_command<R: Files + Env + AllocGlobal, I: Read + Drop, W: Write, E: Write>
 /// What is said where no command is named.
 const NO_COMMAND: &str = "collate-cldr: no command; --help says which there are\n";
 
-/// Makes one run of the program over the words behind its name, and returns the status that it ends with. Matches are
-/// shown in colour where standard output is a terminal, unless words say otherwise.
+/// Makes one run of the program over the words behind its name, and returns the status that it ends with.
 ///
 /// - 0: nothing is wrong.
 /// - 1: lines aren't in order, texts differ, or no line was found.
 /// - 2: the words are wrong; `errors` says which.
-/// - 3: data, memory, input or output are missing or fail; `errors` says which.
+/// - 3: data, memory, input or output are missing or fail; `errors` says which, but for an output that nobody reads any
+///   more.
 ///
 /// A failed write to `errors` changes no status.
-pub(crate) fn run<R: Files + Env + AllocGlobal + Clone + Drop, I: Read + Drop, W: Write, E: Write>(
+pub(crate) fn run<
+    R: Files + Env + Clock + AllocGlobal + Clone + Drop,
+    I: Read + Drop,
+    W: Write,
+    E: Write,
+>(
     rt: &R,
     words: &[String],
-    is_terminal: bool,
+    terminals: Terminals,
     input: I,
-    output: &mut W,
+    output: &mut WatchedOutput<W>,
     errors: &mut E,
 ) -> u8
     ensures { result ≤ 3 }
@@ -486,7 +391,7 @@ pub(crate) fn run<R: Files + Env + AllocGlobal + Clone + Drop, I: Read + Drop, W
         Err(error) => return run_wrong_words(rt, &error, output, errors),
     };
     let status = match matches.subcommand() {
-        Some((name, inner)) => run_command(rt, name, inner, is_terminal, input, output, errors),
+        Some((name, inner)) => run_command(rt, name, inner, terminals, input, output, errors),
         None if matches.get_flag("version") => print_versions(rt, &matches, output),
         None if matches.get_flag("list-locales") => print_locales(rt, &matches, output),
         None => {
@@ -496,7 +401,7 @@ pub(crate) fn run<R: Files + Env + AllocGlobal + Clone + Drop, I: Read + Drop, W
     };
     match status {
         Ok(status) => status,
-        Err(error) => report(error, errors),
+        Err(error) => report_unless_closed(error, output.is_closed(), errors),
     }
 }
 
@@ -504,7 +409,7 @@ pub(crate) fn run<R: Files + Env + AllocGlobal + Clone + Drop, I: Read + Drop, W
 fn run_wrong_words<R: AllocGlobal, W: Write, E: Write>(
     rt: &R,
     error: &Error,
-    output: &mut W,
+    output: &mut WatchedOutput<W>,
     errors: &mut E,
 ) -> u8
     ensures { result ≤ 3 }
@@ -517,6 +422,6 @@ fn run_wrong_words<R: AllocGlobal, W: Write, E: Write>(
     };
     match answer_words(error, text.as_str(), output, errors) {
         Ok(status) => status,
-        Err(error) => report(error, errors),
+        Err(error) => report_unless_closed(error, output.is_closed(), errors),
     }
 }

@@ -3,19 +3,26 @@
 ghost use Rattle.std.specs.Prelude.{◌≤◌, IfOk};
 
 use crate::asked_collator::collator_by_words;
+use crate::reports::report;
 use clap::ArgMatches;
 use collate_commands::ProgramError;
-use collate_words::{boundary_of, files_of, separator_of, shown_of, text_of, wanted_of};
+use collate_words::{boundary_of, patterns_of, searched_files, separator_of, shown_of, wanted_of};
+use icu_collator::Collator;
 use icu_text_search::Searcher;
 use line_commands::print_text;
 use line_searches::{SearchRequest, count_wanted, print_count, print_wanted};
-use named_files::{read_input_file, read_standard};
+use named_files::{RunProgress, read_input};
 use std::alloc::{AllocError, Global};
 use std::io::{Read, Write};
-use std::rt::{Env, Files};
+use std::rt::{Clock, Env, Files};
 
 /// The name of standard input, where it stands before lines.
 const STANDARD: &str = "(standard input)";
+
+/// The name of an input, as it stands before lines.
+fn shown_name<'f>(file: &'f str) -> &'f str {
+    if file == "-" { STANDARD } else { file }
+}
 
 /// The name of an input and a byte behind it.
 fn named(alloc: Global, name: &str, behind: u8) -> Result<Vec<u8>, AllocError> {
@@ -28,134 +35,181 @@ fn named(alloc: Global, name: &str, behind: u8) -> Result<Vec<u8>, AllocError> {
 fn search_bytes<R: AllocGlobal, W: Write>(
     rt: &R,
     matches: &ArgMatches<'_>,
-    searcher: &Searcher<'_>,
+    searchers: &[Searcher<'_>],
     name: &str,
     bytes: &[u8],
     request: SearchRequest<'_>,
     output: &mut W,
 ) -> Result<bool, ProgramError> {
     let alloc = rt.alloc();
-    if matches.get_flag("files-with-matches") {
-        let count = count_wanted(alloc, searcher, bytes, request)?;
-        if count > 0 {
+    let is_quiet = matches.get_flag("quiet");
+    if is_quiet || matches.get_flag("files-with-matches") {
+        let is_found = count_wanted(alloc, searchers, bytes, request)? > 0;
+        if is_found && !is_quiet {
             print_text(named(alloc, name, b'\n')?.as_slice(), output)?;
         }
-        return Ok(count > 0);
+        return Ok(is_found);
     }
     if matches.get_flag("count") {
-        let count = print_count(alloc, searcher, bytes, request, output)?;
+        let count = print_count(alloc, searchers, bytes, request, output)?;
         return Ok(count > 0);
     }
-    print_wanted(alloc, searcher, bytes, request, output)
-}
-
-/// Searches an input by its name, and returns whether lines were found.
-fn search_input<R: Files + AllocGlobal, I: Read, W: Write>(
-    rt: &R,
-    matches: &ArgMatches<'_>,
-    searcher: &Searcher<'_>,
-    file: &str,
-    request: SearchRequest<'_>,
-    input: &mut I,
-    output: &mut W,
-) -> Result<bool, ProgramError> {
-    let separator = request.separator;
-    if file == "-" {
-        let bytes = read_standard(rt, separator, input)?;
-        return search_bytes(
-            rt,
-            matches,
-            searcher,
-            STANDARD,
-            bytes.as_slice(),
-            request,
-            output,
-        );
-    }
-    let bytes = read_input_file(rt, file, separator)?;
-    search_bytes(
-        rt,
-        matches,
-        searcher,
-        file,
-        bytes.as_slice(),
-        request,
-        output,
-    )
+    print_wanted(alloc, searchers, bytes, request, output)
 }
 
 /// What stands before each line of an input: its name, where there are several.
 fn prefix_of(alloc: Global, file: &str, is_named: bool) -> Result<Vec<u8>, AllocError> {
-    if !is_named {
-        return Ok(Vec::new(alloc));
+    if is_named {
+        named(alloc, shown_name(file), b':')
+    } else {
+        Ok(Vec::new(alloc))
     }
-    named(alloc, if file == "-" { STANDARD } else { file }, b':')
 }
 
-/// Searches files one after another, and returns whether lines were found.
-fn search_files<R: Files + AllocGlobal, I: Read, W: Write>(
+/// What a search came to.
+#[derive(Debug, Clone, Copy)]
+struct Found {
+    /// Lines were found.
+    some: bool,
+    /// An input wasn't read, and was named.
+    is_unread: bool,
+}
+
+impl Found {
+    /// The status: 0 where lines were found and all inputs were read, or nothing but that is asked for; 3 where an
+    /// input wasn't read; else 1.
+    fn status(self, is_quiet: bool) -> u8
+        ensures { result ≤ 3 }
+    {
+        match (self.some, self.is_unread) {
+            (true, true) if is_quiet => 0,
+            (_, true) => 3,
+            (true, false) => 0,
+            (false, false) => 1,
+        }
+    }
+}
+
+/// Searches an input by its name, and returns whether lines were found, or `None` where it isn't read: that is said.
+fn search_input<R: Files + Clock + AllocGlobal, I: Read, W: Write, E: Write>(
     rt: &R,
     matches: &ArgMatches<'_>,
-    searcher: &Searcher<'_>,
-    files: &[&str],
+    searchers: &[Searcher<'_>],
+    file: &str,
     request: SearchRequest<'_>,
+    progress: &mut RunProgress,
     input: &mut I,
     output: &mut W,
-) -> Result<bool, ProgramError> {
-    let mut is_found = false;
+    errors: &mut E,
+) -> Result<Option<bool>, ProgramError> {
+    let bytes = match read_input(rt, file, request.separator, input, progress, errors) {
+        Ok(bytes) => bytes,
+        Err(ProgramError::NoMemory) => return Err(ProgramError::NoMemory),
+        Err(error) => {
+            let _ = report(error, errors);
+            return Ok(None);
+        }
+    };
+    let found = search_bytes(
+        rt,
+        matches,
+        searchers,
+        shown_name(file),
+        bytes.as_slice(),
+        request,
+        output,
+    )?;
+    Ok(Some(found))
+}
+
+/// Searches inputs one after another. One that isn't read is named, and the others are searched. Where nothing is
+/// printed it ends with the first that has such a line.
+fn search_inputs<R: Files + Clock + AllocGlobal, I: Read, W: Write, E: Write>(
+    rt: &R,
+    matches: &ArgMatches<'_>,
+    searchers: &[Searcher<'_>],
+    files: &[&str],
+    request: SearchRequest<'_>,
+    progress: &mut RunProgress,
+    input: &mut I,
+    output: &mut W,
+    errors: &mut E,
+) -> Result<Found, ProgramError> {
+    let mut all = Found {
+        some: false,
+        is_unread: false,
+    };
     for file in files {
         let prefix = prefix_of(rt.alloc(), file, files.len() > 1)?;
         let named = SearchRequest {
             prefix: prefix.as_slice(),
             ..request
         };
-        let found = search_input(rt, matches, searcher, file, named, input, output)?;
-        is_found = is_found || found;
+        match search_input(
+            rt, matches, searchers, file, named, progress, input, output, errors,
+        )? {
+            Some(found) => all.some = all.some || found,
+            None => all.is_unread = true,
+        }
+        if all.some && matches.get_flag("quiet") {
+            return Ok(all);
+        }
     }
-    Ok(is_found)
+    Ok(all)
 }
 
-/// What is searched where no file is named.
-static STANDARD_ALONE: [&str; 1] = ["-"];
-
-/// Searches the files that are named, or standard input where none is, and returns whether lines were found.
-fn search_inputs<R: Files + AllocGlobal, I: Read, W: Write>(
-    rt: &R,
-    matches: &ArgMatches<'_>,
-    searcher: &Searcher<'_>,
-    request: SearchRequest<'_>,
-    input: &mut I,
-    output: &mut W,
-) -> Result<bool, ProgramError> {
-    let files = files_of(matches);
-    if files.is_empty() {
-        let files = STANDARD_ALONE.as_slice();
-        return search_files(rt, matches, searcher, files, request, input, output);
+/// The patterns that words ask for, read.
+fn searchers_of<'c>(
+    alloc: Global,
+    collator: &'c Collator,
+    patterns: &[&str],
+) -> Result<Vec<Searcher<'c>>, AllocError> {
+    let mut searchers = Vec::new(alloc);
+    for pattern in patterns {
+        searchers.push(Searcher::new(alloc, collator, pattern)?)?;
     }
-    search_files(rt, matches, searcher, files, request, input, output)
+    Ok(searchers)
 }
 
-/// Prints the lines that hold a match of a pattern, and returns the status: 0 where there are some, and else 1.
-pub(crate) fn search<R: Files + Env + AllocGlobal, I: Read, W: Write>(
-    rt: &R,
-    matches: &ArgMatches<'_>,
-    is_terminal: bool,
-    input: &mut I,
-    output: &mut W,
-) -> Result<u8, ProgramError>
-    ensures { IfOk result (λ status. status ≤ 3) }
-{
-    let collator = collator_by_words(rt, matches)?;
-    let pattern = text_of(matches, "PATTERN");
-    let searcher = Searcher::new(rt.alloc(), &collator, pattern)?;
-    let request = SearchRequest {
+/// How lines are searched for and printed, by words.
+fn request_of<'p>(matches: &ArgMatches<'_>, is_terminal: bool) -> SearchRequest<'p> {
+    SearchRequest {
         wanted: wanted_of(matches),
         boundary: boundary_of(matches),
         shown: shown_of(matches, is_terminal),
         prefix: &[],
         is_numbered: matches.get_flag("line-number"),
         separator: separator_of(matches),
-    };
-    let is_found = search_inputs(rt, matches, &searcher, request, input, output)?;
-    Ok(if is_found { 0 } else { 1 })
+    }
+}
+
+/// Prints the lines that hold a match of a pattern, and returns the status: 0 where there are some, and else 1; 3 where
+/// an input isn't read, which is named.
+pub(crate) fn search<R: Files + Env + Clock + AllocGlobal, I: Read, W: Write, E: Write>(
+    rt: &R,
+    matches: &ArgMatches<'_>,
+    is_terminal: bool,
+    progress: &mut RunProgress,
+    input: &mut I,
+    output: &mut W,
+    errors: &mut E,
+) -> Result<u8, ProgramError>
+    ensures { IfOk result (λ status. status ≤ 3) }
+{
+    let collator = collator_by_words(rt, matches)?;
+    let patterns = patterns_of(rt.alloc(), matches)?;
+    let searchers = searchers_of(rt.alloc(), &collator, patterns.as_slice())?;
+    let files = searched_files(rt.alloc(), matches)?;
+    let found = search_inputs(
+        rt,
+        matches,
+        searchers.as_slice(),
+        files.as_slice(),
+        request_of(matches, is_terminal),
+        progress,
+        input,
+        output,
+        errors,
+    )?;
+    Ok(found.status(matches.get_flag("quiet")))
 }

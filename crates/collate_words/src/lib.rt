@@ -16,6 +16,6 @@ pub use csv_words::{
 };
 pub use field_options::{asks_for_fields, field_ends, keys_of, say_wrong_field, wrong_field_word};
 pub use named_settings::{chosen_by, strength_of};
-pub use search_options::{boundary_of, shown_of, wanted_of};
-pub use sort_options::{separator_of, sort_request_of};
+pub use search_options::{boundary_of, patterns_of, searched_files, shown_of, wanted_of};
+pub use sort_options::{CheckWanted, check_of, separator_of, sort_request_of};
 pub use words::{files_of, program, text_of};

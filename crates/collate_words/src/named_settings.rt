@@ -50,10 +50,11 @@ fn case_named(word: &str) -> Option<CollationCaseFirst> {
     }
 }
 
-/// The strength that an option names, if it is there.
+/// The strength that an option names, if one does: else two levels where an option says that case doesn't count.
 pub fn strength_of(matches: &ArgMatches<'_>) -> Option<Strength> {
     match matches.get_str("strength") {
         Some(word) => strength_named(word),
+        None if matches.get_flag("ignore-case") => Some(Strength::Secondary),
         None => None,
     }
 }

@@ -45,3 +45,26 @@ pub fn sort_request_of(matches: &ArgMatches<'_>) -> SortRequest {
         separator: separator_of(matches),
     }
 }
+
+/// Whether lines are to be checked in place of being sorted.
+#[derive(Debug, Clone, Copy, PartialEq, Eq)]
+pub enum CheckWanted {
+    /// They are to be sorted.
+    No,
+    /// They are to be checked, and the first that isn't in order is printed.
+    Loudly,
+    /// They are to be checked, and nothing is printed.
+    Quietly,
+}
+
+/// Whether the options of a sort ask for a check.
+pub fn check_of(matches: &ArgMatches<'_>) -> CheckWanted {
+    if matches.get_flag("check-quietly") {
+        return CheckWanted::Quietly;
+    }
+    match matches.get_str("check") {
+        None => CheckWanted::No,
+        Some("quiet" | "silent") => CheckWanted::Quietly,
+        Some(_) => CheckWanted::Loudly,
+    }
+}

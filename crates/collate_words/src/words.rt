@@ -20,6 +20,8 @@ static HANDLINGS: [&str; 3] = ["non-ignorable", "shifted", "blanked"];
 
 static CASES: [&str; 3] = ["off", "lower", "upper"];
 
+static CHECKS: [&str; 3] = ["diagnose-first", "quiet", "silent"];
+
 static COLOURS: [&str; 3] = ["auto", "always", "never"];
 
 static GROUPS: [&str; 4] = ["space", "punctuation", "symbol", "currency"];
@@ -211,45 +213,9 @@ fn with_csv<'a>(alloc: Global, command: Command<'a>) -> Result<Command<'a>, Allo
         .allow_hyphen_values(true))
 }
 
-/// A command over lines in an order.
-fn ordering_command<'a>(
-    alloc: Global,
-    name: &'a str,
-    about: &'a str,
-) -> Result<Command<'a>, AllocError> {
-    let command = line_command(alloc, name, about)?;
-    with_csv(alloc, command)?
-        .arg(letter(alloc, "reverse", 'r', "The greatest line first"))?
-        .arg(letter(
-            alloc,
-            "unique",
-            'u',
-            "Of lines that are equal the first alone",
-        ))?
-        .arg(letter(
-            alloc,
-            "stable",
-            's',
-            "Lines that are equal stand as they came, and not by their bytes",
-        ))
-}
-
-/// The command `sort`.
-fn sort_command<'a>(alloc: Global) -> Result<Command<'a>, AllocError> {
-    ordering_command(alloc, "sort", "Prints the lines of files in order")?
-        .arg(valued(
-            alloc,
-            "output",
-            "OUT",
-            "Writes to this file, which may be one that is read",
-        )
-        .short('o'))?
-        .arg(letter(
-            alloc,
-            "merge",
-            'm',
-            "The lines of each file are in order already",
-        ))?
+/// A command with the options for keys of lines.
+fn with_keys<'a>(alloc: Global, command: Command<'a>) -> Result<Command<'a>, AllocError> {
+    command
         .arg(
             valued(
                 alloc,
@@ -269,8 +235,64 @@ fn sort_command<'a>(alloc: Global) -> Result<Command<'a>, AllocError> {
             )
             .short('t')
             .allow_hyphen_values(true),
-        )?
-        .arg(letter(alloc, "check", 'c', "As the command check"))?
+        )
+}
+
+/// A command over lines in an order.
+fn ordering_command<'a>(
+    alloc: Global,
+    name: &'a str,
+    about: &'a str,
+) -> Result<Command<'a>, AllocError> {
+    let command = line_command(alloc, name, about)?;
+    with_keys(alloc, with_csv(alloc, command)?)?
+        .arg(letter(alloc, "reverse", 'r', "The greatest line first"))?
+        .arg(letter(
+            alloc,
+            "unique",
+            'u',
+            "Of lines that are equal the first alone",
+        ))?
+        .arg(letter(
+            alloc,
+            "stable",
+            's',
+            "Lines that are equal stand as they came, and not by their bytes",
+        ))
+}
+
+/// The option that checks lines in place of sorting them, as GNU sort has it.
+fn check_option<'a>(alloc: Global) -> Arg<'a> {
+    valued(
+        alloc,
+        "check",
+        "HOW",
+        "As the command check: whether lines are in order, with the first that isn't, or quietly",
+    )
+    .short('c')
+    .num_args(0..=1)
+    .require_equals(true)
+    .default_missing_value("diagnose-first")
+    .value_parser(CHECKS.as_slice())
+}
+
+/// The command `sort`.
+fn sort_command<'a>(alloc: Global) -> Result<Command<'a>, AllocError> {
+    ordering_command(alloc, "sort", "Prints the lines of files in order")?
+        .arg(valued(
+            alloc,
+            "output",
+            "OUT",
+            "Writes to this file, which may be one that is read",
+        )
+        .short('o'))?
+        .arg(letter(
+            alloc,
+            "merge",
+            'm',
+            "The lines of each file are in order already",
+        ))?
+        .arg(check_option(alloc))?
         .arg(letter(alloc, "check-quietly", 'C', "As the command check --quiet"))
 }
 
@@ -318,12 +340,16 @@ fn explain_command<'a>(alloc: Global) -> Result<Command<'a>, AllocError> {
 
 /// The command `search`.
 fn search_command<'a>(alloc: Global) -> Result<Command<'a>, AllocError> {
+    let pattern = Arg::new(alloc, "PATTERN")
+        .required_unless_present("regexp")?
+        .allow_hyphen_values(true)
+        .help("What is searched for: a text, and no regular expression");
     let command = command(
         alloc,
         "search",
         "Prints the lines that hold a match of a pattern: status 0 if there are some, else 1",
     )?
-    .arg(text(alloc, "PATTERN"))?
+    .arg(pattern)?
     .arg(files(alloc))?
     .arg(letter(
         alloc,
@@ -331,13 +357,44 @@ fn search_command<'a>(alloc: Global) -> Result<Command<'a>, AllocError> {
         'z',
         "Lines end with a zero byte in place of a line feed",
     ))?;
-    with_search_options(alloc, command)
+    with_search_options(alloc, with_pattern_options(alloc, command)?)
+}
+
+/// A command with the options that say what is searched for.
+fn with_pattern_options<'a>(
+    alloc: Global,
+    command: Command<'a>,
+) -> Result<Command<'a>, AllocError> {
+    command
+        .arg(
+            valued(
+                alloc,
+                "regexp",
+                "PATTERN",
+                "Searches for this text, in place of the first word; further ones too",
+            )
+            .short('e')
+            .allow_hyphen_values(true)
+            .action(ArgAction::Append),
+        )?
+        .arg(letter(
+            alloc,
+            "ignore-case",
+            'i',
+            "Case doesn't count: two levels count where no strength is said",
+        ))
 }
 
 /// A command with the options of a search.
 fn with_search_options<'a>(alloc: Global, command: Command<'a>) -> Result<Command<'a>, AllocError> {
     command
         .arg(letter(alloc, "count", 'c', "Prints how many lines there are"))?
+        .arg(letter(
+            alloc,
+            "quiet",
+            'q',
+            "Prints nothing, and ends with the first file that has such a line",
+        ))?
         .arg(letter(alloc, "invert-match", 'v', "The lines that hold no match"))?
         .arg(letter(
             alloc,
@@ -362,13 +419,16 @@ fn with_search_options<'a>(alloc: Global, command: Command<'a>) -> Result<Comman
             'w',
             "A match begins and ends at boundaries of words",
         ))?
-        .arg(valued(
-            alloc,
-            "colour",
-            "WHEN",
-            "Whether matches are in colour; auto, if none is said: on a terminal",
+        .arg(
+            valued(
+                alloc,
+                "colour",
+                "WHEN",
+                "Whether matches are in colour; auto, if none is said: on a terminal",
+            )
+            .visible_alias("color")?
+            .value_parser(COLOURS.as_slice()),
         )
-        .value_parser(COLOURS.as_slice()))
 }
 
 /// The command `key`.

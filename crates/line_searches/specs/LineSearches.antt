@@ -6,6 +6,7 @@ use Rattle.icu_search.specs.Searches.{Search, found}
 use Rattle.icu_text_search.specs.Searchers.{search_by}
 use Rattle.icu_text_search.specs.TextOffsets.{match_in_units, str_offsets}
 use Rattle.icu_text_search.specs.declared.boundary.Boundary.{Boundary}
+use Rattle.line_searches.specs.JoinedMatches.{matches_joined}
 use Rattle.line_searches.specs.declared.search_request.Wanted.{Wanted}
 use Rattle.line_searches.specs.declared.search_request.Wanted.TheVariants.{WithMatch, WithoutMatch}
 
@@ -18,9 +19,15 @@ abbrev pub found_by : Boundary → Search → List ℕ → List ℕ → List Spa
 found_by boundary s text bytes =
     map (match_in_units (str_offsets text)) (found (search_by boundary s (str_offsets text) bytes) text)
 
--- the matches that are found in a line, by the bytes of the decoded line
-abbrev pub found_in : Boundary → Search → List ℕ → List Span
-found_in boundary s line = found_by boundary s (utf8_text line) (decoded_line line)
+-- with matches that were found before, those that are found by further patterns
+abbrev pub found_more : Boundary → List ℕ → List ℕ → List Span → List Search → List Span
+found_more boundary text bytes found [] = found
+found_more boundary text bytes found (s ∷ searches) =
+    found_more boundary text bytes (matches_joined found (found_by boundary s text bytes)) searches
+
+-- the matches that are found in a line by some patterns, by the bytes of the decoded line
+abbrev pub found_in : Boundary → List Search → List ℕ → List Span
+found_in boundary searches line = found_more boundary (utf8_text line) (decoded_line line) [] searches
 
 -- whether there are matches
 abbrev pub are_some : List Span → Bool

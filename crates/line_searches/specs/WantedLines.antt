@@ -44,17 +44,17 @@ abbrev pub shown_if_wanted : SearchRequest → ℕ → List ℕ → List Span �
 shown_if_wanted r number line matches = if is_line_wanted r.wanted matches then shown_with r.shown r number line matches else []
 
 -- whether a request wants a line
-abbrev pub wants : SearchRequest → Search → List ℕ → Bool
+abbrev pub wants : SearchRequest → List Search → List ℕ → Bool
 wants r s line = is_line_wanted r.wanted (found_in r.boundary s line)
 
 -- the lines that are wanted, as they are printed, where the first has this number
-abbrev pub wanted_from : SearchRequest → Search → ℕ → List (List ℕ) → List ℕ
+abbrev pub wanted_from : SearchRequest → List Search → ℕ → List (List ℕ) → List ℕ
 wanted_from r s number [] = []
 wanted_from r s number (line ∷ lines) =
     shown_if_wanted r number line (found_in r.boundary s line) ++ wanted_from r s (number + 1) lines
 
 -- how many lines are wanted
-abbrev pub wanted_count : SearchRequest → Search → List (List ℕ) → ℕ
+abbrev pub wanted_count : SearchRequest → List Search → List (List ℕ) → ℕ
 wanted_count r s lines = length (filter (wants r s) lines)
 
 -- a number behind what stands before it, with a line feed

@@ -1,6 +1,8 @@
-//! Lines that hold a match of a pattern by a collator (UTS #10, "Searching and Matching"), and those that don't.
+//! Lines that hold a match of a pattern, or of one of several, by a collator (UTS #10, "Searching and Matching"), and
+//! those that don't.
 #![tactic(auto)]
 
+mod joined_matches;
 pub mod line_matches;
 pub mod printed_searches;
 pub mod search_request;

@@ -1,13 +1,14 @@
-//! The matches of a line.
+//! The matches of a line by several patterns.
 
-ghost use Rattle.std.specs.Prelude.{◌≡◌, IfOk, chars, map, string_bytes};
+ghost use Rattle.std.specs.Prelude.{◌≡◌, [], IfOk, chars, map, string_bytes};
 ghost use Rattle.icu_encodings.specs.DecodedTexts.{utf8_text};
 ghost use Rattle.icu_search.specs.Searches.{found};
 ghost use Rattle.icu_text_search.specs.SearchedTexts.{offsets_searched, searched_in, text_searched};
 ghost use Rattle.icu_text_search.specs.Searchers.{search_of};
 ghost use Rattle.icu_text_search.specs.TextOffsets.{match_in_units};
-ghost use Rattle.line_searches.specs.LineSearches.{are_some, decoded_line, found_by, found_in, is_line_wanted};
+ghost use Rattle.line_searches.specs.LineSearches.{are_some, decoded_line, found_by, found_in, found_more, is_line_wanted};
 
+use crate::joined_matches::joined_matches;
 use crate::search_request::Wanted;
 use icu_encodings::Utf8Text;
 use icu_indexed_text::utf8_copy;
@@ -62,20 +63,39 @@ fn matches_of_text(
     Ok(list)
 }
 
-/// The matches that are found in a line between boundaries of a kind. A line is bytes in UTF-8 that may be damaged.
-/// Fails only where an allocation does.
+/// The matches that are found in a text by some patterns, between boundaries of a kind, by its bytes.
+fn matches_of_patterns(
+    alloc: Global,
+    searchers: &[Searcher<'_>],
+    boundary: Boundary,
+    text: &str,
+) -> Result<Vec<Match>, AllocError>
+    ensures { let t = chars text.now in IfOk result (λ list. list.items
+        ≡ found_more boundary t text.now [] (map search_of searchers.now)) }
+{
+    let mut all = Vec::new(alloc);
+    for searcher in searchers {
+        let found = matches_of_text(alloc, searcher, boundary, text)?;
+        all = joined_matches(alloc, all.as_slice(), found.as_slice())?;
+    }
+    Ok(all)
+}
+
+/// The matches that are found in a line by some patterns, between boundaries of a kind: of those that overlap the one
+/// that begins first, or of those that begin together the longest. A line is bytes in UTF-8 that may be damaged. Fails
+/// only where an allocation does.
 pub fn matches_of_line(
     alloc: Global,
-    searcher: &Searcher<'_>,
+    searchers: &[Searcher<'_>],
     boundary: Boundary,
     line: &[u8],
 ) -> Result<LineMatches, AllocError>
     ensures decoded { IfOk result (λ m. string_bytes m.decoded ≡ decoded_line line.now) }
     ensures matches { IfOk result (λ m. m.matches.items
-        ≡ found_in boundary (search_of searcher.now) line.now) }
+        ≡ found_in boundary (map search_of searchers.now) line.now) }
 {
     let decoded = decoded_line(alloc, line)?;
-    let matches = matches_of_text(alloc, searcher, boundary, decoded.as_str())?;
+    let matches = matches_of_patterns(alloc, searchers, boundary, decoded.as_str())?;
     Ok(LineMatches { decoded, matches })
 }
 

@@ -1,6 +1,6 @@
 //! What the command prints.
 
-ghost use Rattle.std.specs.Prelude.{◌≡◌, IfErr, IfOk, OnOk, nat_lt};
+ghost use Rattle.std.specs.Prelude.{◌≡◌, IfErr, IfOk, OnOk, map, nat_lt};
 ghost use Rattle.std.specs.Io.KnownBytes.{Appends};
 ghost use Rattle.icu_text_search.specs.Searchers.{search_of};
 ghost use Rattle.keyed_lines.specs.InputLines.{lines_by};
@@ -24,23 +24,23 @@ use std::io::Write;
 /// printed.
 pub fn print_wanted<W: Write>(
     alloc: Global,
-    searcher: &Searcher<'_>,
+    searchers: &[Searcher<'_>],
     input: &[u8],
     request: SearchRequest<'_>,
     output: &mut W,
 ) -> Result<bool, ProgramError>
-    ensures ok { let text = wanted_from request.entry (search_of searcher.now) 1
+    ensures ok { let text = wanted_from request.entry (map search_of searchers.now) 1
         (lines_by request.entry.separator input.now) in
         OnOk result (Appends (W.contents output.old) (W.contents output.new) text) }
-    ensures some { let count = wanted_count request.entry (search_of searcher.now)
+    ensures some { let count = wanted_count request.entry (map search_of searchers.now)
         (lines_by request.entry.separator input.now) in
         IfOk result (λ b. b ≡ nat_lt 0 count) }
-    ensures stops { let text = wanted_from request.entry (search_of searcher.now) 1
+    ensures stops { let text = wanted_from request.entry (map search_of searchers.now) 1
         (lines_by request.entry.separator input.now) in
         IfErr result (StopsPrinting (λ t. t ≡ text)
         (W.contents output.old) (W.contents output.new)) }
 {
-    let wanted = wanted_text(alloc, searcher, input, request)?;
+    let wanted = wanted_text(alloc, searchers, input, request)?;
     print_text(wanted.text.as_slice(), output)?;
     Ok(wanted.count > 0)
 }
@@ -63,21 +63,21 @@ fn count_line(alloc: Global, prefix: &[u8], count: usize) -> Result<Vec<u8>, All
 /// Those of `print_wanted`.
 pub fn print_count<W: Write>(
     alloc: Global,
-    searcher: &Searcher<'_>,
+    searchers: &[Searcher<'_>],
     input: &[u8],
     request: SearchRequest<'_>,
     output: &mut W,
 ) -> Result<usize, ProgramError>
-    ensures ok { let count = wanted_count request.entry (search_of searcher.now)
+    ensures ok { let count = wanted_count request.entry (map search_of searchers.now)
         (lines_by request.entry.separator input.now) in
         IfOk result (λ n. (n ≡ count) × Appends (W.contents output.old) (W.contents output.new)
         (count_text request.entry.prefix.now count)) }
-    ensures stops { let count = wanted_count request.entry (search_of searcher.now)
+    ensures stops { let count = wanted_count request.entry (map search_of searchers.now)
         (lines_by request.entry.separator input.now) in
         IfErr result (StopsPrinting (λ t. t ≡ count_text request.entry.prefix.now count)
         (W.contents output.old) (W.contents output.new)) }
 {
-    let count = count_wanted(alloc, searcher, input, request)?;
+    let count = count_wanted(alloc, searchers, input, request)?;
     let line = count_line(alloc, request.prefix, count)?;
     print_text(line.as_slice(), output)?;
     Ok(count)

@@ -1,6 +1,6 @@
 //! The lines that are wanted.
 
-ghost use Rattle.std.specs.Prelude.{◌≡◌, ◌++◌, IfOk, OnOk};
+ghost use Rattle.std.specs.Prelude.{◌≡◌, ◌++◌, IfOk, OnOk, map};
 ghost use Rattle.icu_text_search.specs.Searchers.{search_of};
 ghost use Rattle.keyed_lines.specs.InputLines.{lines_by};
 ghost use Rattle.line_searches.specs.LineSearches.{decoded_line, found_in};
@@ -68,7 +68,7 @@ pub struct WantedText {
 /// Appends a line as it is printed, if it is wanted, and returns whether it is.
 fn push_wanted(
     alloc: Global,
-    searcher: &Searcher<'_>,
+    searchers: &[Searcher<'_>],
     text: &mut Vec<u8>,
     request: SearchRequest<'_>,
     number: usize,
@@ -76,10 +76,11 @@ fn push_wanted(
 ) -> Result<bool, AllocError>
     ensures text { OnOk result (text.new.items ≡ text.old.items
         ++ shown_if_wanted request.entry number line.now
-        (found_in request.entry.boundary (search_of searcher.now) line.now)) }
-    ensures wanted { IfOk result (λ b. b ≡ wants request.entry (search_of searcher.now) line.now) }
+        (found_in request.entry.boundary (map search_of searchers.now) line.now)) }
+    ensures wanted { IfOk result (λ b. b
+        ≡ wants request.entry (map search_of searchers.now) line.now) }
 {
-    let found = matches_of_line(alloc, searcher, request.boundary, line)?;
+    let found = matches_of_line(alloc, searchers, request.boundary, line)?;
     if !is_line_wanted(request.wanted, found.matches.as_slice()) {
         return Ok(false);
     }
@@ -102,21 +103,21 @@ fn push_wanted(
 /// Fails only where an allocation does.
 pub fn wanted_text(
     alloc: Global,
-    searcher: &Searcher<'_>,
+    searchers: &[Searcher<'_>],
     bytes: &[u8],
     request: SearchRequest<'_>,
 ) -> Result<WantedText, AllocError>
     ensures text { IfOk result (λ wanted. wanted.text.items ≡ wanted_from request.entry
-        (search_of searcher.now) 1 (lines_by request.entry.separator bytes.now)) }
+        (map search_of searchers.now) 1 (lines_by request.entry.separator bytes.now)) }
     ensures count { IfOk result (λ wanted. wanted.count ≡ wanted_count request.entry
-        (search_of searcher.now) (lines_by request.entry.separator bytes.now)) }
+        (map search_of searchers.now) (lines_by request.entry.separator bytes.now)) }
 {
     let lines = lines_by(alloc, bytes, request.separator)?;
     let mut text = Vec::new(alloc);
     let mut number = 1usize;
     let mut count = 0usize;
     for line in lines.as_slice() {
-        let is_wanted = push_wanted(alloc, searcher, &mut text, request, number, line)?;
+        let is_wanted = push_wanted(alloc, searchers, &mut text, request, number, line)?;
         number += 1;
         if is_wanted {
             count += 1;
@@ -128,13 +129,13 @@ pub fn wanted_text(
 /// Whether a line is wanted.
 fn wants(
     alloc: Global,
-    searcher: &Searcher<'_>,
+    searchers: &[Searcher<'_>],
     request: SearchRequest<'_>,
     line: &[u8],
 ) -> Result<bool, AllocError>
-    ensures { IfOk result (λ b. b ≡ wants request.entry (search_of searcher.now) line.now) }
+    ensures { IfOk result (λ b. b ≡ wants request.entry (map search_of searchers.now) line.now) }
 {
-    let found = matches_of_line(alloc, searcher, request.boundary, line)?;
+    let found = matches_of_line(alloc, searchers, request.boundary, line)?;
     Ok(is_line_wanted(request.wanted, found.matches.as_slice()))
 }
 
@@ -145,17 +146,17 @@ fn wants(
 /// Fails only where an allocation does.
 pub fn count_wanted(
     alloc: Global,
-    searcher: &Searcher<'_>,
+    searchers: &[Searcher<'_>],
     bytes: &[u8],
     request: SearchRequest<'_>,
 ) -> Result<usize, AllocError>
     ensures { IfOk result (λ count. count ≡ wanted_count request.entry
-        (search_of searcher.now) (lines_by request.entry.separator bytes.now)) }
+        (map search_of searchers.now) (lines_by request.entry.separator bytes.now)) }
 {
     let lines = lines_by(alloc, bytes, request.separator)?;
     let mut count = 0usize;
     for line in lines.as_slice() {
-        if wants(alloc, searcher, request, line)? {
+        if wants(alloc, searchers, request, line)? {
             count += 1;
         }
     }

@@ -1,1 +1,2 @@
 pub mod NamedErrors
+pub mod WatchedOutputs

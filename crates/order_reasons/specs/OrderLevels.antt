@@ -1,13 +1,16 @@
 -- The levels of a collation, one by one (UTS #10, "Multi-Level Comparison"; UTS #35 part 5, "Setting Options").
-use Rattle.std.specs.Prelude.{ℕ, Bool, true, false, not, ◌&&◌, List, [], ◌∷◌, Option, Some, None, if◌then◌else◌, drop, length}
+use Rattle.std.specs.Prelude.{ℕ, Bool, true, false, not, ◌&&◌, List, [], ◌∷◌, Option, Some, None, if◌then◌else◌}
 use Rattle.std.specs.Ordering.{is_eq}
-use Rattle.icu_options.specs.Settings.{Settings, has_tertiary_level}
+use Rattle.icu_options.specs.Settings.{Settings}
 use Rattle.icu_options.specs.declared.settings.Strength.{Strength}
 use Rattle.icu_options.specs.declared.settings.Strength.TheVariants as strengths
 use Rattle.icu_weighting.specs.Collations.{Collation}
-use Rattle.icu_text_order.specs.TextOrder.{text_key, text_order}
-use Rattle.order_reasons.specs.declared.order_level.OrderLevel.{OrderLevel}
-use Rattle.order_reasons.specs.declared.order_level.OrderLevel.TheVariants.{Primary, Secondary, Case, Tertiary, Quaternary, Identical}
+use Rattle.icu_weighting.specs.Forms.{form_by, last_variable_by}
+use Rattle.icu_text_order.specs.TextOrder.{reading_by, text_order}
+use Rattle.level_weights.specs.Weighings.{Weighing}
+use Rattle.text_explanations.specs.DecidingParts.{deciding_part}
+use Rattle.level_weights.specs.declared.order_level.OrderLevel.{OrderLevel}
+use Rattle.level_weights.specs.declared.order_level.OrderLevel.TheVariants.{Primary, Secondary, Case, Tertiary, Quaternary, Identical}
 
 -- ---- which levels count
 
@@ -100,3 +103,17 @@ first_differing c t u (l ∷ ls) = if differ_by c t u l then Some l else first_d
 -- the level that decides the order of two texts, if they differ
 abbrev pub deciding_level : Collation → List ℕ → List ℕ → Option OrderLevel
 deciding_level c t u = first_differing c t u all_levels
+
+-- how a level of a collation weighs elements
+abbrev pub weighing_by : Collation → OrderLevel → Weighing
+weighing_by c l = record {
+  level = l;
+  form = form_by c;
+  reordering = c.tables.reordering;
+  handling = c.settings.alternate_handling;
+  last_variable = last_variable_by c;
+}
+
+-- the characters of a text that decide at a level, beside another text
+abbrev pub deciding_part_by : Collation → OrderLevel → List ℕ → List ℕ → List ℕ
+deciding_part_by c l text other = deciding_part (reading_by c) (weighing_by c l) text other

@@ -1,14 +1,13 @@
 -- How the levels of a text, and what decides the order of two, are shown.
-use Rattle.std.specs.Prelude.{ℕ, List, [], ◌∷◌, ◌++◌, Option, Some, None, codes, drop, length, if◌then◌else◌}
-use Rattle.std.specs.declared.cmp.Ordering.{Ordering}
+use Rattle.std.specs.Prelude.{ℕ, List, [], ◌∷◌, ◌++◌, Option, Some, None, codes, drop, encode_utf8_all, length, if◌then◌else◌}
 use Rattle.collate_commands.specs.Answers.{sign_of}
 use Rattle.collate_commands.specs.KeyText.{key_text}
 use Rattle.icu_weighting.specs.Collations.{Collation}
 use Rattle.icu_text_order.specs.TextOrder.{reading_by, text_key, text_order}
 use Rattle.text_explanations.specs.Explanations.{explanation_of}
-use Rattle.order_reasons.specs.OrderLevels.{all_levels, level_counts, deciding_level, up_to}
-use Rattle.order_reasons.specs.declared.order_level.OrderLevel.{OrderLevel}
-use Rattle.order_reasons.specs.declared.order_level.OrderLevel.TheVariants.{Primary, Secondary, Case, Tertiary, Quaternary, Identical}
+use Rattle.order_reasons.specs.OrderLevels.{all_levels, level_counts, deciding_level, deciding_part_by, up_to}
+use Rattle.level_weights.specs.declared.order_level.OrderLevel.{OrderLevel}
+use Rattle.level_weights.specs.declared.order_level.OrderLevel.TheVariants.{Primary, Secondary, Case, Tertiary, Quaternary, Identical}
 
 -- the name of a level
 abbrev pub level_name : OrderLevel → List ℕ
@@ -43,11 +42,15 @@ explained_text c text = explanation_of (reading_by c) text ++ level_lines c text
 
 -- ---- what decides
 
--- that no level decides, or which one does
-abbrev pub decision : Option OrderLevel → List ℕ
-decision None = codes "no level differs\n"
-decision (Some l) = level_name l ++ codes " level\n"
+-- the characters of two texts that decide, each behind a tab
+abbrev pub parts_text : List ℕ → List ℕ → List ℕ
+parts_text one other = codes "\t" ++ (encode_utf8_all one ++ (codes "\t" ++ (encode_utf8_all other ++ codes "\n")))
 
--- the sign of the order of two texts, and the level that decides
+-- that no level decides, or which one does, and by which characters of each text
+abbrev pub decision : Collation → List ℕ → List ℕ → Option OrderLevel → List ℕ
+decision c t u None = codes "no level differs\n"
+decision c t u (Some l) = level_name l ++ (codes " level" ++ parts_text (deciding_part_by c l t u) (deciding_part_by c l u t))
+
+-- the sign of the order of two texts, and what decides
 abbrev pub reason_text : Collation → List ℕ → List ℕ → List ℕ
-reason_text c t u = sign_of (text_order c t u) ++ (codes "\t" ++ decision (deciding_level c t u))
+reason_text c t u = sign_of (text_order c t u) ++ (codes "\t" ++ decision c t u (deciding_level c t u))

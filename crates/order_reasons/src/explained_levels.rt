@@ -9,11 +9,11 @@ ghost use Rattle.order_reasons.specs.OrderLevels.{all_levels, up_to};
 ghost use Rattle.order_reasons.specs.Reasons.{explained_text, key_level_line, level_lines};
 
 use crate::level_collator::{collator_up_to, level_counts};
-use crate::order_level::OrderLevel;
 use crate::reason::{all_levels, level_name};
 use collate_commands::key_line::key_line;
 use icu_collator::CollatorBorrowed;
 use icu_elements::TextReading;
+use level_weights::OrderLevel;
 use std::alloc::{AllocError, Global};
 use text_explanations::explanation;
 
@@ -81,14 +81,14 @@ fn push_level_lines(
 }
 
 /// How a collator reads texts.
-fn reading_of_collator<'c>(collator: &CollatorBorrowed<'c>) -> TextReading<'c>
+pub(crate) fn reading_of_collator<'c>(collator: &CollatorBorrowed<'c>) -> TextReading<'c>
     ensures { reading_of result ≡ reading_by (collation_borrowed collator.now) }
 {
     collator.cursor_tables().places().reading()
 }
 
 /// The characters of a text.
-fn characters(alloc: Global, text: &str) -> Result<Vec<char>, AllocError>
+pub(crate) fn characters(alloc: Global, text: &str) -> Result<Vec<char>, AllocError>
     ensures { IfOk result (λ cs. cs.items ≡ chars text.now) }
 {
     text.chars().collect(alloc)

@@ -5,9 +5,9 @@ ghost use Rattle.icu_collator.specs.Collators.{collation_borrowed, settings_borr
 ghost use Rattle.icu_options.specs.Conversions.{is_on};
 ghost use Rattle.order_reasons.specs.OrderLevels.{case_up_to, level_counts, counts_identical, counts_quaternary, counts_secondary, counts_tertiary, strength_before_case, strength_up_to, up_to};
 
-use crate::order_level::OrderLevel;
 use icu_collator::CollatorBorrowed;
 use icu_collator::options::{CaseLevel, CollatorOptions, CollatorPreferences, Strength};
+use level_weights::OrderLevel;
 
 /// Whether the secondary level counts.
 fn counts_secondary(strength: Strength) -> bool

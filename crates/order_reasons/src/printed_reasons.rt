@@ -47,7 +47,8 @@ pub fn print_explanation<W: Write>(
     print_text(shown.as_slice(), output)
 }
 
-/// Prints the sign of the order of two texts and the level that decides, and returns whether they compare equal.
+/// Prints the sign of the order of two texts, the level that decides, and the characters of each that do, and returns
+/// whether they compare equal.
 ///
 /// # Errors
 ///
@@ -69,7 +70,7 @@ pub fn print_reason<W: Write>(
         (W.contents output.old) (W.contents output.new)) }
 {
     let borrowed = collator.as_borrowed();
-    let shown = reason_text(alloc, &borrowed, one, other)?;
+    let shown = reason_text(alloc, collator, one, other)?;
     print_text(shown.as_slice(), output)?;
     Ok(borrowed.order(one, other).is_eq())
 }

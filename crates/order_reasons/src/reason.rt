@@ -1,16 +1,18 @@
-//! The level that decides the order of two texts.
+//! The level that decides the order of two texts, and the characters.
 
-ghost use Rattle.std.specs.Prelude.{◌≡◌, ◌++◌, IfOk, OnOk, chars};
-ghost use Rattle.icu_collator.specs.Collators.{collation_borrowed};
+ghost use Rattle.std.specs.Prelude.{◌≡◌, ◌++◌, IfOk, OnOk, Some, chars};
+ghost use Rattle.icu_collator.specs.Collators.{collation_borrowed, collation_kept};
 ghost use Rattle.collate_commands.specs.Answers.{sign_of};
 ghost use Rattle.order_reasons.specs.OrderLevels.{all_levels, deciding_level, differ_by, first_differing};
-ghost use Rattle.order_reasons.specs.Reasons.{decision, level_name, reason_text};
+ghost use Rattle.order_reasons.specs.Reasons.{decision, level_name, parts_text, reason_text};
 
+use crate::deciding_parts::{DecidingParts, deciding_parts};
 use crate::level_collator::{collator_up_to, level_counts};
-use crate::order_level::OrderLevel;
-use icu_collator::CollatorBorrowed;
+use icu_collator::{Collator, CollatorBorrowed};
+use level_weights::OrderLevel;
 use std::alloc::{AllocError, Global};
 use std::cmp::Ordering;
+use text_explanations::push_characters;
 
 /// All levels, in their order.
 pub(crate) fn all_levels() -> [OrderLevel; 6]
@@ -79,16 +81,51 @@ pub(crate) fn level_name(level: OrderLevel) -> &'static [u8]
     }
 }
 
-/// Appends that no level decides, or which one does.
-fn push_decision(text: &mut Vec<u8>, level: Option<OrderLevel>) -> Result<(), AllocError>
-    ensures { OnOk result (text.new.items ≡ text.old.items ++ decision level) }
+/// Appends the characters of two texts that decide, each behind a tab.
+fn push_parts(text: &mut Vec<u8>, parts: &DecidingParts) -> Result<(), AllocError>
+    ensures { OnOk result (text.new.items ≡ text.old.items
+        ++ parts_text parts.now.one.items parts.now.other.items) }
+{
+    text.extend_from_slice(b"\t")?;
+    push_characters(text, parts.one.as_slice())?;
+    text.extend_from_slice(b"\t")?;
+    push_characters(text, parts.other.as_slice())?;
+    text.extend_from_slice(b"\n")
+}
+
+/// Appends which level decides, and by which characters of two texts.
+fn push_level(
+    alloc: Global,
+    text: &mut Vec<u8>,
+    collator: &Collator,
+    level: OrderLevel,
+    one: &str,
+    other: &str,
+) -> Result<(), AllocError>
+    ensures { OnOk result (text.new.items ≡ text.old.items ++ decision
+        (collation_kept collator.now) (chars one.now) (chars other.now) (Some level)) }
+{
+    let parts = deciding_parts(alloc, collator, level, one, other)?;
+    text.extend_from_slice(level_name(level))?;
+    text.extend_from_slice(b" level")?;
+    push_parts(text, &parts)
+}
+
+/// Appends that no level decides, or which one does, and by which characters of two texts.
+fn push_decision(
+    alloc: Global,
+    text: &mut Vec<u8>,
+    collator: &Collator,
+    level: Option<OrderLevel>,
+    one: &str,
+    other: &str,
+) -> Result<(), AllocError>
+    ensures { OnOk result (text.new.items ≡ text.old.items ++ decision
+        (collation_kept collator.now) (chars one.now) (chars other.now) level) }
 {
     match level {
         None => text.extend_from_slice(b"no level differs\n"),
-        Some(level) => {
-            text.extend_from_slice(level_name(level))?;
-            text.extend_from_slice(b" level\n")
-        }
+        Some(level) => push_level(alloc, text, collator, level, one, other),
     }
 }
 
@@ -103,22 +140,25 @@ fn sign(order: Ordering) -> &'static [u8]
     }
 }
 
-/// The sign of the order of two texts, a tab, and the level that decides.
+/// The sign of the order of two texts, a tab, the level that decides, a tab, the characters of the one that decide, a
+/// tab, and those of the other.
 ///
 /// # Errors
 ///
 /// Fails only where an allocation does.
 pub fn reason_text(
     alloc: Global,
-    collator: &CollatorBorrowed<'_>,
+    collator: &Collator,
     one: &str,
     other: &str,
 ) -> Result<Vec<u8>, AllocError>
-    ensures { IfOk result (λ text. text.items ≡ reason_text (collation_borrowed collator.now)
+    ensures { IfOk result (λ text. text.items ≡ reason_text (collation_kept collator.now)
         (chars one.now) (chars other.now)) }
 {
-    let mut text = Vec::from_slice(alloc, sign(collator.order(one, other)))?;
+    let borrowed = collator.as_borrowed();
+    let mut text = Vec::from_slice(alloc, sign(borrowed.order(one, other)))?;
     text.extend_from_slice(b"\t")?;
-    push_decision(&mut text, deciding_level(collator, one, other))?;
+    let level = deciding_level(&borrowed, one, other);
+    push_decision(alloc, &mut text, collator, level, one, other)?;
     Ok(text)
 }

@@ -1,1 +1,3 @@
+pub mod AlikeCharacterLemmas
+pub mod BearingPartLemmas
 pub mod LineLemmas

@@ -12,7 +12,7 @@ use icu_searcher::PlaceReader;
 use std::alloc::{AllocError, Global};
 
 /// The characters from a first one up to another.
-fn part_of(text: &[char], start: usize, stop: usize) -> &[char]
+pub(crate) fn part_of(text: &[char], start: usize, stop: usize) -> &[char]
     ensures { result.now ≡ part_of text.entry.now start stop }
 {
     let from = &text[start.min(text.len())..];

@@ -18,7 +18,11 @@ fn push_character(text: &mut Vec<u8>, character: char) -> Result<(), AllocError>
 }
 
 /// Appends characters in UTF-8.
-fn push_characters(text: &mut Vec<u8>, characters: &[char]) -> Result<(), AllocError>
+///
+/// # Errors
+///
+/// Fails only where an allocation does.
+pub fn push_characters(text: &mut Vec<u8>, characters: &[char]) -> Result<(), AllocError>
     ensures { OnOk result (text.new.items ≡ text.old.items ++ encode_utf8_all characters.now) }
 {
     for character in characters {

@@ -1,5 +1,5 @@
 -- What was appended, and then what is left, is the whole; those that were counted, and those that are left, are all.
-use Rattle.std.proofs.Common.{◌≡◌, ◌+◌, ◌≤◌, ◌++◌, drop}
+use Rattle.std.proofs.Common.{◌≡◌, ◌+◌, ◌≤◌, ◌++◌, drop, map}
 use Rattle.icu_text_search.specs.Searchers.{search_of}
 use Rattle.keyed_lines.specs.ShownLines.{shown_lines}
 use Rattle.line_searches.specs.WantedLines.{wanted_count, wanted_from}
@@ -7,7 +7,7 @@ use Rattle.line_searches.proofs.wanted_lines.wanted_text.Given as goal
 
 abbrev pub invariant-loop-line : goal.invariant-loop-line
 invariant-loop-line l =
-    let s = search_of l.searcher in
+    let s = map search_of l.searchers in
     record {
       numbered : l.number ≡ l.line-index + 1;
       small : l.count ≤ l.line-index;

@@ -1,6 +1,6 @@
 -- A character more is passed, and at a place the part before it has its line.
-use Rattle.std.proofs.Common.{◌≡◌, ◌∙◌, ◌+◌, ◌++◌, [], ap, drop, length, rules, subst, sym}
-use Rattle.icu_searcher.specs.PlaceReaders.{chars_left, elements_read, places_reading}
+use Rattle.std.proofs.Common.{◌≡◌, ◌∙◌, ◌+◌, ◌++◌, ap, drop, length, rules, subst, sym}
+use Rattle.icu_searcher.specs.PlaceReaders.{elements_read, places_reading}
 use Rattle.text_explanations.specs.Explanations.{part_line, part_of}
 use Rattle.text_explanations.proofs.LineLemmas.{LinesPassed, lines_go_on, lines_wait}
 use Rattle.text_explanations.proofs.part_explanations.explained.Goals as goal

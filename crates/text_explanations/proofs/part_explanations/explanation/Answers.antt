@@ -1,4 +1,4 @@
-use Rattle.std.proofs.Common.{ℕ, List, IfOk, ◌≡◌, subst, rules}
+use Rattle.std.proofs.Common.{IfOk, ◌≡◌, subst, rules}
 use Rattle.unicode_normalization.proofs.IterLemmas.{Spells-slice}
 use Rattle.icu_elements.specs.TextElements.{Reading}
 use Rattle.text_explanations.specs.Explanations.{explanation_of}

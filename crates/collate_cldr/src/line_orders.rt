@@ -1,0 +1,140 @@
+//! The commands `sort` and `check` over lines.
+
+ghost use Rattle.std.specs.Prelude.{◌≤◌, IfOk};
+
+use crate::asked_collator::collator_by_words;
+use crate::reports::{DIFFERS, DONE};
+use clap::ArgMatches;
+use collate_commands::{ProgramError, write_text};
+use collate_words::{asks_for_fields, field_ends, files_of, keys_of, sort_request_of};
+use field_disorders::first_field_disorder;
+use field_sorts::{FieldSorts, print_sorted_by_fields, text_sorted_by_fields};
+use icu_collator::Collator;
+use keyed_lines::SortRequest;
+use line_commands::{disorder_text, first_disorder, print_sorted, sorted_text};
+use line_fields::FieldEnds;
+use named_files::{RunProgress, read_inputs, replace_file};
+use std::io::{Read, Write};
+use std::rt::{Clock, Env, Files};
+
+/// Prints the lines of an input in order, or writes them to a file.
+fn write_sorted<R: Files + AllocGlobal, W: Write>(
+    rt: &R,
+    file: Option<&str>,
+    collator: &Collator,
+    bytes: &[u8],
+    request: SortRequest,
+    output: &mut W,
+) -> Result<(), ProgramError> {
+    match file {
+        Some(file) => {
+            let text = sorted_text(rt.alloc(), collator, bytes, request)?;
+            replace_file(rt, file, text.as_slice())
+        }
+        None => print_sorted(rt.alloc(), collator, bytes, request, output),
+    }
+}
+
+/// Prints the lines of an input in the order of their fields, or writes them to a file.
+fn write_sorted_by_fields<R: Files + AllocGlobal, W: Write>(
+    rt: &R,
+    matches: &ArgMatches<'_>,
+    collator: &Collator,
+    bytes: &[u8],
+    request: SortRequest,
+    output: &mut W,
+) -> Result<(), ProgramError> {
+    let sorts = keys_of(rt.alloc(), matches)?;
+    let fields = FieldSorts {
+        ends: field_ends(matches).unwrap_or(FieldEnds::AtBlanks),
+        sorts: sorts.as_slice(),
+    };
+    match matches.get_str("output") {
+        Some(file) => {
+            let text = text_sorted_by_fields(rt.alloc(), collator, fields, bytes, request)?;
+            replace_file(rt, file, text.as_slice())
+        }
+        None => print_sorted_by_fields(rt.alloc(), collator, fields, bytes, request, output),
+    }
+}
+
+/// Prints lines in order, or writes them to the file that is asked for.
+pub(crate) fn sort_lines<R: Files + Env + Clock + AllocGlobal, I: Read, W: Write, E: Write>(
+    rt: &R,
+    matches: &ArgMatches<'_>,
+    progress: &mut RunProgress,
+    input: &mut I,
+    output: &mut W,
+    errors: &mut E,
+) -> Result<u8, ProgramError>
+    ensures { IfOk result (λ status. status ≤ 3) }
+{
+    let request = sort_request_of(matches);
+    let collator = collator_by_words(rt, matches)?;
+    let bytes = read_inputs(
+        rt,
+        files_of(matches),
+        request.separator,
+        input,
+        progress,
+        errors,
+    )?;
+    if asks_for_fields(matches) {
+        write_sorted_by_fields(rt, matches, &collator, bytes.as_slice(), request, output)?;
+    } else {
+        let file = matches.get_str("output");
+        write_sorted(rt, file, &collator, bytes.as_slice(), request, output)?;
+    }
+    Ok(DONE)
+}
+
+/// The index of the first line that isn't in order: by the line, or by its fields where that is asked for.
+fn first_wrong<R: AllocGlobal>(
+    rt: &R,
+    matches: &ArgMatches<'_>,
+    collator: &Collator,
+    bytes: &[u8],
+    request: SortRequest,
+) -> Result<Option<usize>, ProgramError> {
+    if !asks_for_fields(matches) {
+        return Ok(first_disorder(rt.alloc(), collator, bytes, request)?);
+    }
+    let sorts = keys_of(rt.alloc(), matches)?;
+    let fields = FieldSorts {
+        ends: field_ends(matches).unwrap_or(FieldEnds::AtBlanks),
+        sorts: sorts.as_slice(),
+    };
+    Ok(first_field_disorder(rt.alloc(), collator, fields, bytes, request)?)
+}
+
+/// Whether lines are in order. Where they are not, and that is to be said, the first line that isn't is printed, with
+/// its number from 1 on.
+pub(crate) fn check_lines<R: Files + Env + Clock + AllocGlobal, I: Read, E: Write>(
+    rt: &R,
+    matches: &ArgMatches<'_>,
+    is_quiet: bool,
+    progress: &mut RunProgress,
+    input: &mut I,
+    errors: &mut E,
+) -> Result<u8, ProgramError>
+    ensures { IfOk result (λ status. status ≤ 3) }
+{
+    let request = sort_request_of(matches);
+    let collator = collator_by_words(rt, matches)?;
+    let bytes = read_inputs(
+        rt,
+        files_of(matches),
+        request.separator,
+        input,
+        progress,
+        errors,
+    )?;
+    let Some(index) = first_wrong(rt, matches, &collator, bytes.as_slice(), request)? else {
+        return Ok(DONE);
+    };
+    if !is_quiet {
+        let said = disorder_text(rt.alloc(), bytes.as_slice(), request, index)?;
+        let _ = write_text(errors, said.as_slice());
+    }
+    Ok(DIFFERS)
+}

@@ -1,0 +1,3 @@
+pub use Rattle.field_sorts.specs.FieldOrders
+pub use Rattle.line_commands.specs.Disorders
+pub mod FieldDisorders

@@ -1,0 +1,4 @@
+pub mod CommonLengthLemmas
+pub mod MeetingLemmas
+pub mod WeighedLemmas
+pub mod BearingLemmas

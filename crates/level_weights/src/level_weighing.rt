@@ -1,0 +1,37 @@
+//! How a level weighs elements.
+
+use crate::order_level::OrderLevel;
+use icu_levels::forms::KeyForm;
+use icu_options::AlternateHandling;
+use icu_provider::CollationReordering;
+use icu_weighting::VariableWeighting;
+
+/// How a level weighs elements.
+#[derive(Debug, Clone, Copy)]
+pub struct LevelWeighing<'t> {
+    /// Which level.
+    pub level: OrderLevel,
+    /// The forms of the levels.
+    pub form: KeyForm,
+    /// The reordering of primary weights, if there is one.
+    pub reordering: Option<CollationReordering<'t>>,
+    /// How variable elements are handled.
+    pub handling: AlternateHandling,
+    /// The last primary weight of the variable groups, or 0 where none is variable.
+    pub last_variable: u32,
+}
+
+impl<'t> LevelWeighing<'t> {
+    ghost use Rattle.std.specs.Prelude.{◌≡◌, List, false};
+    ghost use Rattle.icu_entries.specs.Elements.{Element};
+    ghost use Rattle.icu_weighting.specs.Handled.{handled};
+    ghost use Rattle.icu_weighting.specs.VariableWeightings.{handled_after};
+
+    /// How variable elements are handled, before the first element.
+    pub(crate) fn handles(&self) -> VariableWeighting
+        ensures { (es : List Element) → handled_after result es
+            ≡ handled self.now.handling self.now.last_variable false es }
+    {
+        VariableWeighting::new(self.handling, self.last_variable)
+    }
+}

@@ -1,0 +1,2 @@
+-- What only this crate speaks of.
+pub mod WeighedTexts
