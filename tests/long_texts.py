@@ -4,14 +4,12 @@ four times as many calls on the text.
 Both have as many characters to read, so their times are alike where time is in proportion to the text, and reading the questions and
 making a collator are a small part of either. The least of several times counts.
 """
-import math
-
 from hostile_tables import Builder, Reordering
-from timing import RUNS, Slowed, least_times
+from timing import ATTEMPTS, Slowed, Times, lasting_faults
 
-# How often the longer text is compared and its key written, how many times as long it is, how many times as long its calls may take
-# as those on the shorter text, and how often that is measured at most.
-TIMES, LONGER, SLOWER, ATTEMPTS = 2, 4, 2, 5
+# How often the longer text is compared and its key written, how many times as long it is, and how many times as long its calls may
+# take as those on the shorter text.
+TIMES, LONGER, SLOWER = 2, 4, 2
 IDENTICAL, PRIMARY = "4 0 3 0 0 0", "0 0 3 0 0 0"
 NUMERIC = "4 0 3 0 0 1", "0 0 3 0 0 1"
 # Identical, shifted, with a case level: all levels that there are.
@@ -154,17 +152,17 @@ def wrong_answers(texts, size, answers):
 
 def wrong_long_texts(driver, texts, attempts=ATTEMPTS):
     """What is wrong with texts of a size and of a greater one: another answer, or a time that grows beyond proportion; and how
-    many runs there were. A machine that other work slows down for a while lets a time grow as well, so both are measured again
-    before one is called wrong."""
-    sizes, least, runs = [texts.size, texts.size * LONGER], [math.inf, math.inf], 0
-    asked = [texts.questions(sizes[0], LONGER * TIMES), texts.questions(sizes[1], TIMES)]
-    for _ in range(attempts):
-        times, answers = least_times(driver, *asked)
-        least, runs = [min(both) for both in zip(least, times)], runs + 2 * RUNS
-        faults = [fault for place, it in enumerate(answers) for fault in wrong_answers(texts, sizes[place % 2], it)]
-        if faults or least[1] <= SLOWER * least[0]:
-            return faults, runs
-    return [f"{texts.kind}: {least[0]:.3f} seconds for {LONGER} of {sizes[0]}, {least[1]:.3f} for one of {sizes[1]}"], runs
+    many runs there were."""
+    sizes = [texts.size, texts.size * LONGER]
+    times = Times(driver, texts.questions(sizes[0], LONGER * TIMES), texts.questions(sizes[1], TIMES))
+
+    def found():
+        faults = [fault for place, it in enumerate(times.answers) for fault in wrong_answers(texts, sizes[place % 2], it)]
+        many, one = times.least
+        said = f"{texts.kind}: {many:.3f} seconds for {LONGER} of {sizes[0]}, {one:.3f} for one of {sizes[1]}"
+        return faults or [said] * (one > SLOWER * many)
+
+    return lasting_faults(found, [times], attempts), len(times.answers)
 
 
 # ---- one call beside another
@@ -178,15 +176,11 @@ CHARACTERS, DEARER = 500_000, 2
 BY_RANGES = 4
 
 
-def beside(driver, first, second, allowed, attempts=ATTEMPTS):
-    """The least times of two lists of questions, until the first takes no more than so many times as long as the second."""
-    least = [math.inf, math.inf]
-    for _ in range(attempts):
-        times, answers = least_times(driver, first, second)
-        least = [min(both) for both in zip(least, times)]
-        if least[0] <= allowed * least[1]:
-            break
-    return least, answers
+def beside(driver, first, second, allowed):
+    """The least times of two lists of questions, and their answers: more than so many times the second's only where that lasts."""
+    times = Times(driver, first, second)
+    lasting_faults(lambda: times.least[0] > allowed * times.least[1], [times])
+    return times.least, times.answers
 
 
 def wrong_levels(driver):

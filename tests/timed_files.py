@@ -11,14 +11,13 @@ import tempfile
 
 from cldr_questions import FIRST_LINES, LAST_LINE
 from driver import Driver
-from timing import RUNS, Slowed, least_times
+from timing import RUNS, Slowed, Times, lasting_faults
 
 TOP = os.path.dirname(os.path.dirname(os.path.realpath(__file__)))
 PROGRAM = os.path.join(TOP, "crates", "test_driver", "out", "test_driver")
 # How many bytes the files of the gate have: a size, twice as many and four times as many. How much faster than the file its time may
-# grow, how many times as long as a plain file it may take, what is allowed for other work of the machine, in seconds, and how often
-# all are measured at most.
-SIZE, FASTER, DEARER, ALLOWED, ATTEMPTS = 200_000, 2, 4, 0.02, 3
+# grow, how many times as long as a plain file it may take, and what is allowed for other work of the machine, in seconds.
+SIZE, FASTER, DEARER, ALLOWED = 200_000, 2, 4, 0.02
 MEGABYTES = (1, 2, 4, 10)
 # Files of which the mappings of shorter prefixes are copied to longer ones, which takes a fixed number of steps at most: so many times
 # as long as the greatest plain file.
@@ -104,21 +103,24 @@ def content(kind, size):
 
 
 class File:
-    """A file in a folder, and the seconds that the driver takes to read or refuse it."""
+    """A file in a folder, and how long the driver takes to read or refuse it."""
 
-    def __init__(self, room, kind, size):
-        self.kind, self.path = kind, os.path.join(room, f"{len(os.listdir(room))}.txt")
-        with open(self.path, "w", encoding="utf-8") as it:
+    def __init__(self, driver, room, kind, size):
+        self.kind, path = kind, os.path.join(room, f"{len(os.listdir(room))}.txt")
+        with open(path, "w", encoding="utf-8") as it:
             it.write(content(kind, size))
-        self.size = os.path.getsize(self.path)
-        self.seconds, self.said = 0.0, ""
+        self.size = os.path.getsize(path)
+        self.times = Times(driver, [f"file {path}"])
 
-    def measure(self, driver):
-        (took,), answers = least_times(driver, [f"file {self.path}"])
-        self.seconds, self.said = took, answers[0][0]
+    def measure(self):
+        self.times.measure()
+
+    @property
+    def seconds(self):
+        return self.times.least[0]
 
     def __str__(self):
-        return f"{self.kind}, {self.size / 1e6:.1f} MB: {self.seconds:.3f} s, {self.said}"
+        return f"{self.kind}, {self.size / 1e6:.1f} MB: {self.seconds:.3f} s, {self.times.answers[0][0]}"
 
 
 def dear_files(files, plain_ones):
@@ -131,29 +133,20 @@ def dear_files(files, plain_ones):
     return found + [f"{it}; {other}" for it, other in dear]
 
 
-def measured(driver, room, sizes):
-    """The files of each kind in these sizes, measured."""
-    files = {kind: [File(room, kind, size) for size in sizes] for kind in KINDS}
-    for some in files.values():
-        for it in some:
-            it.measure(driver)
-    return files
+def lasting(files, plain_ones):
+    return lasting_faults(lambda: dear_files(files, plain_ones), [*files, *plain_ones])
 
 
 def check_files(report, program):
     """Files of all kinds in three sizes."""
-    driver = Driver(program)
+    driver, sizes = Driver(program), (SIZE, 2 * SIZE, 4 * SIZE)
     with tempfile.TemporaryDirectory(prefix="files-") as room:
-        for _ in range(ATTEMPTS):
-            files = measured(driver, room, [SIZE, 2 * SIZE, 4 * SIZE])
-            plain_ones = files["plain mappings"]
-            faults = [it for some in files.values() for it in dear_files(some, plain_ones)]
-            if not faults:
-                break
+        files = {kind: [File(driver, room, kind, size) for size in sizes] for kind in KINDS}
+        plain_ones = files["plain mappings"]
+        faults = [it for some in files.values() for it in lasting(some, plain_ones)]
         report.say("a file of CLDR: reading takes no more than in proportion to the file", faults, 3 * RUNS * len(files))
-        late = [File(room, "plain mappings", size) for size in (SIZE, 4 * SIZE)]
-        for it in late:
-            it.measure(Slowed(driver, [late[-1].path], 16 * FASTER))
+        slowed = Slowed(driver, ["file"], 16 * FASTER)
+        late = [File(driver, room, "plain mappings", SIZE), File(slowed, room, "plain mappings", 4 * SIZE)]
         missed = [] if dear_files(late, plain_ones) else ["not found: a file whose time grows faster than it"]
         report.say("a file of CLDR: a time that grows faster than the file is found", missed, RUNS * len(late))
 
@@ -163,10 +156,9 @@ def main():
     with tempfile.TemporaryDirectory(prefix="files-") as room:
         for kind in KINDS:
             for size in [float(it) for it in sizes] or MEGABYTES:
-                it = File(room, kind, int(size * 1e6))
-                it.measure(Driver(program, 600))
-                os.remove(it.path)
-                print(it, flush=True)
+                print(File(Driver(program, 600), room, kind, int(size * 1e6)), flush=True)
+                for name in os.listdir(room):
+                    os.remove(os.path.join(room, name))
 
 
 if __name__ == "__main__":

@@ -7,11 +7,11 @@ from driver import numbers
 from hostile_tables import (DATA, GROWING, REORDERED, SIZES, of_counted_rows, of_counted_weights, of_implicit, of_listed_mappings,
                             of_lists, of_many_lists, of_mappings, of_unlike_blocks, root_like_cldr, splits_implicit,
                             tailoring_like_cldr)
-from timing import RUNS, Slowed, least_times
+from timing import RUNS, Slowed, Times, lasting_faults
 
-# How often a check is made beyond the first time, how many times as long as Mini's it may take for each number that its tables
-# store, and how often all are measured at most, since other work slows a machine down for a while.
-CHECKS, DEARER, ATTEMPTS = 60, 10, 3
+# How often a check is made beyond the first time, and how many times as long as Mini's it may take for each number that its tables
+# store.
+CHECKS, DEARER = 60, 10
 # How many times as long as Mini's the checks of some of the growing tables may take in all.
 LIMITS = {"spellings-2": 25, "far-contexts-4": 35, "prefixes-4": 17, "implicit-rows-2": 17, "many-ranges-4": 45, "split-implicit-4": 25}
 
@@ -58,12 +58,21 @@ class Check:
     comes to."""
 
     def __init__(self, driver, tables, times=CHECKS):
-        self.tables = tables.name
-        asked = [[*tables.made, f"times {count:X}", "check"] for count in (1, 1 + times)]
-        (once, more), answers = least_times(driver, *asked)
+        self.tables, self.wanted, self.checks = tables.name, tables.wanted, times
         self.numbers = stored_numbers(driver, tables)
-        self.seconds = max(more - once, 0) / times
-        self.faults = [f"{tables.name}: {it[-1]}" for it in answers if {*it[:-1]} != {"ok"} or it[-1] != tables.wanted]
+        self.times = Times(driver, *([*tables.made, f"times {count:X}", "check"] for count in (1, 1 + times)))
+
+    def measure(self):
+        self.times.measure()
+
+    @property
+    def seconds(self):
+        once, more = self.times.least
+        return max(more - once, 0) / self.checks
+
+    @property
+    def faults(self):
+        return [f"{self.tables}: {it[-1]}" for it in self.times.answers if {*it[:-1]} != {"ok"} or it[-1] != self.wanted]
 
     def for_each(self):
         return self.seconds / self.numbers
@@ -78,9 +87,13 @@ def dear_tables(mini, check):
     return check.faults + [f"{check}; {mini}"] * (check.for_each() > allowed)
 
 
+def dear_checks(mini, checks):
+    return [it for check in checks for it in dear_tables(mini, check)]
+
+
 def growing_tables(mini, checks):
     """What is wrong with the checks of one kind of tables in sizes 1, 2 and 4: one takes long, or the time grows faster than the size."""
-    faults = [it for check in checks for it in dear_tables(mini, check)]
+    faults = dear_checks(mini, checks)
     faults += [it for check in checks if check.tables in LIMITS for it in slow_tables(mini, check, LIMITS[check.tables])]
     least, greatest = checks[0], checks[-1]
     # more than twice the growth of the numbers is no other work of the machine
@@ -94,14 +107,19 @@ def slow_tables(mini, check, times):
     return check.faults + [f"takes more than {times} of Mini's: {check}; {mini}"] * (check.seconds > allowed)
 
 
-def check_limited(report, driver):
+def lasting(found, mini, checks):
+    return lasting_faults(lambda: found(mini, checks), [mini, *checks])
+
+
+def limited_tables(mini, checks):
+    """What is wrong with checks that are held against Mini's by time alone."""
+    return mini.faults + [it for check in checks for it in slow_tables(mini, check, LIMITED[check.tables][1])]
+
+
+def check_limited(report, driver, mini):
     """Roots whose checks are held against Mini's by time alone."""
-    for _ in range(ATTEMPTS):
-        mini = Check(driver, TimedTables("mini", "Mini"), 4 * CHECKS)
-        checks = [Check(driver, make(), CHECKS // 12) for make, _ in LIMITED.values()]
-        faults = mini.faults + [it for check in checks for it in slow_tables(mini, check, LIMITED[check.tables][1])]
-        if not faults:
-            break
+    checks = [Check(driver, make(), CHECKS // 12) for make, _ in LIMITED.values()]
+    faults = [it for check in checks for it in lasting(limited_tables, mini, [check])]
     report.say("hostile input: checks of the dearest tables take no more than so many of Mini's", faults, 2 * RUNS * len(checks))
     for check in checks:
         print(f"       {check}", flush=True)
@@ -118,14 +136,10 @@ def grown_checks(driver, name):
     return [Check(driver, grown_tables(name, size), CHECKS // 6) for size in SIZES]
 
 
-def check_growth(report, driver):
+def check_growth(report, driver, mini):
     """Hostile tables by a generator, each in three sizes."""
-    for _ in range(ATTEMPTS):
-        mini = Check(driver, TimedTables("mini", "Mini"), 4 * CHECKS)
-        grown = [grown_checks(driver, name) for name in GROWING]
-        faults = mini.faults + [it for checks in grown for it in growing_tables(mini, checks)]
-        if not faults:
-            break
+    grown = [grown_checks(driver, name) for name in GROWING]
+    faults = mini.faults + [it for checks in grown for it in lasting(growing_tables, mini, checks)]
     report.say("hostile input: checks take no more than in proportion to the tables", faults, 2 * RUNS * len(SIZES) * len(grown))
     for check in [it for checks in grown for it in checks]:
         print(f"       {check}", flush=True)
@@ -142,18 +156,15 @@ def check_times(report, driver):
     root = root_like_cldr()
     large = [TimedTables("root", "Mini", root), TimedTables("tailored", "swapped leads", root, tailoring_like_cldr())]
     others = [Check(driver, it, CHECKS // 6) for it in large]
-    for _ in range(ATTEMPTS):
-        mini = Check(driver, TimedTables("mini", "Mini"), 4 * CHECKS)
-        checks = [Check(driver, it) for it in hostile]
-        faults = [it for check in [mini, *others] for it in check.faults]
-        faults += [it for check in checks for it in dear_tables(mini, check)]
-        if not faults:
-            break
+    mini = Check(driver, TimedTables("mini", "Mini"), 4 * CHECKS)
+    checks = [Check(driver, it) for it in hostile]
+    faults = [it for check in [mini, *others] for it in check.faults]
+    faults += [it for check in checks for it in lasting(dear_checks, mini, [check])]
     report.say("hostile input: checks of hostile tables take little", faults, 2 * RUNS * (1 + len(checks) + len(others)))
     for check in [mini, *checks, *others]:
         print(f"       {check}", flush=True)
-    check_growth(report, driver)
-    check_limited(report, driver)
+    check_growth(report, driver, mini)
+    check_limited(report, driver, mini)
 
 
 def dear_checks_missed(driver):
