@@ -1,5 +1,6 @@
 //! Long texts in which a search that reads from each start anew would not end in time.
 use crate::searching::{Kind, collator_over, collator_with};
+use icu_collator::Collator;
 use icu_collator::options::Strength;
 use icu_mini::mini::Mini;
 use icu_text_search::Searcher;
@@ -20,20 +21,21 @@ fn long_text(alloc: Global, again: char, last: &str) -> Result<String, AllocErro
     Ok(text)
 }
 
-/// Where a pattern is found, where hyphens are shifted.
+/// A collator by Mini, by which hyphens are shifted.
+fn collator_that_shifts(rt: &(impl Abort + AllocGlobal)) -> Result<Collator, AllocError> {
+    let mini = Mini::new(rt.alloc())?;
+    let collator = collator_over(rt, &mini);
+    Ok(collator_with(rt, collator, Strength::Tertiary, Kind::Shifted))
+}
+
+/// Where a pattern is found.
 fn found(
-    rt: &(impl Abort + AllocGlobal),
+    alloc: Global,
+    collator: &Collator,
     pattern: &str,
     text: &str,
 ) -> Result<Option<(usize, usize)>, AllocError> {
-    let mini = Mini::new(rt.alloc())?;
-    let collator = collator_with(
-        rt,
-        collator_over(rt, &mini),
-        Strength::Tertiary,
-        Kind::Shifted,
-    );
-    let searcher = Searcher::new(rt.alloc(), &collator, pattern)?;
+    let searcher = Searcher::new(alloc, collator, pattern)?;
     let first = searcher.find(text)?;
     Ok(first.map(|m| (m.start(), m.end())))
 }
@@ -41,16 +43,20 @@ fn found(
 #[test]
 fn runs_that_vanish(rt: HostRuntime) -> Result<(), Fail> {
     let alloc = rt.alloc();
+    let collator = collator_that_shifts(&rt)?;
     let hyphens = long_text(alloc, '-', "ab")?;
-    assert_eq!(rt; found(&rt, "ab", hyphens.as_str())?, Some((LONG, LONG + 2)));
     assert_eq!(rt;
-        found(&rt, "b", hyphens.as_str())?,
+        found(alloc, &collator, "ab", hyphens.as_str())?,
+        Some((LONG, LONG + 2))
+    );
+    assert_eq!(rt;
+        found(alloc, &collator, "b", hyphens.as_str())?,
         Some((LONG + 1, LONG + 2))
     );
-    assert_eq!(rt; found(&rt, "c", hyphens.as_str())?, None);
+    assert_eq!(rt; found(alloc, &collator, "c", hyphens.as_str())?, None);
     let nothing = long_text(alloc, '\u{0}', "-b")?;
     assert_eq!(rt;
-        found(&rt, "b", nothing.as_str())?,
+        found(alloc, &collator, "b", nothing.as_str())?,
         Some((LONG + 1, LONG + 2))
     );
     Ok(())
@@ -58,13 +64,15 @@ fn runs_that_vanish(rt: HostRuntime) -> Result<(), Fail> {
 
 #[test]
 fn one_letter_again_and_again(rt: HostRuntime) -> Result<(), Fail> {
-    let letters = long_text(rt.alloc(), 'a', "b")?;
+    let alloc = rt.alloc();
+    let collator = collator_that_shifts(&rt)?;
+    let letters = long_text(alloc, 'a', "b")?;
     assert_eq!(rt;
-        found(&rt, "ab", letters.as_str())?,
+        found(alloc, &collator, "ab", letters.as_str())?,
         Some((LONG - 1, LONG + 1))
     );
     assert_eq!(rt;
-        found(&rt, "aab", letters.as_str())?,
+        found(alloc, &collator, "aab", letters.as_str())?,
         Some((LONG - 2, LONG + 1))
     );
     Ok(())
