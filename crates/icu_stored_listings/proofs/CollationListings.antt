@@ -3,17 +3,18 @@ use Rattle.std.proofs.Common.{◌≡◌, ℕ, Bool, true, false, not, ◌&&◌, 
 use Rattle.std.specs.Cmp.Lexicographic.{slice_cmp}
 use Rattle.std.specs.Ordering.{is_ge, is_lt, nat_cmp}
 use Rattle.sqlite.specs.Held.{Held, state}
+use Rattle.sqlite.specs.State.{Shown}
 use Rattle.sqlite_trees.specs.declared.store.Store.{Ghosts}
 use Rattle.sqlite_value.specs.Order.{Row}
 use Rattle.icu_beginnings.specs.KeyBeginnings.{stands_between}
 use Rattle.icu_checks.specs.WellFormedTables.{IsWellFormedTables}
 use Rattle.icu_encodings.proofs.Utf8Lemmas.{utf8_scalars}
 use Rattle.icu_encodings.specs.DecodedTexts.{utf8_text}
-use Rattle.icu_stored_listings.specs.StoredListings.{NamesAreListed, ShowsChanges, name_key, order_of}
-use Rattle.icu_stored_rows.proofs.ListingLemmas.{changes_listed}
-use Rattle.icu_stored_rows.specs.KeptNames.{Keeps, is_key_within}
-use Rattle.icu_stored_rows.specs.NameListings.{Change, KeysOrder, Named, ShowInOrder, left_after_all, step_of}
-use Rattle.icu_stored_rows.specs.RowLaws.{RunInTurn}
+use Rattle.icu_stored_listings.specs.StoredListings.{NamesAreListed, RebuiltNamesAreListed, ShowsNames, name_key, order_of}
+use Rattle.icu_stored_names.specs.StatementTexts.{all_text, range_parameters, range_text}
+use Rattle.icu_stored_rows.proofs.ListingLemmas.{changes_listed, rebuilds_listed}
+use Rattle.icu_stored_rows.specs.KeptNames.{is_key_within}
+use Rattle.icu_stored_rows.specs.NameListings.{KeysOrder, Named, ShowInOrder, left_after_all, named}
 use Rattle.icu_text_order.proofs.TextOrders.{keys_keep}
 use Rattle.icu_text_order.specs.Collations.{Collation}
 
@@ -43,16 +44,32 @@ module _ (c : Collation) (sound : IsWellFormedTables c.tables) where
   between_is from to n =
       ap₂ (λ a b. a && b) (at_least (slice_cmp nat_cmp (name_key c n.0) (name_key c from)) ∙ ap (λ o. not (is_lt o)) (keys_order n.0 from)) (ap is_lt (keys_order n.0 to))
 
-  module _ {S : Type 0} (g : Ghosts S) (changes : List Change) (old mid new : Held S) (none : Keeps (state g old).now []) (ran : RunInTurn g (map (step_of (name_key c)) changes) old mid) where
-    pub shows_changes : ShowsChanges g c changes mid new
-    shows_changes = record {
-      all = λ rows shown. (changes_listed g).all (name_key c) (order_of c) keys_order changes old mid new rows none ran shown;
+  module _ {S : Type 0} (g : Ghosts S) (names : List Named) (mid new : Held S)
+      (all_shown : (rows : List Row) → Shown all_text [] (state g mid) (state g new) rows → ShowInOrder (order_of c) names rows)
+      (range_shown : (lower : List ℕ) (upper : Option (List ℕ)) (rows : List Row) → Shown (range_text upper) (range_parameters lower upper) (state g mid) (state g new) rows
+      → ShowInOrder (order_of c) (filter (λ n. is_key_within lower upper (name_key c n.0)) names) rows) where
+    shows : ShowsNames g c names mid new
+    shows = record {
+      all = all_shown;
       between = λ from to rows shown.
-          subst (λ names. ShowInOrder (order_of c) names rows)
-          (same_names (λ n. is_key_within (name_key c from) (Some (name_key c to)) (name_key c n.0)) (λ n. not (is_lt (order_of c n.0 from)) && is_lt (order_of c n.0 to)) (between_is from to) (left_after_all changes []))
-          ((changes_listed g).ranges (name_key c) (order_of c) keys_order changes old mid new (name_key c from) (Some (name_key c to)) rows none ran shown);
+          subst (λ them. ShowInOrder (order_of c) them rows)
+          (same_names (λ n. is_key_within (name_key c from) (Some (name_key c to)) (name_key c n.0)) (λ n. not (is_lt (order_of c n.0 from)) && is_lt (order_of c n.0 to)) (between_is from to) names)
+          (range_shown (name_key c from) (Some (name_key c to)) rows shown);
       within = λ lower upper passes stand rows shown.
-          subst (λ names. ShowInOrder (order_of c) names rows)
-          (same_names (λ n. is_key_within lower upper (name_key c n.0)) (λ n. passes n.0) (λ n. within lower upper (name_key c n.0) ∙ stand n.0) (left_after_all changes []))
-          ((changes_listed g).ranges (name_key c) (order_of c) keys_order changes old mid new lower upper rows none ran shown);
+          subst (λ them. ShowInOrder (order_of c) them rows)
+          (same_names (λ n. is_key_within lower upper (name_key c n.0)) (λ n. passes n.0) (λ n. within lower upper (name_key c n.0) ∙ stand n.0) names)
+          (range_shown lower upper rows shown);
     }
+
+module _ {S : Type 0} (g : Ghosts S) where
+  pub names_listed : NamesAreListed g
+  names_listed c sound kept changes old mid new keeps keyed ran =
+      shows c sound g (left_after_all changes (map named kept)) mid new
+      (λ rows shown. (changes_listed g).all (name_key c) (order_of c) (keys_order c sound) kept changes old mid new rows keeps keyed ran shown)
+      (λ lower upper rows shown. (changes_listed g).ranges (name_key c) (order_of c) (keys_order c sound) kept changes old mid new lower upper rows keeps keyed ran shown)
+
+  pub rebuilt_listed : RebuiltNamesAreListed g
+  rebuilt_listed c sound fingerprint settings kept changes old anew mid new keeps remade ran =
+      shows c sound g (left_after_all changes (map named kept)) mid new
+      (λ rows shown. (rebuilds_listed g).all (name_key c) (order_of c) (keys_order c sound) fingerprint settings kept changes old anew mid new rows keeps remade ran shown)
+      (λ lower upper rows shown. (rebuilds_listed g).ranges (name_key c) (order_of c) (keys_order c sound) fingerprint settings kept changes old anew mid new lower upper rows keeps remade ran shown)

@@ -23,11 +23,11 @@ use Rattle.icu_stored_rows.proofs.ValueLemmas.{number_below, same_value, went}
 use Rattle.icu_stored_rows.specs.KeptNames.{KeptName, AreNumbered, Keeps, next_number, row_of, with_name}
 use Rattle.icu_stored_rows.specs.StoredSchemas.{names_schema, names_table}
 
-either : (b : Bool) (x : Value) → cond b x x ≡ x
+pub either : (b : Bool) (x : Value) → cond b x x ≡ x
 either true x = refl
 either false x = refl
 
-cast_null : cast Integer Null ≡ Null
+pub cast_null : cast Integer Null ≡ Null
 unfolding unary
 cast_null = either _ Null
 

@@ -1,5 +1,5 @@
 -- From names with numbers and keys to names.
-use Rattle.std.proofs.Common.{◌≡◌, ℕ, ◌+◌, ◌<◌, not, ◌&&◌, Bool, true, false, List, [], ◌∷◌, ◌++◌, length, map, filter, get_or, bytes_eq, All, refl, sym, ap, ap₂, ◌∙◌, subst, arith}
+use Rattle.std.proofs.Common.{◌≡◌, ℕ, ◌+◌, ◌<◌, not, ◌&&◌, Bool, true, false, List, [], ◌∷◌, ◌++◌, length, map, filter, get_or, bytes_eq, Option, All, refl, sym, ap, ap₂, ◌∙◌, subst, arith}
 use Rattle.std.proofs.Math.ListN.{length-map}
 use Rattle.std.proofs.lemmas.List.{get_or-map, map-append}
 use Rattle.std.proofs.lemmas.List.Elements.{All-from_recursion}
@@ -13,14 +13,15 @@ use Rattle.std.specs.declared.cmp.Ordering.{Ordering}
 use Rattle.sqlite_trees.proofs.ListLemmas.{filter-map}
 use Rattle.sqlite_value.specs.Order.{Row}
 use Rattle.icu_stored_rows.proofs.NumberedListLemmas.{all_filter}
-use Rattle.icu_stored_rows.specs.KeptNames.{KeptName, IsListingOf, is_key_within, is_this_name, is_within, left_by_all, next_number, shown_row, with_name, without_named}
-use Rattle.sqlite.specs.Held.{state}
+use Rattle.icu_stored_rows.specs.KeptNames.{HaveNameKeys, KeptName, IsListingOf, Keeps, is_key_within, is_this_name, is_within, left_by_all, next_number, shown_row, under_key, with_name, without_named}
+use Rattle.sqlite.specs.Held.{Held, state}
+use Rattle.sqlite.specs.State.{Shown}
 use Rattle.sqlite_trees.specs.declared.store.Store.{Ghosts}
 use Rattle.icu_stored_rows.proofs.RanStatements.{all_listed, range_listed, steps_leave}
-use Rattle.icu_stored_rows.specs.NameListings.{Change, ChangesAreListed, Named, ShowInOrder, ShowsName, add, left_after_all, remove, step_of, IsNameListing, KeysOrder}
-
-abbrev named : KeptName → Named
-named k = (k.name, k.payload)
+use Rattle.icu_stored_names.specs.StatementTexts.{all_text, range_parameters, range_text}
+use Rattle.icu_stored_rows.proofs.RekeyedNames.{names_rekeyed}
+use Rattle.icu_stored_rows.specs.NameListings.{Change, ChangesAreListed, Named, RebuildsAreListed, ShowInOrder, ShowsName, add, left_after_all, named, remove, step_of, IsNameListing, KeysOrder}
+use Rattle.icu_stored_rows.specs.RowLaws.{RunInTurn}
 
 same_on : (p q : KeptName → Bool) (ks : List KeptName) → AllByRecursion (λ k. p k ≡ q k) ks → filter p ks ≡ filter q ks
 same_on p q [] h = refl
@@ -123,24 +124,59 @@ module _ (key : List ℕ → List ℕ) (order : List ℕ → List ℕ → Orderi
   pub shown_in_order : AllByRecursion (HasKey key) kept → IsListingOf kept listed → rows ≡ map shown_row listed → ShowInOrder order (map named kept) rows
   shown_in_order has is are = (map named listed, listing_of_names key order keys kept listed has is, subst (λ rs. AllZip ShowsName rs (map named listed)) (sym are) (rows_show listed))
 
+module _ {S : Type 0} (g : Ghosts S) (key : List ℕ → List ℕ) (order : List ℕ → List ℕ → Ordering) (keys : KeysOrder key order)
+    (kept : List KeptName) (changes : List Change) (old mid new : Held S) (keeps : Keeps (state g old).now kept) (keyed : HaveNameKeys key kept)
+    (ran : RunInTurn g (map (step_of key) changes) old mid) (rows : List Row) where
+  abbrev left_names : List KeptName
+  left_names = left_by_all (map (step_of key) changes) kept
+
+  left : AllByRecursion (HasKey key) left_names × (map named left_names ≡ left_after_all changes (map named kept))
+  left = changed key changes kept (map named kept) keyed refl
+
+  keeps_left : Keeps (state g mid).now left_names
+  keeps_left = steps_leave g (map (step_of key) changes) old mid kept keeps ran
+
+  all_in_order : Shown all_text [] (state g mid) (state g new) rows → ShowInOrder order (left_after_all changes (map named kept)) rows
+  all_in_order shown =
+      let listed = all_listed (state g mid) (state g new) rows left_names keeps_left shown in
+      subst (λ names. ShowInOrder order names rows) left.1 (shown_in_order key order keys left_names listed.0 rows left.0 listed.1 listed.2)
+
+  range_in_order : (lower : List ℕ) (upper : Option (List ℕ)) → Shown (range_text upper) (range_parameters lower upper) (state g mid) (state g new) rows
+      → ShowInOrder order (filter (λ n. is_key_within lower upper (key n.0)) (left_after_all changes (map named kept))) rows
+  range_in_order lower upper shown =
+      let listed = range_listed (state g mid) (state g new) lower upper rows left_names keeps_left shown in
+      let part = filter (is_within lower upper) left_names in
+      let within : map named part ≡ filter (λ (n : Named). is_key_within lower upper (key n.0)) (left_after_all changes (map named kept)) =
+      ap (map named) (same_on (is_within lower upper) (λ k. is_key_within lower upper (key k.name)) left_names
+      (all_map (HasKey key) (λ k. is_within lower upper k ≡ is_key_within lower upper (key k.name)) (λ k h. ap (is_key_within lower upper) h) left_names left.0))
+      ∙ (sym (filter-map (λ (n : Named). is_key_within lower upper (key n.0)) named left_names) ∙ ap (filter (λ (n : Named). is_key_within lower upper (key n.0))) left.1) in
+      subst (λ names. ShowInOrder order names rows) within
+      (shown_in_order key order keys part listed.0 rows (all_filter (HasKey key) (is_within lower upper) left_names left.0) listed.1 listed.2)
+
 module _ {S : Type 0} (g : Ghosts S) where
   pub changes_listed : ChangesAreListed g
   changes_listed = record {
-    all = λ key order keys changes old mid new rows none ran shown.
-        let steps = map (step_of key) changes in
-        let left = changed key changes [] [] tt refl in
-        let listed = all_listed (state g mid) (state g new) rows (left_by_all steps []) (steps_leave g steps old mid [] none ran) shown in
-        subst (λ names. ShowInOrder order names rows) left.1 (shown_in_order key order keys (left_by_all steps []) listed.0 rows left.0 listed.1 listed.2);
-    ranges = λ key order keys changes old mid new lower upper rows none ran shown.
-        let steps = map (step_of key) changes in
-        let left = changed key changes [] [] tt refl in
-        let kept = left_by_all steps [] in
-        let listed = range_listed (state g mid) (state g new) lower upper rows kept (steps_leave g steps old mid [] none ran) shown in
-        let part = filter (is_within lower upper) kept in
-        let within : map named part ≡ filter (λ (n : Named). is_key_within lower upper (key n.0)) (left_after_all changes []) =
-        ap (map named) (same_on (is_within lower upper) (λ k. is_key_within lower upper (key k.name)) kept
-        (all_map (HasKey key) (λ k. is_within lower upper k ≡ is_key_within lower upper (key k.name)) (λ k h. ap (is_key_within lower upper) h) kept left.0))
-        ∙ (sym (filter-map (λ (n : Named). is_key_within lower upper (key n.0)) named kept) ∙ ap (filter (λ (n : Named). is_key_within lower upper (key n.0))) left.1) in
-        subst (λ names. ShowInOrder order names rows) within
-        (shown_in_order key order keys part listed.0 rows (all_filter (HasKey key) (is_within lower upper) kept left.0) listed.1 listed.2);
+    all = λ key order keys kept changes old mid new rows keeps keyed ran shown. all_in_order g key order keys kept changes old mid new keeps keyed ran rows shown;
+    ranges = λ key order keys kept changes old mid new lower upper rows keeps keyed ran shown.
+        range_in_order g key order keys kept changes old mid new keeps keyed ran rows lower upper shown;
+  }
+
+  -- ---- of an index that was made anew
+
+  keyed_anew : (key : List ℕ → List ℕ) (kept : List KeptName) → HaveNameKeys key (map (under_key key) kept)
+  keyed_anew key [] = tt
+  keyed_anew key (k ∷ kept) = (refl, keyed_anew key kept)
+
+  named_anew : (key : List ℕ → List ℕ) (kept : List KeptName) → map named (map (under_key key) kept) ≡ map named kept
+  named_anew key [] = refl
+  named_anew key (k ∷ kept) = ap (λ l. named k ∷ l) (named_anew key kept)
+
+  pub rebuilds_listed : RebuildsAreListed g
+  rebuilds_listed = record {
+    all = λ key order keys fingerprint settings kept changes old anew mid new rows keeps remade ran shown.
+        subst (λ names. ShowInOrder order (left_after_all changes names) rows) (named_anew key kept)
+        (all_in_order g key order keys (map (under_key key) kept) changes anew mid new (names_rekeyed g key fingerprint settings old anew kept keeps remade) (keyed_anew key kept) ran rows shown);
+    ranges = λ key order keys fingerprint settings kept changes old anew mid new lower upper rows keeps remade ran shown.
+        subst (λ names. ShowInOrder order (filter (λ (n : Named). is_key_within lower upper (key n.0)) (left_after_all changes names)) rows) (named_anew key kept)
+        (range_in_order g key order keys (map (under_key key) kept) changes anew mid new (names_rekeyed g key fingerprint settings old anew kept keeps remade) (keyed_anew key kept) ran rows lower upper shown);
   }

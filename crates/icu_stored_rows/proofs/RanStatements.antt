@@ -16,10 +16,12 @@ use Rattle.sqlite_value.specs.declared.value.Value.TheVariants.{Blob}
 use Rattle.icu_stored_names.specs.StatementTexts.{all_text, range_parameters, range_text}
 use Rattle.icu_stored_rows.proofs.InsertedRows.{inserts}
 use Rattle.icu_stored_rows.proofs.ListedRows.{shows}
+use Rattle.icu_stored_rows.proofs.PrintedRows.{prints_first, prints_other}
+use Rattle.icu_stored_rows.proofs.RekeyedRows.{rekeys}
 use Rattle.icu_stored_rows.proofs.RemovedRows.{removes}
 use Rattle.icu_stored_rows.proofs.StatementMeanings.{all_is, behind_is, between_is, key_is_at_least, key_is_below}
 use Rattle.icu_stored_rows.proofs.ValueLemmas.{blobs_compared}
-use Rattle.icu_stored_rows.specs.KeptNames.{KeptName, NameStep, added, removed, IsListingOf, Keeps, is_within, left_by, left_by_all, row_of, shown_row}
+use Rattle.icu_stored_rows.specs.KeptNames.{KeptName, NameStep, added, first_print, other_print, rekeyed, removed, IsListingOf, Keeps, is_within, left_by, left_by_all, row_of, shown_row}
 use Rattle.icu_stored_rows.specs.RowLaws.{Runs, RunInTurn}
 
 -- the database has the same names where it is the same
@@ -30,6 +32,9 @@ module _ {S : Type 0} (g : Ghosts S) where
   leaves : (step : NameStep) (old new : Held S) (kept : List KeptName) → Keeps (state g old).now kept → Runs g step old new → Keeps (state g new).now (left_by step kept)
   leaves (added key name payload) old new kept keeps h = inserts (state g old) (state g new) key name payload h.0 kept keeps h.1
   leaves (removed key name) old new kept keeps h = removes key name (state g old) (state g new) h.0 kept keeps h.1
+  leaves (rekeyed number key) old new kept keeps h = rekeys number key (state g old) (state g new) h.0 kept keeps h.1
+  leaves (first_print fingerprint settings) old new kept keeps h = prints_first fingerprint settings (state g old) (state g new) h.0 kept keeps h.1
+  leaves (other_print fingerprint settings) old new kept keeps h = prints_other fingerprint settings (state g old) (state g new) h.0 kept keeps h.1
 
   pub steps_leave : (steps : List NameStep) (old new : Held S) (kept : List KeptName) → Keeps (state g old).now kept → RunInTurn g steps old new → Keeps (state g new).now (left_by_all steps kept)
   steps_leave [] old new kept keeps h = keeps_as (state g old).now (state g new).now kept h keeps

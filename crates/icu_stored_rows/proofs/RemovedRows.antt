@@ -34,14 +34,14 @@ and-true false c = refl
 
 -- ---- rows without those of some numbers
 
-abbrev is_numbered_as : KeptName → KeptName → Bool
+abbrev pub is_numbered_as : KeptName → KeptName → Bool
 is_numbered_as k g = k.number == g.number
 
 filter_all : (ks : List KeptName) → filter (λ k. true) ks ≡ ks
 filter_all [] = refl
 filter_all (k ∷ ks) = ap (λ l. k ∷ l) (filter_all ks)
 
-without_one : (g : KeptName) (ks : List KeptName) → without_rowid (pos g.number) (map row_of ks) ≡ map row_of (filter (λ k. not (is_numbered_as k g)) ks)
+pub without_one : (g : KeptName) (ks : List KeptName) → without_rowid (pos g.number) (map row_of ks) ≡ map row_of (filter (λ k. not (is_numbered_as k g)) ks)
 without_one g ks =
     filter-map (λ r. not (has_rowid (pos g.number) r)) row_of ks
     ∙ ap (λ p. map row_of (filter p ks)) (λ i k. not (same_number k.number g.number i))

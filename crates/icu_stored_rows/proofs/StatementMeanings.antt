@@ -4,7 +4,7 @@ use Rattle.sqlite.specs.Listing.{understood, reads_listing}
 use Rattle.sqlite.proofs.Callers.{IsPlain, command_of}
 use Rattle.sqlite_tied.specs.Compute.{everything}
 use Rattle.sqlite_schema.specs.declared.command.Command.{Command}
-use Rattle.sqlite_schema.specs.declared.command.Command.TheVariants.{Insert, Select, Delete}
+use Rattle.sqlite_schema.specs.declared.command.Command.TheVariants.{Insert, Select, Delete, Update}
 use Rattle.sqlite_schema.specs.declared.command.Source.TheVariants.{Values}
 use Rattle.sqlite_sql.specs.Query.{Query, inner, end}
 use Rattle.sqlite_sql.specs.Term.{Term, lit, col, op2}
@@ -14,7 +14,7 @@ use Rattle.sqlite_value.specs.declared.keys.Collation.TheVariants.{Binary}
 use Rattle.sqlite_value.specs.declared.keys.Key.{Key}
 use Rattle.sqlite_value.specs.declared.value.Value.TheVariants.{Int, Null}
 use Rattle.sqlite_value.specs.Keys.{ascending}
-use Rattle.icu_stored_names.specs.StatementTexts.{insert_text, remove_named_text, all_text, between_text, behind_text}
+use Rattle.icu_stored_names.specs.StatementTexts.{insert_text, keep_fingerprint_text, rekey_text, remove_named_text, replace_fingerprint_text, all_text, between_text, behind_text}
 use Rattle.icu_stored_rows.specs.StoredSchemas.{names_schema}
 
 -- the query of a statement over the table of names
@@ -89,3 +89,40 @@ between_is = (refl, (refl, refl), refl)
 pub behind_is : Lists behind_text (key_is_at_least ∷ [])
 unfolding understood everything
 behind_is = (refl, (refl, refl), refl)
+
+-- ---- another key, and the fingerprint
+
+abbrev pub number_is : Term
+number_is = op2 (Compare Eq Binary) (col 1 0) (col 0 0)
+
+-- the number that the row has, and then the row that comes in its place
+abbrev pub rekey_query : Query
+rekey_query = query_of (number_is ∷ []) (col 1 0 ∷ col 1 0 ∷ lit Null ∷ col 0 1 ∷ col 1 3 ∷ col 1 4 ∷ []) []
+
+abbrev pub rekey_command : Command
+rekey_command = Update 0 (record { lets = []; body = rekey_query })
+
+pub rekey_is : (command_of (understood names_schema rekey_text) ≡ rekey_command) × IsPlain (understood names_schema rekey_text)
+unfolding understood everything
+rekey_is = (refl, (refl, refl))
+
+abbrev print_test : Term
+print_test = op2 (Compare Eq Binary) (col 1 0) (lit (Int (pos 1)))
+
+abbrev pub other_print_query : Query
+other_print_query =
+    record (query_of (print_test ∷ []) (col 1 0 ∷ col 1 0 ∷ lit Null ∷ col 0 0 ∷ col 0 1 ∷ []) []) { from = inner 2 end }
+
+abbrev pub other_print_command : Command
+other_print_command = Update 1 (record { lets = []; body = other_print_query })
+
+pub other_print_is : (command_of (understood names_schema replace_fingerprint_text) ≡ other_print_command) × IsPlain (understood names_schema replace_fingerprint_text)
+unfolding understood everything
+other_print_is = (refl, (refl, refl))
+
+abbrev pub first_print_command : Command
+first_print_command = Insert 1 (Values (lit (Int (pos 1)) ∷ lit Null ∷ col 0 0 ∷ col 0 1 ∷ []) 4)
+
+pub first_print_is : (command_of (understood names_schema keep_fingerprint_text) ≡ first_print_command) × IsPlain (understood names_schema keep_fingerprint_text)
+unfolding understood everything
+first_print_is = (refl, (refl, refl))

@@ -1,5 +1,5 @@
 -- Numbers and bytes as SQL compares them, and how a statement that isn't refused went.
-use Rattle.std.proofs.Common.{◌≡◌, ◌⊎◌, inl, inr, ℕ, pos, ◌<◌, ◌==◌, Bool, true, false, List, Some, Ok, Err, Result, refl, ap, ◌∙◌, arith, Less, bytes_eq}
+use Rattle.std.proofs.Common.{◌≡◌, ◌⊎◌, inl, inr, ℕ, pos, ◌<◌, ◌==◌, Bool, true, false, List, Some, Ok, Err, Result, refl, ap, ◌∙◌, arith, Less, Greater, bytes_eq}
 use Rattle.std.proofs.lemmas.Bool.Decides.{nat_tests}
 use Rattle.std.proofs.lemmas.Map.Text.{is_eq-slice_cmp}
 use Rattle.std.specs.Cmp.Lexicographic.{slice_cmp}
@@ -25,6 +25,12 @@ nat_equal m n = grind (arith, nat_tests)
 pub number_below : (m n : ℕ) → m < n → value_cmp (Int (pos m)) (Int (pos n)) ≡ Less
 number_below m n h = value_cmp-Int (pos m) (pos n) ∙ (pos_cmp m n ∙ nat_below m n h)
 
+nat_above : (m n : ℕ) → m < n → nat_cmp n m ≡ Greater
+nat_above m n h = grind (arith, nat_tests)
+
+pub number_above : (m n : ℕ) → m < n → value_cmp (Int (pos n)) (Int (pos m)) ≡ Greater
+number_above m n h = value_cmp-Int (pos n) (pos m) ∙ (pos_cmp n m ∙ nat_above m n h)
+
 pub same_number : (m n : ℕ) → is_eq (value_cmp (Int (pos m)) (Int (pos n))) ≡ (m == n)
 same_number m n = ap is_eq (value_cmp-Int (pos m) (pos n) ∙ pos_cmp m n) ∙ nat_equal m n
 
@@ -39,6 +45,11 @@ blobs_compared op a b = truth_of (test op (value_cmp (Blob a) (Blob b))) ∙ ap 
 
 pub same_blobs : (a b : List ℕ) → is_true (binary (Compare Eq Binary) (Blob a) (Blob b)) ≡ bytes_eq a b
 same_blobs a b = blobs_compared Eq a b ∙ is_eq-slice_cmp a b
+
+-- a comparison of two numbers for equality holds where they are one
+pub same_ints : (m n : ℕ) → is_true (binary (Compare Eq Binary) (Int (pos m)) (Int (pos n))) ≡ (m == n)
+unfolding binary
+same_ints m n = truth_of (is_eq (value_cmp (Int (pos m)) (Int (pos n)))) ∙ same_number m n
 
 -- a part that gave a value did not stop on the way
 pub went : {B E R : Type 0} {b : B} {Stops : E → Type 0} → ((stop : E) × Stops stop × (Ok b ≡ Err stop)) ⊎ R → R

@@ -1,6 +1,7 @@
 -- Names as a database keeps them, and what is made of them.
-use Rattle.std.specs.Prelude.{◌≡◌, ℕ, pos, ◌+◌, ◌<◌, Bool, not, ◌&&◌, List, [], ◌∷◌, ◌++◌, map, filter, fold, bytes_eq, Option, Some, None}
+use Rattle.std.specs.Prelude.{◌≡◌, ℕ, pos, ◌+◌, ◌<◌, Bool, not, ◌&&◌, ◌==◌, if◌then◌else◌, List, [], ◌∷◌, ◌++◌, map, filter, fold, bytes_eq, Option, Some, None}
 use Rattle.std.specs.Cmp.Lexicographic.{slice_cmp}
+use Rattle.std.specs.List.{AllByRecursion}
 use Rattle.std.specs.List.Sorted.{IsPermutation, IsSortedByKey, IsStableByKey}
 use Rattle.std.specs.Ordering.{nat_cmp, is_ge, is_lt}
 use Rattle.sqlite.specs.Effect.{Database}
@@ -47,6 +48,14 @@ with_name key name payload kept =
 abbrev pub is_this_name : List ℕ → List ℕ → KeptName → Bool
 is_this_name key name k = bytes_eq k.key key && bytes_eq k.name name
 
+-- a name, under another key where it has a number
+abbrev pub key_given : ℕ → List ℕ → KeptName → KeptName
+key_given number key k = if k.number == number then record k { key = key } else k
+
+-- the names, of which the one of a number is under another key
+abbrev pub with_other_key : ℕ → List ℕ → List KeptName → List KeptName
+with_other_key number key kept = map (key_given number key) kept
+
 -- the names without those of a key that are some bytes
 abbrev pub without_named : List ℕ → List ℕ → List KeptName → List KeptName
 without_named key name kept = filter (λ k. not (is_this_name key name k)) kept
@@ -72,12 +81,33 @@ pub data NameStep : Type 0 where
   added : List ℕ → List ℕ → List ℕ → NameStep
   -- the names of a key that are some bytes are removed
   removed : List ℕ → List ℕ → NameStep
+  -- the name of a number gets another key
+  rekeyed : ℕ → List ℕ → NameStep
+  -- a fingerprint and its settings come beside the names, or in the place of others
+  first_print : List ℕ → List ℕ → NameStep
+  other_print : List ℕ → List ℕ → NameStep
 
 -- the names that a step leaves
 abbrev pub left_by : NameStep → List KeptName → List KeptName
 left_by (added key name payload) kept = with_name key name payload kept
 left_by (removed key name) kept = without_named key name kept
+left_by (rekeyed number key) kept = with_other_key number key kept
+left_by (first_print fingerprint settings) kept = kept
+left_by (other_print fingerprint settings) kept = kept
 
 -- the names that steps leave, one after another
 abbrev pub left_by_all : List NameStep → List KeptName → List KeptName
 left_by_all steps kept = fold (λ names step. left_by step names) kept steps
+
+-- a name under the key that names have
+abbrev pub under_key : (List ℕ → List ℕ) → KeptName → KeptName
+under_key key k = record k { key = key k.name }
+
+-- each name has the key that names have
+abbrev pub HaveNameKeys : (List ℕ → List ℕ) → List KeptName → Type 0
+HaveNameKeys key = AllByRecursion (λ k. k.key ≡ key k.name)
+
+-- the steps that make an index anew: each name gets the key that names have, and then comes another fingerprint
+abbrev pub rekeying : (List ℕ → List ℕ) → List ℕ → List ℕ → List KeptName → List NameStep
+rekeying key fingerprint settings kept =
+    map (λ k. rekeyed k.number (key k.name)) kept ++ other_print fingerprint settings ∷ []

@@ -11,12 +11,16 @@ use Rattle.sqlite_trees.specs.declared.store.Store.{Ghosts}
 use Rattle.sqlite_value.specs.Order.{Row, column}
 use Rattle.sqlite_value.specs.declared.value.Value.TheVariants.{Blob}
 use Rattle.icu_stored_names.specs.StatementTexts.{all_text, range_parameters, range_text}
-use Rattle.icu_stored_rows.specs.KeptNames.{NameStep, added, removed, Keeps, is_key_within}
+use Rattle.icu_stored_rows.specs.KeptNames.{HaveNameKeys, KeptName, NameStep, added, removed, Keeps, is_key_within, rekeying}
 use Rattle.icu_stored_rows.specs.RowLaws.{RunInTurn}
 
 -- a name, and what is kept with it
 abbrev pub Named : Type 0
 Named = List ℕ × List ℕ
+
+-- a name that a database keeps, as a name
+abbrev pub named : KeptName → Named
+named k = (k.name, k.payload)
 
 -- what is done to names
 pub data Change : Type 0 where
@@ -58,16 +62,31 @@ abbrev pub ShowInOrder : (List ℕ → List ℕ → Ordering) → List Named →
 ShowInOrder order names rows = (listed : List Named) × IsNameListing order names listed × AllZip ShowsName rows listed
 
 module _ {S : Type 0} (g : Ghosts S) where
-  -- After changes to an index of no names, the query for all names shows just those that were added and not removed,
-  -- in order, those that compare Equal as they came in; and the query for a range just those whose keys stand between
-  -- its bounds.
+  -- After changes to an index whose names have their keys, the query for all names shows just those that were there or
+  -- were added, and not removed, in order, those that compare Equal as they came in; and the query for a range just
+  -- those whose keys stand between its bounds.
   pub record ChangesAreListed : Type 0 where
     pub all : (key : List ℕ → List ℕ) (order : List ℕ → List ℕ → Ordering) → KeysOrder key order
-        → (changes : List Change) (old mid new : Held S) (rows : List Row) → Keeps (state g old).now []
-        → RunInTurn g (map (step_of key) changes) old mid → Shown all_text [] (state g mid) (state g new) rows
-        → ShowInOrder order (left_after_all changes []) rows
+        → (kept : List KeptName) (changes : List Change) (old mid new : Held S) (rows : List Row)
+        → Keeps (state g old).now kept → HaveNameKeys key kept → RunInTurn g (map (step_of key) changes) old mid
+        → Shown all_text [] (state g mid) (state g new) rows
+        → ShowInOrder order (left_after_all changes (map named kept)) rows
     pub ranges : (key : List ℕ → List ℕ) (order : List ℕ → List ℕ → Ordering) → KeysOrder key order
-        → (changes : List Change) (old mid new : Held S) (lower : List ℕ) (upper : Option (List ℕ)) (rows : List Row)
-        → Keeps (state g old).now [] → RunInTurn g (map (step_of key) changes) old mid
+        → (kept : List KeptName) (changes : List Change) (old mid new : Held S) (lower : List ℕ) (upper : Option (List ℕ)) (rows : List Row)
+        → Keeps (state g old).now kept → HaveNameKeys key kept → RunInTurn g (map (step_of key) changes) old mid
         → Shown (range_text upper) (range_parameters lower upper) (state g mid) (state g new) rows
-        → ShowInOrder order (filter (λ n. is_key_within lower upper (key n.0)) (left_after_all changes [])) rows
+        → ShowInOrder order (filter (λ n. is_key_within lower upper (key n.0)) (left_after_all changes (map named kept))) rows
+
+  -- So do the queries after an index was made anew and changed then, whatever keys its names had before.
+  pub record RebuildsAreListed : Type 0 where
+    pub all : (key : List ℕ → List ℕ) (order : List ℕ → List ℕ → Ordering) → KeysOrder key order
+        → (fingerprint settings : List ℕ) (kept : List KeptName) (changes : List Change) (old anew mid new : Held S) (rows : List Row)
+        → Keeps (state g old).now kept → RunInTurn g (rekeying key fingerprint settings kept) old anew
+        → RunInTurn g (map (step_of key) changes) anew mid → Shown all_text [] (state g mid) (state g new) rows
+        → ShowInOrder order (left_after_all changes (map named kept)) rows
+    pub ranges : (key : List ℕ → List ℕ) (order : List ℕ → List ℕ → Ordering) → KeysOrder key order
+        → (fingerprint settings : List ℕ) (kept : List KeptName) (changes : List Change) (old anew mid new : Held S) (lower : List ℕ) (upper : Option (List ℕ)) (rows : List Row)
+        → Keeps (state g old).now kept → RunInTurn g (rekeying key fingerprint settings kept) old anew
+        → RunInTurn g (map (step_of key) changes) anew mid
+        → Shown (range_text upper) (range_parameters lower upper) (state g mid) (state g new) rows
+        → ShowInOrder order (filter (λ n. is_key_within lower upper (key n.0)) (left_after_all changes (map named kept))) rows

@@ -1,14 +1,14 @@
 -- What the statements of an index make of its names, and what its queries show of them.
-use Rattle.std.specs.Prelude.{◌≡◌, ◌⊎◌, ℕ, List, [], ◌∷◌, map, filter, Option, Ok, Err, IsTrue}
+use Rattle.std.specs.Prelude.{◌≡◌, ◌⊎◌, ℕ, pos, List, [], ◌∷◌, map, filter, Option, Ok, Err, IsTrue}
 use Rattle.sqlite.specs.Batch.{ExecutesAllInside}
 use Rattle.sqlite.specs.Held.{Held, state}
 use Rattle.sqlite.specs.State.{Executes, Shown}
 use Rattle.sqlite.specs.declared.error.Error.{Error}
 use Rattle.sqlite_trees.specs.declared.store.Store.{Ghosts}
 use Rattle.sqlite_value.specs.Order.{Row}
-use Rattle.sqlite_value.specs.declared.value.Value.TheVariants.{Blob}
-use Rattle.icu_stored_names.specs.StatementTexts.{all_text, insert_text, range_parameters, range_text, remove_named_text, tables_text}
-use Rattle.icu_stored_rows.specs.KeptNames.{KeptName, NameStep, added, removed, Keeps, IsListingOf, is_within, left_by_all, shown_row}
+use Rattle.sqlite_value.specs.declared.value.Value.TheVariants.{Blob, Int, Text}
+use Rattle.icu_stored_names.specs.StatementTexts.{all_text, insert_text, keep_fingerprint_text, range_parameters, range_text, rekey_text, remove_named_text, replace_fingerprint_text, tables_text}
+use Rattle.icu_stored_rows.specs.KeptNames.{KeptName, NameStep, added, first_print, other_print, rekeyed, removed, Keeps, IsListingOf, is_within, left_by_all, rekeying, shown_row, under_key}
 use Rattle.icu_stored_rows.specs.StoredSchemas.{no_schema}
 
 module _ {S : Type 0} (g : Ghosts S) where
@@ -18,6 +18,12 @@ module _ {S : Type 0} (g : Ghosts S) where
       (count : ℕ) × Executes insert_text (Blob key ∷ Blob name ∷ Blob payload ∷ []) (state g old) (state g new) (Ok count)
   Runs (removed key name) old new =
       (count : ℕ) × Executes remove_named_text (Blob key ∷ Blob name ∷ []) (state g old) (state g new) (Ok count)
+  Runs (rekeyed number key) old new =
+      (count : ℕ) × Executes rekey_text (Int (pos number) ∷ Blob key ∷ []) (state g old) (state g new) (Ok count)
+  Runs (first_print fingerprint settings) old new =
+      (count : ℕ) × Executes keep_fingerprint_text (Blob fingerprint ∷ Text settings ∷ []) (state g old) (state g new) (Ok count)
+  Runs (other_print fingerprint settings) old new =
+      (count : ℕ) × Executes replace_fingerprint_text (Blob fingerprint ∷ Text settings ∷ []) (state g old) (state g new) (Ok count)
 
   -- the statements of steps were run one after another; what came between two of them changed nothing that the
   -- connection sees
@@ -32,6 +38,13 @@ module _ {S : Type 0} (g : Ghosts S) where
   StepsLeaveNames =
       (steps : List NameStep) (old new : Held S) (kept : List KeptName) → Keeps (state g old).now kept
       → RunInTurn steps old new → Keeps (state g new).now (left_by_all steps kept)
+
+  -- where an index is made anew there are the same names, as they came in, each under its new key
+  abbrev pub NamesAreRekeyed : Type 0
+  NamesAreRekeyed =
+      (key : List ℕ → List ℕ) (fingerprint settings : List ℕ) (old new : Held S) (kept : List KeptName)
+      → Keeps (state g old).now kept → RunInTurn (rekeying key fingerprint settings kept) old new
+      → Keeps (state g new).now (map (under_key key) kept)
 
   -- the query for all names shows them in the order of their keys, those of equal keys as they came in
   abbrev pub AllAreListed : Type 0

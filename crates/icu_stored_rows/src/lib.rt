@@ -2,8 +2,8 @@
 //! show of them: laws that rest on the contracts of `sqlite`, each for any store.
 #![tactic(auto)]
 
-ghost use Rattle.icu_stored_rows.specs.NameListings.{ChangesAreListed};
-ghost use Rattle.icu_stored_rows.specs.RowLaws.{AllAreListed, FailuresLeaveNames, RangesAreListed, StepsLeaveNames, TablesAreMade};
+ghost use Rattle.icu_stored_rows.specs.NameListings.{ChangesAreListed, RebuildsAreListed};
+ghost use Rattle.icu_stored_rows.specs.RowLaws.{AllAreListed, FailuresLeaveNames, NamesAreRekeyed, RangesAreListed, StepsLeaveNames, TablesAreMade};
 
 use sqlite::Alter;
 
@@ -14,9 +14,16 @@ pub fn tables_are_made<S: Alter>()
 {}
 
 /// Over a database that has the tables of an index, after the statements of steps there are just the names that the
-/// steps leave, as they came in: those that were there and those that were added, without those that were removed.
+/// steps leave, as they came in: those that were there and those that were added, without those that were removed, and
+/// a name that got another key under that key. The statements on the fingerprint leave the names as they are.
 pub fn steps_leave_names<S: Alter>()
     ensures { StepsLeaveNames S.Store }
+{}
+
+/// After the statements that make an index anew, which give each name the key that names have now and keep another
+/// fingerprint, there are the same names, as they came in, each under its new key.
+pub fn names_are_rekeyed<S: Alter>()
+    ensures { NamesAreRekeyed S.Store }
 {}
 
 /// The query for all names shows them in the order of their keys, those of equal keys as they came in.
@@ -35,9 +42,16 @@ pub fn failures_leave_names<S: Alter>()
     ensures { FailuresLeaveNames S.Store }
 {}
 
-/// After changes to an index of no names, the query for all names shows just the names that were added and not removed,
-/// in order, those that compare Equal as they came in, and the query for a range just those whose keys stand between
-/// its bounds. For any order of names and any keys that compare as it does.
+/// After changes to an index whose names have their keys, as one of no names, the query for all names shows just the
+/// names that were there or were added, and not removed, in order, those that compare Equal as they came in, and the
+/// query for a range just those whose keys stand between its bounds. For any order of names and any keys that compare
+/// as it does.
 pub fn changes_are_listed<S: Alter>()
     ensures { ChangesAreListed S.Store }
+{}
+
+/// After an index was made anew, whatever keys its names had before, and after changes to it then, these queries show
+/// just the names that were there or were added, and not removed, in order.
+pub fn rebuilds_are_listed<S: Alter>()
+    ensures { RebuildsAreListed S.Store }
 {}
