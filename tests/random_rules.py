@@ -6,9 +6,10 @@
 It is no part of the gate. It wants g++, libicu-dev and pkg-config. The library is built as it stands, with no proof, in a copy of the
 crates, and then takes some seconds for each list; with --program it is asked by a program of tests/rule_keys that was built before, which takes a
 fortieth of a second for each. Both programs print sort keys (tests/rule_keys), whose order and level of difference are compared for all pairs of the texts
-of a set. First the library is asked for the rows of tests/rule_keys/rows.txt, whose levels are ICU4C's. ICU4C is asked for keys, since the order of its comparisons isn't always theirs. It prints how many sets were compared, how
-many were refused by both, by ICU4C alone, and by the library alone with the reasons, and each pair that is ordered otherwise. Status
-1: some are, or ICU4C alone refuses some.
+of a set. First the library is asked for the rows of tests/rule_keys/rows.txt, whose levels are ICU4C's. ICU4C is asked for keys, since the order of its comparisons isn't always theirs,
+and of the decomposed texts, since it may have two keys for equivalent ones. It prints how many sets were compared, how many were refused by both, by ICU4C alone, and by the library alone
+with the reasons, and each pair that is ordered otherwise. What differs for a reason that tests/rule_differences.py names is counted by this name. Status 1: some pairs differ
+without such a name, or ICU4C alone refuses some.
 """
 import argparse
 import collections
@@ -20,6 +21,8 @@ import shutil
 import subprocess
 import sys
 import tempfile
+
+from rule_differences import decomposed, has_weakened
 
 HERE = os.path.dirname(os.path.realpath(__file__))
 TOP = os.path.dirname(HERE)
@@ -233,24 +236,52 @@ def keys_there(folder, lines):
     return done.stdout.splitlines()
 
 
+def with_decomposed(lines):
+    """The lists of rules with each text as it stands, and decomposed."""
+    for line in lines:
+        rules, *texts = line.split("\t")
+        yield "\t".join([rules, *texts, *map(decomposed, texts)])
+
+
+def unlike_by(rules, texts, ours, peers):
+    """What differs: the name of the reason, or none, and what it is."""
+    ours, whole, parted = ours.split("\t")[1:], *halves(peers.split("\t")[1:])
+    for text, one, other in zip(texts, whole, parted):
+        if one != other:
+            yield "composed", f"two keys by ICU4C: {text!r}"
+    for first, second, level, other in unlike_pairs(texts, ours, parted):
+        yield "weakened" if has_weakened(rules) else None, f"{first!r} {second!r}: {level}, by ICU4C {other}"
+
+
+def halves(keys):
+    middle = len(keys) // 2
+    return keys[:middle], keys[middle:]
+
+
 def compare(lines, ours, peers):
     """Prints what differs. Returns whether nothing does that should not."""
-    counts, reasons, unlike = collections.Counter(), collections.Counter(), 0
+    counts, names, unlike = collections.Counter(), collections.Counter(), 0
     for line, here, there in zip(lines, ours, peers):
         rules, *texts = line.split("\t")
         accepted = here.startswith("ok"), there.startswith("ok")
+        if accepted == (True, False) and has_weakened(rules):
+            names["weakened"] += 1
+            print(f"weakened: {rules}: {there}")
+            continue
         counts[accepted] += 1
         if accepted == (False, True):
-            reasons[here] += 1
             print(f"refused here alone: {rules}: {here}")
         if accepted == (True, False):
             print(f"refused by ICU4C alone: {rules}: {there}")
         if accepted != (True, True):
             continue
-        for first, second, level, other in unlike_pairs(texts, here.split("\t")[1:], there.split("\t")[1:]):
-            unlike += 1
-            print(f"unlike: {rules}: {first!r} {second!r}: {level}, by ICU4C {other}")
-    print(f"{counts[True, True]} sets compared, {counts[True, True] * TEXTS * (TEXTS - 1) // 2} pairs, {unlike} unlike; refused by both "
+        found = list(unlike_by(rules, texts, here, there))
+        names.update({name for name, _ in found if name})
+        unlike += sum(name is None for name, _ in found)
+        for name, what in found:
+            print(f"{name or 'unlike'}: {rules}: {what}")
+    named = "".join(f", {count} {name}" for name, count in sorted(names.items()))
+    print(f"{counts[True, True]} sets compared, {counts[True, True] * TEXTS * (TEXTS - 1) // 2} pairs, {unlike} unlike{named}; refused by both "
           f"{counts[False, False]}, here alone {counts[False, True]}, by ICU4C alone {counts[True, False]}")
     return unlike == 0 and counts[True, False] == 0
 
@@ -269,7 +300,7 @@ def main():
     lines = [maker.line() for _ in range(chosen.sets)]
     small = [row for row in rows() if "\n" not in row[0]]
     asked = ["\t".join([rules, *texts]) for rules, texts, _ in small] + lines
-    peers = keys_there(chosen.folder, lines)
+    peers = keys_there(chosen.folder, list(with_decomposed(lines)))
     if chosen.program:
         ours = keys_of_program(chosen.program, chosen.folder, chosen.root, asked)
     else:
