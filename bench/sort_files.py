@@ -12,12 +12,13 @@ usage: bench/sort_files.py [--lines N ..] [--locale TAG ..] [--rounds N] [--seed
 --folder FOLDER   where the program and the lines are kept, outside of the repository (collation-bench in the user's cache)
 
 The table goes to standard output: seconds of processor, and megabytes at the peak. The program takes table files that were compiled
-before; what it takes to start, by CLDR's text and by such a file, is printed first. Status 1: lines were sorted otherwise than by ICU4C.
+before; what it takes to start, by CLDR's text and by such a file, is printed first. Status 1: lines were sorted otherwise than by ICU4C,
+those with ideographs left out, which it has by radicals and strokes (docs/DIFFERENCES.md).
 """
 import argparse
-import filecmp
 import multiprocessing
 import os
+import re
 import shlex
 import subprocess
 import sys
@@ -31,6 +32,7 @@ LOCALE = "en_US.UTF-8"
 CLDR = "/usr/share/unicode/cldr"
 # How much of the time and of the memory of ICU4C's program is wanted at most.
 LIMITS = (0.5, 1.2)
+IDEOGRAPHS = re.compile("[\u3400-\u9FFF\uF900-\uFAFF\U00020000-\U0003FFFF]")
 
 
 def built(folder):
@@ -87,7 +89,13 @@ def row(name, count, locale, words, programs, folder):
     ratios = [mine / theirs for mine, theirs in zip(library, peer)]
     marked = [f"{it:.2f}{' (above)' if it > limit else ''}" for it, limit in zip(ratios, LIMITS)]
     print_line([name, f"{count:,}", locale, shown(library), shown(peer), *marked, shown(sort) if sort else "-"])
-    return filecmp.cmp(ours, peers, shallow=False)
+    return plain_lines(ours) == plain_lines(peers)
+
+
+def plain_lines(file):
+    """The lines of a file that have no ideographs."""
+    with open(file, encoding="utf-8") as it:
+        return [line for line in it if not IDEOGRAPHS.search(line)]
 
 
 def print_starts(locale, words, programs, folder):
