@@ -22,7 +22,7 @@ import subprocess
 import sys
 import tempfile
 
-from rule_differences import decomposed, has_weakened
+from rule_differences import decomposed, has_weakened, name_of
 
 HERE = os.path.dirname(os.path.realpath(__file__))
 TOP = os.path.dirname(HERE)
@@ -250,7 +250,7 @@ def unlike_by(rules, texts, ours, peers):
         if one != other:
             yield "composed", f"two keys by ICU4C: {text!r}"
     for first, second, level, other in unlike_pairs(texts, ours, parted):
-        yield "weakened" if has_weakened(rules) else None, f"{first!r} {second!r}: {level}, by ICU4C {other}"
+        yield name_of(rules), f"{first!r} {second!r}: {level}, by ICU4C {other}"
 
 
 def halves(keys):

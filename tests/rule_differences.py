@@ -4,6 +4,8 @@
   element of that level, whatever its primary weight. A later reset to it with a stronger relation passes it over.
 - "composed": ICU4C reads a composed character as it stands, so it has two keys for canonically equivalent texts where a contraction begins
   within the character, or was suppressed for the letter of its decomposition alone. Keys of decomposed texts are compared.
+- "unchanged": ICU4C stores no mapping where a relation gives a string the elements that it has, as one of a string to itself, so a later
+  relation that moves a letter of the string moves the string.
 """
 import re
 import unicodedata
@@ -30,6 +32,16 @@ def spread(text):
         else:
             strings.append(character)
     return [decomposed(it) for it in strings]
+
+
+def related(rules):
+    """The resets and relations of rules, in turn: the level of [before n] or none, the reset's place, the level of a relation, its strings."""
+    for found in PARTS.finditer(rules):
+        before, anchor, sign, star, text = found.groups()
+        if anchor:
+            yield int(before or 0), anchor, None, []
+        elif sign:
+            yield None, None, 5 if sign == "=" else len(sign), spread(text) if star else [plain(text)]
 
 
 class Weakened:
@@ -79,11 +91,29 @@ class Weakened:
 def has_weakened(rules):
     """Whether ICU4C passes an element over by these rules that it holds weaker than it is."""
     state = Weakened()
-    for found in PARTS.finditer(rules):
-        before, anchor, sign, star, text = found.groups()
+    for before, anchor, level, strings in related(rules):
         if anchor:
-            state.reset(int(before or 0), anchor)
-        elif sign:
-            for string in spread(text) if star else [plain(text)]:
-                state.relate(5 if sign == "=" else len(sign), string)
+            state.reset(before, anchor)
+        for string in strings:
+            state.relate(level, string)
     return state.passed_over
+
+
+def has_unchanged(rules):
+    """Whether a string is related to itself."""
+    last = None
+    for _, anchor, level, strings in related(rules):
+        if anchor:
+            last = None if anchor.startswith("[") else plain(anchor)
+        for string in strings:
+            if level == 5 and string == last:
+                return True
+            last = string
+    return False
+
+
+def name_of(rules):
+    """The name of a reason for which ICU4C orders texts otherwise by these rules, if there is one."""
+    if has_weakened(rules):
+        return "weakened"
+    return "unchanged" if has_unchanged(rules) else None
