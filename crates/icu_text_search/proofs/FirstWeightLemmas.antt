@@ -125,7 +125,7 @@ counted-append last (x ∷ xs) ys =
       | inr not ↦ passed last x (xs ++ ys) not ∙ counted-append last xs ys ∙ ap (λ (l : List ℕ). l ++ counted_primaries last ys) (sym (passed last x xs not))
     ]
 
-nothing : (last : ℕ) → counted_primaries last [] ≡ []
+pub nothing : (last : ℕ) → counted_primaries last [] ≡ []
 unfolding counted_primaries
 nothing last = refl
 
@@ -243,7 +243,13 @@ module _ (c : Collation) (text : List ℕ) where
         (sym read ∙ front_whole front part rest more parts same)
         ∙ get_or-map f front met 0 0 inside)
 
-  -- none is left
+  -- none is left: so many count
+  pub reads_all : (old : List ℕ → List Element) (met : ℕ) → ReadFirst c text old met → ((before : List ℕ) → old before ≡ []) → met ≡ length (lists_by c (nfd text)).primaries
+  reads_all old met r none =
+      let all : elements_of (reading_by c) (nfd text) ≡ r.gone = r.elements ∙ ap (λ (l : List Element). r.gone ++ l) (none r.before) ∙ append-nil r.gone in
+      sym r.count ∙ ap (λ (l : List Element). length (counted_primaries last l)) (sym all) ∙ sym (ap length (primaries_counted c text))
+
+  -- none is left, and too few count
   pub reads_few : (front : List ℕ) (old : List ℕ → List Element) (met : ℕ) → ReadFirst c text old met → ((before : List ℕ) → old before ≡ []) → met < length front → BeginsOtherwise c text front
   reads_few front old met r none inside = λ part rest more parts same.
       let f = reorder c.tables in

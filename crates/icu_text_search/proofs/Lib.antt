@@ -8,3 +8,5 @@ pub mod TextCutLemmas
 pub mod ApartLeadLemmas
 pub mod SilentElementLemmas
 pub mod SilentStartLemmas
+pub mod AsciiMarkLemmas
+pub mod CountedWalks

@@ -84,6 +84,14 @@ as_many c text pattern equal =
     let same : map reorder t.primaries ≡ map reorder p.primaries = tied_lists (map reorder t.primaries) (map reorder p.primaries) tied in
     sym (length-map t.primaries reorder) ∙ ap length same ∙ length-map p.primaries reorder
 
+-- a part with another number isn't equal to the pattern
+pub unlike_count : (c : Collation) (text pattern : List ℕ) → (length (lists_by c (nfd text)).primaries ≡ length (lists_by c (nfd pattern)).primaries → ⊥) → is_eq (text_order c text pattern) ≡ false
+unlike_count c text pattern other =
+    elim (cases_Bool (is_eq (text_order c text pattern))) [
+      | inl equal ↦ absurd (other (as_many c text pattern equal))
+      | inr not ↦ not
+    ]
+
 -- a part with fewer isn't equal to the pattern
 pub too_few : (c : Collation) (text pattern : List ℕ) → length (lists_by c (nfd text)).primaries < length (lists_by c (nfd pattern)).primaries → is_eq (text_order c text pattern) ≡ false
 too_few c text pattern few =

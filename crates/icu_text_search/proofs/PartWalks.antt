@@ -66,7 +66,7 @@ module _ (s : Search) (text : List ℕ) (start : ℕ) where
   not_ended stop not =
       ends_not (s.allowed start) (nat_le start stop) (is_place (reading_by c) text start) (is_place (reading_by c) rest (stop - start)) (s.allowed stop) (equals_pattern s (slice_range text start stop)) not
 
-  matches_there : (stop : ℕ) → start ≤ stop → s.allowed start ≡ true → is_place (reading_by c) text start ≡ true → is_place (reading_by c) rest (stop - start) ≡ true
+  pub matches_there : (stop : ℕ) → start ≤ stop → s.allowed start ≡ true → is_place (reading_by c) text start ≡ true → is_place (reading_by c) rest (stop - start) ≡ true
       → ends_match s (slice_range text start stop) stop ≡ true → matches start stop ≡ true
   matches_there stop ordered allowed first last ends =
       let both = both_hold (s.allowed stop) (equals_pattern s (slice_range text start stop)) ends in

@@ -1,5 +1,5 @@
 -- The places of a text that is cut, and parts with which a text begins.
-use Rattle.std.proofs.Common.{◌≡◌, ℕ, zero, suc, ◌+◌, ◌-◌, ◌<◌, ◌≤◌, Bool, true, false, ◌&&◌, ◌||◌, ◌==◌, List, [], ◌∷◌, ◌++◌, Some, None, length, take, drop, get_or, refl, sym, ap, ◌∙◌, subst, arith, inl, inr, append-nil}
+use Rattle.std.proofs.Common.{◌≡◌, ℕ, zero, suc, ◌+◌, ◌-◌, ◌<◌, ◌≤◌, Bool, true, false, ◌&&◌, ◌||◌, ◌==◌, List, [], ◌∷◌, ◌++◌, Some, None, length, take, drop, get_or, refl, sym, ap, ◌∙◌, subst, arith, inl, inr, append-nil, length-append}
 use Rattle.std.specs.Prelude.{slice_range}
 use Rattle.std.specs.Option.{option_map}
 use Rattle.std.proofs.lemmas.Bool.{cases_Bool, cases_lt, eq-eqb, or_left, or_right, true≢false}
@@ -59,6 +59,19 @@ pub cut_is_place : (reading : Reading) (text : List ℕ) (k : ℕ) → CutsAt re
 cut_is_place reading text k at =
     let none : k + 0 ≡ k = omega arith in
     ap (is_place reading text) (sym none) ∙ places_from reading text k 0 (inr at) ∙ first_place reading (drop k text) 0 refl
+
+-- what follows a start has a place where a piece ends
+pub places_after : (reading : Reading) (text : List ℕ) (start stop : ℕ) → start ≤ stop → EndsPieceAt reading text stop → is_place reading (drop start text) (stop - start) ≡ true
+places_after reading text start stop ordered ends =
+    let i = stop - start in
+    places_to reading text start stop i ordered ends (omega arith)
+    ∙ last_place reading (slice_range text start stop) i (size ends)
+  where
+    size : EndsPieceAt reading text stop → stop - start ≡ length (slice_range text start stop)
+    size (inl end) = omega (arith, length-take-le (stop - start) (drop start text) (omega (arith, length-drop start text, end)))
+    size (inr at) =
+        let whole = ap length at.text_is in
+        omega (arith, length-take-le (stop - start) (drop start text) (omega (arith, length-drop start text, whole, length-append at.front (at.char ∷ at.tail), at.offset_is)))
 
 -- the places of a piece are those of the text there
 pub piece_places : (reading : Reading) (text : List ℕ) (cut offset stop : ℕ) → cut ≤ offset → offset < stop → BeginsPieceAt reading text cut → EndsPieceAt reading text stop

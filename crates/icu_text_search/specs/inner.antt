@@ -5,3 +5,5 @@ pub mod FirstWeights
 pub mod SearchCuts
 pub mod SilentStarts
 pub mod SilentTexts
+pub mod AsciiMarks
+pub mod CountedChars

@@ -26,7 +26,7 @@ pub(crate) struct KnownVariables {
 impl KnownVariables {
     /// Whether a primary weight counts, if that is known.
     #[inline(always)]
-    fn counts(self, primary: u32) -> Option<bool>
+    pub(crate) fn counts(self, primary: u32) -> Option<bool>
         ensures { (last : ℕ) → ForSome self.sure (λ p. last < p) → self.variable ≤ last
             → IfSome result (λ b. b ≡ counts last primary) }
     {

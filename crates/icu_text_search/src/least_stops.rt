@@ -38,13 +38,13 @@ impl<'s, 'c> SearchedText<'s, 'c> {
             return false;
         }
         let (first, rest) = text[start..].split_at(1);
+        if !self.searcher.passes_silent(first, rest) {
+            return false;
+        }
         if !self.cuts_at(start + 1) {
             return false;
         }
-        if !self.is_allowed(start + 1) {
-            return false;
-        }
-        self.searcher.passes_silent(first, rest)
+        self.is_allowed(start + 1)
     }
 
     /// Of the matches that begin at an offset, and end at `last` or before, where the one ends that ends first. Their

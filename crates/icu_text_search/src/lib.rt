@@ -7,7 +7,9 @@
 
 mod allowed_offsets;
 mod apart_leads;
+mod ascii_marks;
 mod boundary;
+mod counted_walk;
 mod encoded_searches;
 mod first_weights;
 mod found_matches;

@@ -18,7 +18,7 @@ impl<'s, 'c> SearchedText<'s, 'c> {
     ghost use Rattle.icu_text_search.specs.inner.PartOutcomes.{TellsOfPart, equals_pattern};
 
     /// Whether the part between two offsets is equal to the pattern.
-    fn part_equals(&self, start: usize, stop: usize) -> Result<bool, AllocError>
+    pub(crate) fn part_equals(&self, start: usize, stop: usize) -> Result<bool, AllocError>
         requires ordered { start ≤ stop }
         requires within { stop ≤ char_len_in self.now }
         ensures { IfOk result (λ b. b ≡ equals_pattern (searched_in self.now)
@@ -118,6 +118,10 @@ impl<'s, 'c> SearchedText<'s, 'c> {
         if self.searcher.equals_empty() {
             return Ok(Some(start));
         }
-        self.walk_along(start, &self.text.characters()[start..])
+        let told = self.counted_stop(start)?;
+        match told {
+            Some(stop) => Ok(stop),
+            None => self.walk_along(start, &self.text.characters()[start..]),
+        }
     }
 }

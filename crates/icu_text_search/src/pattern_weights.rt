@@ -12,8 +12,10 @@ ghost use Rattle.icu_text_search.specs.inner.OnePrimaries.{HasOnePrimary};
 
 use crate::first_weights::{KnownVariables, known_primaries};
 use icu_collator::CollatorBorrowed;
+use icu_cursor::FactsCursor;
 use icu_elements::{CollationElement, TextReading, all_elements};
 use icu_entries::element::MERGE_SEPARATOR_PRIMARY;
+use icu_indexed_text::CharsText;
 use std::alloc::{AllocError, Global};
 
 /// Whether a primary weight counts, where the last variable one is this: it is there, and elements that have it aren't
@@ -35,6 +37,31 @@ pub(crate) fn counted(elements: &[CollationElement], last: u32) -> usize
         }
     }
     count
+}
+
+/// So many elements of a character are looked at.
+const MOST: usize = 8;
+
+/// How many primary weights of a text count, if facts tell of its characters, and it has few elements. `None` says
+/// nothing.
+pub(crate) fn known_count(collator: &CollatorBorrowed<'_>, text: &[char]) -> Option<usize>
+    ensures { IfSome result (λ n. n ≡ length (lists_by (collation_borrowed collator.now)
+        (nfd text.now)).primaries) }
+{
+    let last = collator.last_variable();
+    let mut met = 0;
+    let tables = collator.cursor_tables();
+    let mut cursor = FactsCursor::new(&tables, CharsText(text));
+    for _ in 0..MOST {
+        let next = cursor.next_or_end()?;
+        let Some(element) = next else {
+            return Some(met);
+        };
+        if counts(last, element.primary()) {
+            met += 1;
+        }
+    }
+    None
 }
 
 /// How a collator reads texts.

@@ -14,20 +14,21 @@ ghost use Rattle.unicode_normalization.specs.Forms.{nfd};
 ghost use Rattle.icu_search.specs.PieceLaws.{BeginsPieces};
 ghost use Rattle.icu_text_search.specs.inner.SilentStarts.{EndsAtTertiaries};
 ghost use Rattle.icu_text_search.specs.inner.SilentTexts.{StartsSilently};
-ghost use Rattle.icu_text_search.specs.inner.FirstWeights.{AreApart, BeginsWith};
+ghost use Rattle.icu_text_search.specs.inner.AsciiMarks.{MarkCuts, MarkOthers};
+ghost use Rattle.icu_text_search.specs.inner.FirstWeights.{AreApart, BeginsOtherwise, BeginsWith};
 ghost use Rattle.icu_text_search.specs.inner.PartOutcomes.{equals_pattern};
 
 use crate::apart_leads::apart_leads;
+use crate::ascii_marks::{begins_pieces, cut_marks, has_mark, other_marks};
 use crate::first_weights::{KnownVariables, rules_out};
 use crate::pattern_weights::{
-    counted, first_primaries, first_sure, reading_of_collator, weight_count,
+    counted, first_primaries, first_sure, known_count, reading_of_collator, weight_count,
 };
 use crate::silent_starts::{ends_at_tertiaries, starts_silently};
 use icu_collator::{Collator, CollatorBorrowed};
 use icu_elements::{CollationElement, TextReading};
 use icu_encodings::{Latin1Text, Utf8Text, Utf16Text};
 use icu_indexed_text::utf8_copy;
-use icu_searcher::begins_letter;
 use std::alloc::{AllocError, Global};
 
 /// A pattern that is searched for by a collator. It is read once, and doesn't change.
@@ -46,6 +47,12 @@ pub struct Searcher<'c> {
     first: Vec<u32>,
     /// Marks of lead bytes that are kept apart.
     apart: [bool; 256],
+    /// Marks of ASCII characters before which texts may be cut.
+    cuts: [bool; 128],
+    /// Marks of ASCII characters that begin with another primary weight, each by itself.
+    others: [bool; 128],
+    ghost cuts_are: { MarkCuts (reading_by (collation_borrowed collator)) cuts },
+    ghost others_are: { MarkOthers (collation_borrowed collator) first.items others },
     ghost apart_is: { AreApart (collation_borrowed collator) apart },
     ghost first_is: { BeginsWith first.items (lists_by (collation_borrowed collator)
         (nfd (chars (string_bytes pattern)))).primaries },
@@ -148,6 +155,8 @@ impl<'c> Searcher<'c> {
         };
         let first = first_primaries(alloc, &borrowed, pattern.as_str(), known)?;
         let apart = apart_leads(alloc, &borrowed, known, first.as_slice())?;
+        let cuts = cut_marks(&borrowed);
+        let others = other_marks(&borrowed, known, first.as_slice(), &apart);
         Ok(Searcher {
             alloc,
             collator: borrowed,
@@ -157,6 +166,8 @@ impl<'c> Searcher<'c> {
             equals_empty,
             first,
             apart,
+            cuts,
+            others,
         })
     }
 
@@ -194,6 +205,20 @@ impl<'c> Searcher<'c> {
         self.equals_empty
     }
 
+    /// Whether the first two characters of a text tell that it begins with another primary weight than the pattern.
+    #[inline(always)]
+    fn begins_with_other(&self, text: &[char]) -> bool
+        ensures { IsTrue result
+            → BeginsOtherwise (collation_borrowed self.now.collator) text.now self.now.first.items }
+    {
+        match text {
+            [first, second, ..] => {
+                has_mark(&self.others, *first) && has_mark(&self.cuts, *second)
+            }
+            _ => false,
+        }
+    }
+
     /// Whether no part with which a text begins is equal to the pattern, up to a place: the primary weights of so many
     /// of its first elements tell. None may be equal where this returns false.
     pub(crate) fn begins_otherwise(&self, text: &[char], most: usize) -> bool
@@ -201,6 +226,9 @@ impl<'c> Searcher<'c> {
             → (part rest : List ℕ) → (lists_by c (nfd text.now)).primaries
             ≡ (lists_by c (nfd part)).primaries ++ rest → equals_pattern s part ≡ false }
     {
+        if self.begins_with_other(text) {
+            return true;
+        }
         let known = KnownVariables {
             sure: self.sure,
             variable: self.collator.last_variable(),
@@ -224,11 +252,13 @@ impl<'c> Searcher<'c> {
     pub(crate) fn cuts_before(&self, c: char) -> bool
         ensures { IsTrue result → BeginsPieces (reading_by (search_of self.now).collation) c }
     {
-        self.collator
-            .cursor_tables()
-            .places()
-            .has_boundary_before(c)
-            && begins_letter(c)
+        if has_mark(&self.cuts, c) {
+            return true;
+        }
+        if (c as u32) < 0x80 {
+            return false;
+        }
+        begins_pieces(&self.collator, c)
     }
 
     /// Whether a match that begins with a character holds one that begins at the next, which the second text begins
@@ -238,6 +268,22 @@ impl<'c> Searcher<'c> {
             EndsAtTertiaries (form_by c) × StartsSilently c first.now rest.now }
     {
         ends_at_tertiaries(&self.collator) && starts_silently(&self.collator, first, rest)
+    }
+
+    /// How many primary weights a text has, if facts tell. `None` says nothing.
+    pub(crate) fn count_of(&self, text: &[char]) -> Option<usize>
+        ensures { let c = (search_of self.now).collation in
+            IfSome result (λ n. n ≡ length (lists_by c (nfd text.now)).primaries) }
+    {
+        known_count(&self.collator, text)
+    }
+
+    /// How many the pattern has.
+    pub(crate) fn count_of_pattern(&self) -> usize
+        ensures { let s = search_of self.now in
+            result ≡ length (lists_by s.collation (nfd s.pattern)).primaries }
+    {
+        self.count
     }
 
     /// Whether a part of a text with these elements has fewer primary weights than the pattern.

@@ -44,7 +44,10 @@ fn only_element(collator: &CollatorBorrowed<'_>, text: &[char]) -> Option<Collat
 }
 
 /// The element with which those of a text begin, if facts tell.
-fn first_element(collator: &CollatorBorrowed<'_>, text: &[char]) -> Option<CollationElement>
+pub(crate) fn first_element(
+    collator: &CollatorBorrowed<'_>,
+    text: &[char],
+) -> Option<CollationElement>
     ensures { IfSome result (λ e. HasFirstElement
         (reading_by (collation_borrowed collator.now)) text.now e) }
 {

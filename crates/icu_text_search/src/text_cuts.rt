@@ -23,6 +23,17 @@ impl<'s, 'c> SearchedText<'s, 'c> {
         self.searcher.cuts_before(self.text.characters()[offset])
     }
 
+    /// Whether the text ends at an offset, or may be cut there. False says nothing.
+    pub(crate) fn ends_piece(&self, offset: usize) -> bool
+        ensures { IsTrue result → EndsPieceAt (reading_by (searched_in self.now).collation)
+            (text_searched self.now) offset }
+    {
+        if offset == self.text.char_count() {
+            return true;
+        }
+        self.cuts_at(offset)
+    }
+
     /// An offset before another one at which a piece begins: the last one that is known.
     fn last_cut(&self, offset: usize) -> usize
         ensures before { result ≤ offset }

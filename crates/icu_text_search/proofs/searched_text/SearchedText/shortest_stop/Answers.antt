@@ -18,8 +18,15 @@ returns-then-equals_empty c =
     let t = c.args.self.now in
     empty_matches (searched_in t) (text_searched t) c.args.start (sym c.in_ok-here.ensures ∙ c.if-not-here.false) (sym c.is_allowed.ensures ∙ c.if-not-is_allowed.false) (sym c.equals_empty.ensures ∙ c.if-equals_empty.true) c.requires
 
-pub returns : goal.returns
-returns c =
+pub returns-in-Some : goal.returns-in-Some
+returns-in-Some c =
+    let t = c.args.self.now in
+    let told = rw c.in-Some.is at c.in_ok-told.ensures in
+    told (sym c.in_ok-here.ensures ∙ c.if-not-here.false) (sym c.is_allowed.ensures ∙ c.if-not-is_allowed.false)
+    (empty_matches_not (searched_in t) (text_searched t) c.args.start (sym c.equals_empty.ensures ∙ c.if-equals_empty.false))
+
+pub returns-in-None : goal.returns-in-None
+returns-in-None c =
     let t = c.args.self.now in
     c.walk_along.ensures (sym c.in_ok-here.ensures ∙ c.if-not-here.false) (sym c.is_allowed.ensures ∙ c.if-not-is_allowed.false)
     (empty_matches_not (searched_in t) (text_searched t) c.args.start (sym c.equals_empty.ensures ∙ c.if-equals_empty.false))
