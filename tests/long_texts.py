@@ -7,7 +7,7 @@ making a collator are a small part of either. The least of several times counts.
 from hostile_tables import Builder, Reordering
 from timing import ATTEMPTS, Slowed, Times, lasting_faults
 
-# How often the longer text is compared and its key written, how many times as long it is, and how many times as long its calls may
+# How often each call is made on the longer text, how many times as long that is, and how many times as long its calls may
 # take as those on the shorter text.
 TIMES, LONGER, SLOWER = 2, 4, 2
 IDENTICAL, PRIMARY = "4 0 3 0 0 0", "0 0 3 0 0 0"
@@ -42,11 +42,32 @@ class LongTexts:
         return {*made, primary} == {"ok"} and order == wanted and key.startswith(f"ok {length:X} :")
 
 
+class LongElements:
+    """A text of a kind, by its size, whose elements are read at once and one by one: a list of parts, and the elements as the driver
+    writes them."""
+
+    def __init__(self, kind, size, made, text, wanted):
+        self.kind, self.size, self.made, self.text, self.wanted = kind, size, made, text, wanted
+
+    def questions(self, size, times):
+        text = "c " + " ".join(repeated(*part) for part in self.text(size))
+        return [*self.made, *[f"{way} 0 {text}" for way in ("whole", "next")] * times]
+
+    def is_right(self, size, answers):
+        made, read = answers[:len(self.made)], answers[len(self.made):]
+        return {*made} == {"ok"} and {*read} == {self.wanted(size)}
+
+
 def repeated(characters, count):
     """Characters as often as a number says. What repeats one character is written with its count."""
     if len(characters) == 1:
         return f"{characters[0]:X}*{count:X}"
     return " ".join([" ".join(f"{it:X}" for it in characters)] * count)
+
+
+def elements(*runs):
+    """Elements as the driver writes them, with common lower weights: their primary weights, and how often each comes."""
+    return " ".join(f"{primary:08X}.0500.0500*{count:X}".removesuffix("*1") for primary, count in runs)
 
 
 def with_beginnings():
@@ -142,6 +163,18 @@ LONG_TEXTS = [
               lambda n: ("Less", 0)),
 ]
 
+LONG_ELEMENTS = [
+    # Marks each of which begins a contraction; one behind them all joins the first.
+    LongElements("elements of begun", 50_000, tailored(begin_marks),
+                 lambda n: [([SIGN_AA], n), ([SIGN_I], 1)],
+                 lambda n: elements((0x6210_0000, 1), (0x6110_0000, n - 1))),
+    # So do marks of four classes in turn. By class the one behind them all joins the first of the lowest class.
+    LongElements("elements of several begun", 50_000, tailored(begin_several),
+                 lambda n: [(SEVERAL, n // 4), ([SIGN_I], 1)],
+                 lambda n: elements((0x6220_0000, 1), (0x6120_0000, n // 4 - 1), (0x6130_0000, n // 4), (0x6140_0000, n // 4),
+                                    (0x6110_0000, n // 4))),
+]
+
 
 def wrong_answers(texts, size, answers):
     """What is wrong with the answers to the questions on the texts of one size."""
@@ -206,7 +239,7 @@ def wrong_ranges(driver):
 
 
 def check_long_texts(report, driver):
-    for texts in LONG_TEXTS:
+    for texts in LONG_TEXTS + LONG_ELEMENTS:
         faults, runs = wrong_long_texts(driver, texts)
         report.say(f"hostile input: long texts, {texts.kind}", faults, runs)
     report.say("hostile input: all levels of long texts take no more than twice their keys", wrong_levels(driver), len(LEVELS))

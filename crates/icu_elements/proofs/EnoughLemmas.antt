@@ -1,7 +1,8 @@
 -- When a text is enough for a step, whatever follows it.
-use Rattle.std.proofs.Common.{◌≡◌, ℕ, ◌≤◌, Bool, true, false, not, ◌&&◌, ◌==◌, List, [], ◌∷◌, ◌++◌, length, drop, map, take_while, Option, Some, None, is_some, cond, if◌then◌else◌, refl, sym, ap, ◌∙◌, arith, append-nil, inl, inr}
+use Rattle.std.proofs.Common.{◌≡◌, ℕ, ◌≤◌, Bool, true, false, not, ◌&&◌, ◌||◌, ◌==◌, List, [], ◌∷◌, ◌++◌, length, drop, map, take_while, Option, Some, None, is_some, cond, if◌then◌else◌, refl, sym, ap, ◌∙◌, arith, append-nil, inl, inr}
 use Rattle.std.specs.Prelude.{slice_get}
-use Rattle.std.proofs.lemmas.Bool.{cases_Bool, true≢false, and_left}
+use Rattle.std.proofs.lemmas.Bool.{cases_Bool, true≢false, and_left, ne_eqb}
+use Rattle.ucd_normal.specs.CanonicalCombiningClass.{canonical_combining_class as class_of}
 use Rattle.std.proofs.lemmas.List.{drop-append-le}
 use Rattle.std.proofs.lemmas.List.Sums.{prefix_len-le-length, take_while-cons}
 use Rattle.std.proofs.lemmas.List.Folds.{length-prefix_len}
@@ -14,11 +15,12 @@ use Rattle.icu_collation_data.specs.Data.{Data, homed, context_of}
 use Rattle.icu_provider.specs.Tables.{Tables, entry_of, diacritic_of}
 use Rattle.icu_matches.specs.Matches.{Match, after_prefix, match_of}
 use Rattle.icu_matches.specs.MatchesAhead.{and_then, HasWholeMatch}
+use Rattle.icu_matches.specs.MarksAhead.{BeginsWithMark}
 use Rattle.icu_matches.proofs.ChoiceLemmas.{either_by, maybe_by, nil_by, digit_by}
 use Rattle.icu_matches.proofs.ReadAheadLemmas.{HasWholeMatch-other, HasWholeMatch-contraction, match_of-other, match_of-contraction, contracted-none, contracted-lone}
 use Rattle.icu_elements.specs.TextElements.{Reading, Step, is_diacritic_above, is_silent_dot, continues_number, digit_of_char, begins_with_mark, number_elements, number_step, entry_step, diacritic_step, matched_step, step, consumed, last_two, elements_after}
 use Rattle.icu_elements.specs.ReadAhead.{and_more, IsEnough, HasWholeStep}
-use Rattle.icu_elements.specs.inner.ReadsAhead.{has_run_end, IsRunRead, HasWholeContraction}
+use Rattle.icu_elements.specs.inner.ReadsAhead.{stops_run, has_run_end, IsRunRead, HasWholeContraction}
 use Rattle.icu_elements.proofs.StepLemmas.{elements_after_cons}
 
 -- ---- numbers
@@ -33,11 +35,24 @@ take_while-enough p (c ∷ cs) left h =
     ]
     ∙ sym (take_while-cons p c cs)
 
-begins_with_mark-enough : (p : ℕ → Bool) (text left : List ℕ) → list_any p text ≡ true → begins_with_mark (text ++ left) ≡ begins_with_mark text
-begins_with_mark-enough p [] left h = absurd (true≢false (sym h))
-begins_with_mark-enough p (c ∷ cs) left h = refl
+pub begins_with_mark-at : (text : List ℕ) → BeginsWithMark text → begins_with_mark text ≡ true
+begins_with_mark-at [] h = absurd h
+begins_with_mark-at (c ∷ cs) h = ap not (ne_eqb (class_of c) 0 (λ e. absurd (omega (arith, h, e))))
 
-number_step-enough : (tables : Tables) (lead : ℕ) (m : Match) (left : List ℕ) → (m.suffix ≡ [] → has_run_end tables m.rest ≡ true) → number_step tables lead (and_then m left) ≡ and_more (number_step tables lead m) left
+begins_with_mark-enough : (tables : Tables) (text left : List ℕ) → stops_run tables text ≡ true → begins_with_mark (text ++ left) ≡ begins_with_mark text
+begins_with_mark-enough tables [] left h = absurd (true≢false (sym h))
+begins_with_mark-enough tables (c ∷ cs) left h = refl
+
+other_holds : (a b : Bool) → a ≡ false → (a || b) ≡ true → b ≡ true
+other_holds true b h k = absurd (true≢false h)
+other_holds false b h k = k
+
+-- where each branch is what f makes of another, so is the choice
+unless_by : {A B : Type 0} (f : A → B) (b : Bool) (x : B) (x' : A) (y : B) (y' : A) → x ≡ f x' → (b ≡ false → y ≡ f y') → (if b then x else y) ≡ f (if b then x' else y')
+unless_by f true x x' y y' p q = p
+unless_by f false x x' y y' p q = q refl
+
+number_step-enough : (tables : Tables) (lead : ℕ) (m : Match) (left : List ℕ) → (m.suffix ≡ [] → stops_run tables m.rest ≡ true) → number_step tables lead (and_then m left) ≡ and_more (number_step tables lead m) left
 unfolding number_step
 number_step-enough tables lead m left ends =
     let run = take_while (continues_number tables) m.rest in
@@ -50,16 +65,16 @@ number_step-enough tables lead m left ends =
     nil_by (λ s. and_more s left) m.suffix _ _ (alone whole) (alone m.rest)
     (λ none.
     let stops = ends none in
-    let same_together : together whole_run whole ≡ and_more (together run m.rest) left =
-    ap (λ run. together run whole) (take_while-enough (continues_number tables) m.rest left stops)
+    let same_together : begins_with_mark m.rest ≡ false → together whole_run whole ≡ and_more (together run m.rest) left = λ unmarked.
+    ap (λ run. together run whole) (take_while-enough (continues_number tables) m.rest left (other_holds (begins_with_mark m.rest) (has_run_end tables m.rest) unmarked stops))
     ∙ ap leave (drop-append-le (length run) m.rest left fits) in
-    ap (λ b. if b then alone whole else together whole_run whole) (begins_with_mark-enough _ m.rest left stops)
-    ∙ either_by (λ s. and_more s left) (begins_with_mark m.rest) (alone whole) (alone m.rest) (together whole_run whole) (together run m.rest) refl same_together)
+    ap (λ b. if b then alone whole else together whole_run whole) (begins_with_mark-enough tables m.rest left stops)
+    ∙ unless_by (λ s. and_more s left) (begins_with_mark m.rest) (alone whole) (alone m.rest) (together whole_run whole) (together run m.rest) refl same_together)
     refl
 
 -- a match that comes to a digit and consumes nothing: its run ends in the text, where digits are read as numbers
 abbrev pub HasWholeRun : Reading → Match → Type 0
-HasWholeRun reading m = is_some reading.numeric ≡ true → kind_of m.entry ≡ Digit → m.suffix ≡ [] → has_run_end reading.tables m.rest ≡ true
+HasWholeRun reading m = is_some reading.numeric ≡ true → kind_of m.entry ≡ Digit → m.suffix ≡ [] → stops_run reading.tables m.rest ≡ true
 
 entry_step-enough : (reading : Reading) (home : Data) (c : ℕ) (m : Match) (left : List ℕ) → HasWholeRun reading m → entry_step reading home c (and_then m left) ≡ and_more (entry_step reading home c m) left
 unfolding entry_step

@@ -1,10 +1,10 @@
 -- What a reader of steps has left, where more is read ahead and where a step is taken.
-use Rattle.std.proofs.Common.{◌≡◌, ◌⊎◌, ℕ, ◌+◌, ◌-◌, ◌<◌, List, [], ◌∷◌, ◌++◌, length, Option, None, refl, sym, ap, subst, ◌∙◌, append_assoc, length-append, arith, inl, inr}
+use Rattle.std.proofs.Common.{◌≡◌, ◌⊎◌, ℕ, ◌+◌, ◌-◌, List, [], ◌∷◌, ◌++◌, length, Option, refl, sym, ap, subst, ◌∙◌, append_assoc, length-append, arith, inl, inr}
 use Rattle.std.specs.Prelude.{slice_get}
 use Rattle.unicode_normalization.specs.declared.decompose.Decompositions.{Decompositions}
 use Rattle.icu_entries.specs.Elements.{Element}
 use Rattle.icu_elements.specs.declared.step_reader.StepReader.{StepReader}
-use Rattle.icu_elements.specs.TextElements.{Reading, Step, step, consumed, last_two}
+use Rattle.icu_elements.specs.TextElements.{Step, step, consumed, last_two}
 use Rattle.icu_elements.specs.ReadAhead.{HasWholeStep}
 use Rattle.icu_elements.specs.StepReaders.{reading_in, elements_given, HasLeft, TakesStep}
 use Rattle.icu_elements.specs.inner.Iterating.{StillReads}

@@ -56,7 +56,7 @@ impl<'d> ElementReader<'d> {
         let alloc = reading.tables.allocator();
         ElementReader {
             reading,
-            position: Position::at_start(text),
+            position: Position::at_start(alloc, text),
             ready: ElementList {
                 elements: Vec::new(alloc),
             },

@@ -28,10 +28,11 @@ pub(crate) fn read_text(
 ) -> Result<Vec<CollationElement>, AllocError>
     ensures { IfOk result (λ es. es.items ≡ elements_of (reading_of reading.entry) text.items) }
 {
+    let alloc = reading.tables.allocator();
     let mut list = ElementList {
-        elements: Vec::new(reading.tables.allocator()),
+        elements: Vec::new(alloc),
     };
-    let mut at = Position::at_start(text);
+    let mut at = Position::at_start(alloc, text);
     'steps: while read_step(reading, &mut at, &mut list)? {}
     Ok(list.elements)
 }

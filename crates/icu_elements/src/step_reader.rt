@@ -41,7 +41,7 @@ impl<'d, I: Iterator<Item = char> + Drop> StepReader<'d, I> {
         StepReader {
             source: Decompositions::new_canonical(alloc, delegate),
             reading,
-            position: Position::at_start(Vec::new(alloc)),
+            position: Position::at_start(alloc, Vec::new(alloc)),
             list: ElementList {
                 elements: Vec::new(alloc),
             },

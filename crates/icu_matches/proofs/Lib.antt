@@ -3,6 +3,9 @@ pub mod CommonPartLemmas
 pub mod DecidedLemmas
 pub mod ReachableLemmas
 pub mod MarkLemmas
+pub mod MarkQueueLemmas
+pub mod PassedClassLemmas
+pub mod DecidedFrontLemmas
 pub mod MatchLemmas
 pub mod CharacterOrderLemmas
 pub mod ReadAheadLemmas

@@ -188,7 +188,7 @@ contracted-enough context text left decided behind =
     ∙ with_marks-enough mappings mapping.entry mapping.chars [] (drop (length mapping.chars) text) left behind)
     (λ behind. with_marks-enough mappings context.default [] [] text left behind)
 
-contracted_by : (context : Context) (text : List ℕ) (o : Option Mapping) → longest_mapping context.mappings text ≡ o
+pub contracted_by : (context : Context) (text : List ℕ) (o : Option Mapping) → longest_mapping context.mappings text ≡ o
     → contracted context text ≡ elim o as (λ _. Match) [ Some mapping ↦ with_marks context.mappings mapping.entry mapping.chars [] (drop (length mapping.chars) text) | None ↦ with_marks context.mappings context.default [] [] text ]
 unfolding contracted
 contracted_by context text o is =

@@ -1,4 +1,5 @@
 pub mod WellFormedEntries
+pub mod MarksAhead
 pub mod Matches
 pub mod MatchesAhead
 pub mod Texts

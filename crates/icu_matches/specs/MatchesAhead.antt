@@ -1,5 +1,5 @@
 -- How far a match looks into a text, where more of it may follow.
-use Rattle.std.specs.Prelude.{◌≡◌, ℕ, Bool, true, false, not, ◌||◌, nat_eq, List, [], ◌∷◌, ◌++◌, Option, Some, None, length}
+use Rattle.std.specs.Prelude.{◌≡◌, ◌⊎◌, ℕ, Bool, true, false, not, ◌||◌, nat_eq, List, [], ◌∷◌, ◌++◌, Option, Some, None, length, take}
 use Rattle.std.specs.List.{list_all}
 use Rattle.icu_collation_data.specs.Data.{Mapping, HomedEntry}
 use Rattle.icu_matches.specs.Matches.{Match, match_of}
@@ -30,3 +30,8 @@ are_decided mappings text = list_all (λ mapping. is_decided mapping.chars text)
 abbrev pub mapping_length : Option Mapping → ℕ
 mapping_length None = 0
 mapping_length (Some mapping) = length mapping.chars
+
+-- the text begins with these characters, and they decide which of these mappings it begins with, or are all of it
+pub record IsDecidedFront (mappings : List Mapping) (text front : List ℕ) : Type 0 where
+  pub begins : front ≡ take (length front) text
+  pub decides : (are_decided mappings front ≡ true) ⊎ (front ≡ text)

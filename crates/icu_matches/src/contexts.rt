@@ -1,19 +1,20 @@
 //! Prefixes and contractions.
 
-ghost use Rattle.std.specs.Prelude.{◌≡◌, IsTrue, IfOk};
+ghost use Rattle.std.specs.Prelude.{◌≡◌, [], IsTrue, IfOk};
 ghost use Rattle.icu_collation_data.specs.Contexts.{has_ascending_mappings};
 ghost use Rattle.icu_collation_data.specs.Data.{homed};
 ghost use Rattle.icu_collation_data.specs.StoredData.{data_of, found_context};
 ghost use Rattle.icu_entries.specs.Entries.{kind_of};
 ghost use Rattle.icu_matches.specs.WellFormedEntries.{HasContext};
 ghost use Rattle.icu_matches.specs.Matches.{after_prefix, contracted};
-ghost use Rattle.icu_matches.specs.Texts.{unread, match_left};
-ghost use Rattle.icu_matches.specs.inner.Joining.{match_on};
+ghost use Rattle.icu_matches.specs.Texts.{still_unread, match_left};
+ghost use Rattle.icu_matches.specs.inner.Joining.{match_behind};
 
+use crate::classed_text::ClassedText;
 use crate::mappings::find_longest;
 use crate::marks::join_marks;
 use crate::matched::Matched;
-use crate::text::Text;
+use crate::text_front::decided_front;
 use icu_collation_data::{CollationData, FoundContext};
 use icu_entries::{CollationElement32, EntryKind};
 use std::alloc::{AllocError, Global};
@@ -46,14 +47,15 @@ pub fn after_prefix(
 fn begin_match(
     alloc: Global,
     context: FoundContext<'_>,
-    text: &mut Text,
+    text: &mut ClassedText,
 ) -> Result<Matched, AllocError>
     requires { IsTrue (has_ascending_mappings (found_context context)) }
     ensures { IfOk result (λ m.
-        match_on (found_context context.entry).mappings m 0 (unread text.new)
-        ≡ contracted (found_context context.entry) (unread text.old)) }
+        match_behind (found_context context.entry).mappings m [] (still_unread text.new)
+        ≡ contracted (found_context context.entry) (still_unread text.old)) }
 {
-    match find_longest(context, text.as_slice()) {
+    let front = decided_front(alloc, context, text)?;
+    match find_longest(context, front.as_slice()) {
         Some(index) => {
             let mapping = context.mapping(index);
             let suffix = Vec::from_slice(alloc, mapping.chars)?;
@@ -74,13 +76,13 @@ fn begin_match(
 pub(crate) fn contract(
     alloc: Global,
     context: FoundContext<'_>,
-    text: &mut Text,
+    text: &mut ClassedText,
 ) -> Result<Matched, AllocError>
     requires { IsTrue (has_ascending_mappings (found_context context)) }
     ensures { IfOk result (λ m.
-        match_left m text.new ≡ contracted (found_context context.entry) (unread text.old)) }
+        match_left m text.new ≡ contracted (found_context context.entry) (still_unread text.old)) }
 {
     let mut matched = begin_match(alloc, context, text)?;
-    join_marks(context, text, &mut matched)?;
+    join_marks(alloc, context, text, &mut matched)?;
     Ok(matched)
 }

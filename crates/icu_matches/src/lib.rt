@@ -2,13 +2,19 @@
 //! "Produce Collation Element Arrays").
 #![tactic(auto)]
 
+pub mod classed_text;
 pub mod contexts;
 pub mod mappings;
+mod mark_queue;
 mod marks;
 pub mod matched;
+mod queues;
 pub mod text;
+pub mod text_front;
 
+pub use classed_text::ClassedText;
 pub use contexts::after_prefix;
 pub use mappings::{find_longest, mapping_goes_on};
 pub use matched::{Matched, find_match};
 pub use text::Text;
+pub use text_front::decided_front;

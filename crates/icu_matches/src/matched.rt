@@ -6,10 +6,10 @@ ghost use Rattle.icu_collation_data.specs.StoredData.{data_of};
 ghost use Rattle.icu_matches.specs.WellFormedEntries.{HasContext, IsWellFormedFrom, IsWellFormedMatch};
 ghost use Rattle.icu_entries.specs.Entries.{kind_of};
 ghost use Rattle.icu_matches.specs.Matches.{match_from, match_of};
-ghost use Rattle.icu_matches.specs.Texts.{unread, match_left};
+ghost use Rattle.icu_matches.specs.Texts.{still_unread, match_left};
 
+use crate::classed_text::ClassedText;
 use crate::contexts::{after_prefix, contract};
-use crate::text::Text;
 use icu_collation_data::CollationData;
 use icu_entries::{CollationElement32, EntryKind};
 use std::alloc::{AllocError, Global};
@@ -29,11 +29,11 @@ fn found(
     alloc: Global,
     home: CollationData<'_>,
     ce32: CollationElement32,
-    text: &mut Text,
+    text: &mut ClassedText,
 ) -> Result<Matched, AllocError>
     requires { kind_of ce32 ≡ EntryKind.Contraction → HasContext (data_of home) ce32 }
     ensures { IfOk result (λ m.
-        match_left m text.new ≡ match_from (data_of home.entry) ce32 (unread text.old)) }
+        match_left m text.new ≡ match_from (data_of home.entry) ce32 (still_unread text.old)) }
 {
     match ce32.kind() {
         EntryKind::Contraction => contract(alloc, home.get_context(ce32.index()), text),
@@ -58,11 +58,11 @@ pub fn find_match(
     c: char,
     ce32: CollationElement32,
     before: &[char],
-    text: &mut Text,
+    text: &mut ClassedText,
 ) -> Result<Matched, AllocError>
     requires { IsWellFormedFrom (data_of home) c ce32 }
     ensures value { IfOk result (λ m. match_left m text.new
-        ≡ match_of (homed (data_of home.entry) ce32) before.now (unread text.old)) }
+        ≡ match_of (homed (data_of home.entry) ce32) before.now (still_unread text.old)) }
     ensures well_formed { IfOk result (λ m. IsWellFormedMatch (data_of home.entry) c m.ce32) }
 {
     found(alloc, home, after_prefix(home, ce32, before), text)

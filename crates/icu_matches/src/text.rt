@@ -8,8 +8,8 @@ use std::alloc::AllocError;
 /// costs as many steps as characters stand before it, however long the text is. No call but `push` allocates.
 #[derive(Debug, Drop)]
 pub struct Text {
-    chars: Vec<char>,
-    next: usize,
+    pub(crate) chars: Vec<char>,
+    pub(crate) next: usize,
     ghost inside: { next ≤ length chars.items },
 }
 
@@ -109,6 +109,26 @@ impl Text {
         if self.next >= self.chars.len() - self.next {
             self.drop_read();
         }
+        self.append(c)
+    }
+
+    /// Reads the next character, which is there.
+    #[tactic(auto, unfolding(crate::specs::Texts::unread))]
+    pub(crate) fn read_one(&mut self)
+        requires { 0 < length (unread self.old) }
+        ensures text { unread self.new ≡ drop 1 (unread self.old) }
+        ensures next { self.new.next ≡ self.old.next + 1 }
+    {
+        self.next += 1;
+    }
+
+    /// One more character comes after those that are still to be read. No other is moved.
+    #[tactic(auto, unfolding(crate::specs::Texts::unread))]
+    pub(crate) fn append(&mut self, c: char) -> Result<(), AllocError>
+        ensures text { unread self.new
+            ≡ (if is_ok result then unread self.old ++ c ∷ [] else unread self.old) }
+        ensures next { self.new.next ≡ self.old.next }
+    {
         self.chars.push(c)?;
         Ok(())
     }

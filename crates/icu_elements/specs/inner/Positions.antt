@@ -1,7 +1,7 @@
 -- How far a text is read, and what a step of reading does.
 use Rattle.std.specs.Prelude.{ℕ, ◌≡◌, List, ◌++◌}
 use Rattle.icu_entries.specs.Elements.{Element}
-use Rattle.icu_matches.specs.Texts.{unread}
+use Rattle.icu_matches.specs.Texts.{still_unread}
 use Rattle.icu_elements.specs.declared.reader.position.Position.{Position}
 use Rattle.icu_elements.specs.declared.text_reading.TextReading.{TextReading}
 use Rattle.icu_elements.specs.Reading.{reading_of}
@@ -14,7 +14,7 @@ consumed_last p = recent_chars p.recent
 
 -- the text that is left
 abbrev pub unread_at : Position → List ℕ
-unread_at p = unread p.text
+unread_at p = still_unread p.text
 
 -- the elements of the text that is left
 abbrev pub left_elements : TextReading → Position → List Element

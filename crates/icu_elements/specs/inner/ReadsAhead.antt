@@ -1,5 +1,5 @@
 -- What reading ahead does: characters come from a source of decomposed characters to those that were read.
-use Rattle.std.specs.Prelude.{true, not, Bool, ◌<◌, ◌&&◌, ◌==◌, length, drop, is_some, ◌≡◌, ◌⊎◌, ℕ, List, [], ◌++◌, Option, None, IsTrue, option_to_list, ⊤}
+use Rattle.std.specs.Prelude.{true, not, Bool, ◌<◌, ◌&&◌, ◌||◌, ◌==◌, length, drop, is_some, ◌≡◌, ◌⊎◌, ℕ, List, [], ◌++◌, Option, None, IsTrue, option_to_list, ⊤}
 use Rattle.unicode_normalization.specs.declared.decompose.Decompositions.{Decompositions}
 use Rattle.std.specs.List.{list_any}
 use Rattle.unicode_normalization.specs.Order.{is_starter}
@@ -8,7 +8,7 @@ use Rattle.icu_entries.specs.Entries.{kind_of}
 use Rattle.icu_collation_data.specs.Data.{Context, longest_mapping}
 use Rattle.icu_provider.specs.Tables.{Tables}
 use Rattle.icu_matches.specs.MatchesAhead.{are_decided, mapping_length}
-use Rattle.icu_elements.specs.TextElements.{Reading, continues_number}
+use Rattle.icu_elements.specs.TextElements.{Reading, begins_with_mark, continues_number}
 use Rattle.icu_elements.specs.inner.Iterating.{StillReads}
 
 -- Some more came after the text that there was, of what the source had; then the text is as it is to be, or the source
@@ -32,9 +32,13 @@ ReadsOne steps found old text new longer = ReadsTo steps (λ _. IsTrue (is_some 
 abbrev pub has_run_end : Tables → List ℕ → Bool
 has_run_end tables text = list_any (λ d. not (continues_number tables d)) text
 
--- so is one, where this entry is a digit's and digits are read as numbers
+-- a mark comes first, before which a digit is a number by itself, or a character doesn't go on a number
+abbrev pub stops_run : Tables → List ℕ → Bool
+stops_run tables text = begins_with_mark text || has_run_end tables text
+
+-- so it is, where this entry is a digit's and digits are read as numbers
 abbrev pub IsRunRead : Reading → ℕ → List ℕ → Type 0
-IsRunRead reading entry text = is_some reading.numeric ≡ true → kind_of entry ≡ Digit → has_run_end reading.tables text ≡ true
+IsRunRead reading entry text = is_some reading.numeric ≡ true → kind_of entry ≡ Digit → stops_run reading.tables text ≡ true
 
 -- a character is there
 abbrev pub IsBegun : List ℕ → Type 0

@@ -8,36 +8,37 @@ ghost use Rattle.icu_entries.specs.Entries.{kind_of};
 ghost use Rattle.icu_elements.specs.ReadAhead.{HasWholeStep};
 ghost use Rattle.icu_elements.specs.TextElements.{is_digit_kind};
 ghost use Rattle.icu_elements.specs.LastChars.{recent_chars};
-ghost use Rattle.icu_elements.specs.inner.ReadsAhead.{ReadsTo, ReadsOne, IsBegun, has_run_end, IsRunRead, IsMatchRead, HasWholeContraction, IsDotRead};
+ghost use Rattle.icu_elements.specs.inner.ReadsAhead.{ReadsTo, ReadsOne, IsBegun, stops_run, has_run_end, IsRunRead, IsMatchRead, HasWholeContraction, IsDotRead};
 ghost use Rattle.icu_elements.specs.Reading.{element_tables, reading_of};
 ghost use Rattle.icu_collation_data.specs.Data.{longest_mapping};
 ghost use Rattle.icu_matches.specs.MatchesAhead.{are_decided, mapping_length};
-ghost use Rattle.icu_matches.specs.Texts.{unread};
+ghost use Rattle.icu_matches.specs.Texts.{still_unread};
 ghost use Rattle.unicode_normalization.specs.Decompositions.{CanDecompose, decompositions_size};
 ghost use Rattle.unicode_normalization.specs.Order.{is_starter};
 
 use crate::element_tables::ElementTables;
 use crate::reader::recent::RecentChars;
+use crate::reader::taken_digits::begins_with_mark;
 use crate::text_reading::TextReading;
 use icu_collation_data::FoundContext;
 use icu_entries::{CollationElement32, EntryKind};
-use icu_matches::{Text, after_prefix, find_longest, mapping_goes_on};
-use std::alloc::AllocError;
+use icu_matches::{ClassedText, after_prefix, decided_front, find_longest, mapping_goes_on};
+use std::alloc::{AllocError, Global};
 use unicode_normalization::Decompositions;
 use unicode_normalization::char::canonical_combining_class;
 
 /// Takes one more character from the source, and returns it: `None` where none is left.
 fn read_one<I: Iterator<Item = char> + Drop>(
     source: &mut Decompositions<I>,
-    text: &mut Text,
+    text: &mut ClassedText,
 ) -> Result<Option<char>, AllocError>
     requires { CanDecompose I.can_next I.remaining source.old }
     ensures ready { OnOk result (CanDecompose I.can_next I.remaining source.new) }
     ensures text { IfOk result (λ found. ReadsOne I.next_gives found
-        source.old (unread text.old) source.new (unread text.new)) }
+        source.old (still_unread text.old) source.new (still_unread text.new)) }
     ensures size { OnOk result
-        (decompositions_size I.remaining source.new + length (unread text.new)
-        ≤ decompositions_size I.remaining source.old + length (unread text.old)) }
+        (decompositions_size I.remaining source.new + length (still_unread text.new)
+        ≤ decompositions_size I.remaining source.old + length (still_unread text.old)) }
     ensures shorter { IfOk result (λ found. is_some found ≡ true
         → decompositions_size I.remaining source.new < decompositions_size I.remaining source.old) }
 {
@@ -54,15 +55,15 @@ fn read_one<I: Iterator<Item = char> + Drop>(
 /// Reads on until a character is there.
 pub(crate) fn read_first<I: Iterator<Item = char> + Drop>(
     source: &mut Decompositions<I>,
-    text: &mut Text,
+    text: &mut ClassedText,
 ) -> Result<(), AllocError>
     requires { CanDecompose I.can_next I.remaining source.old }
     ensures ready { OnOk result (CanDecompose I.can_next I.remaining source.new) }
     ensures text { OnOk result (ReadsTo I.next_gives IsBegun
-        source.old (unread text.old) source.new (unread text.new)) }
+        source.old (still_unread text.old) source.new (still_unread text.new)) }
     ensures size { OnOk result
-        (decompositions_size I.remaining source.new + length (unread text.new)
-        ≤ decompositions_size I.remaining source.old + length (unread text.old)) }
+        (decompositions_size I.remaining source.new + length (still_unread text.new)
+        ≤ decompositions_size I.remaining source.old + length (still_unread text.old)) }
 {
     if !text.is_empty() {
         return Ok(());
@@ -78,22 +79,33 @@ fn has_run_end(tables: ElementTables<'_>, text: &[char]) -> bool
     text.iter().any(|c| tables.digit(*c).is_none())
 }
 
-/// Reads on until a character doesn't go on a number.
+/// Whether a text begins with a mark, before which a digit is a number by itself, or has a character that doesn't go on
+/// a number.
+fn stops_run(tables: ElementTables<'_>, text: &ClassedText) -> bool
+    ensures { result ≡ stops_run (element_tables tables.entry) (still_unread text.now) }
+{
+    match text.as_slice() {
+        Some(chars) => begins_with_mark(text) || has_run_end(tables, chars),
+        None => true,
+    }
+}
+
+/// Reads on until a character doesn't go on a number, or a mark comes next.
 fn read_run<I: Iterator<Item = char> + Drop>(
     tables: ElementTables<'_>,
     source: &mut Decompositions<I>,
-    text: &mut Text,
+    text: &mut ClassedText,
 ) -> Result<(), AllocError>
     requires { CanDecompose I.can_next I.remaining source.old }
     ensures ready { OnOk result (CanDecompose I.can_next I.remaining source.new) }
     ensures text { OnOk result (ReadsTo I.next_gives
-        (λ l. has_run_end (element_tables tables.entry) l ≡ true)
-        source.old (unread text.old) source.new (unread text.new)) }
+        (λ l. stops_run (element_tables tables.entry) l ≡ true)
+        source.old (still_unread text.old) source.new (still_unread text.new)) }
     ensures size { OnOk result
-        (decompositions_size I.remaining source.new + length (unread text.new)
-        ≤ decompositions_size I.remaining source.old + length (unread text.old)) }
+        (decompositions_size I.remaining source.new + length (still_unread text.new)
+        ≤ decompositions_size I.remaining source.old + length (still_unread text.old)) }
 {
-    if has_run_end(tables, text.as_slice()) {
+    if stops_run(tables, text) {
         return Ok(());
     }
     while let Some(c) = read_one(source, text)? {
@@ -104,29 +116,22 @@ fn read_run<I: Iterator<Item = char> + Drop>(
     Ok(())
 }
 
-/// Whether a starter is among the characters.
-fn has_starter(text: &[char]) -> bool
-    ensures { result ≡ list_any is_starter text.now }
-{
-    text.iter().any(|c| canonical_combining_class(*c) == 0)
-}
-
 /// Reads on until a starter stands behind so many characters.
 fn read_starter<I: Iterator<Item = char> + Drop>(
     from: usize,
     source: &mut Decompositions<I>,
-    text: &mut Text,
+    text: &mut ClassedText,
 ) -> Result<(), AllocError>
     requires can { CanDecompose I.can_next I.remaining source.old }
-    requires inside { from ≤ length (unread text.old) }
+    requires inside { from ≤ length (still_unread text.old) }
     ensures ready { OnOk result (CanDecompose I.can_next I.remaining source.new) }
     ensures text { OnOk result (ReadsTo I.next_gives (λ l. list_any is_starter (drop from l) ≡ true)
-        source.old (unread text.old) source.new (unread text.new)) }
+        source.old (still_unread text.old) source.new (still_unread text.new)) }
     ensures size { OnOk result
-        (decompositions_size I.remaining source.new + length (unread text.new)
-        ≤ decompositions_size I.remaining source.old + length (unread text.old)) }
+        (decompositions_size I.remaining source.new + length (still_unread text.new)
+        ≤ decompositions_size I.remaining source.old + length (still_unread text.old)) }
 {
-    if has_starter(&text.as_slice()[from..]) {
+    if text.has_starter_from(from) {
         return Ok(());
     }
     while let Some(c) = read_one(source, text)? {
@@ -137,63 +142,69 @@ fn read_starter<I: Iterator<Item = char> + Drop>(
     Ok(())
 }
 
-/// Reads on until no mapping of a context goes on where the text ends.
-fn read_mappings<I: Iterator<Item = char> + Drop>(
-    context: FoundContext<'_>,
-    source: &mut Decompositions<I>,
-    text: &mut Text,
-) -> Result<(), AllocError>
-    requires can { CanDecompose I.can_next I.remaining source.old }
-    requires ascending { IsTrue (has_ascending_mappings (found_context context)) }
-    ensures ready { OnOk result (CanDecompose I.can_next I.remaining source.new) }
-    ensures text { OnOk result (ReadsTo I.next_gives
-        (λ l. are_decided (found_context context.entry).mappings l ≡ true)
-        source.old (unread text.old) source.new (unread text.new)) }
-    ensures size { OnOk result
-        (decompositions_size I.remaining source.new + length (unread text.new)
-        ≤ decompositions_size I.remaining source.old + length (unread text.old)) }
-{
-    'mappings: while mapping_goes_on(context, text.as_slice()) {
-        if read_one(source, text)?.is_none() {
-            return Ok(());
-        }
-    }
-    Ok(())
-}
-
 /// How many characters the longest mapping takes that begins a text.
-fn longest_len(context: FoundContext<'_>, text: &Text) -> usize
+fn longest_len(context: FoundContext<'_>, text: &[char]) -> usize
     requires { IsTrue (has_ascending_mappings (found_context context)) }
     ensures longest { result ≡ mapping_length
-        (longest_mapping (found_context context.entry).mappings
-        (unread text.now)) }
-    ensures inside { result ≤ length (unread text.now) }
+        (longest_mapping (found_context context.entry).mappings text.now) }
+    ensures inside { result ≤ length text.now }
 {
-    match find_longest(context, text.as_slice()) {
+    match find_longest(context, text) {
         Some(index) => context.mapping(index).chars.len(),
         None => 0,
     }
 }
 
+/// Reads on until no mapping of a context goes on where the text ends. Returns how many characters the longest one
+/// takes that begins the text.
+fn read_mappings<I: Iterator<Item = char> + Drop>(
+    alloc: Global,
+    context: FoundContext<'_>,
+    source: &mut Decompositions<I>,
+    text: &mut ClassedText,
+) -> Result<usize, AllocError>
+    requires can { CanDecompose I.can_next I.remaining source.old }
+    requires ascending { IsTrue (has_ascending_mappings (found_context context)) }
+    ensures ready { OnOk result (CanDecompose I.can_next I.remaining source.new) }
+    ensures text { OnOk result (ReadsTo I.next_gives
+        (λ l. are_decided (found_context context.entry).mappings l ≡ true)
+        source.old (still_unread text.old) source.new (still_unread text.new)) }
+    ensures longest { IfOk result (λ taken. taken ≡ mapping_length (longest_mapping
+        (found_context context.entry).mappings (still_unread text.new))) }
+    ensures inside { IfOk result (λ taken. taken ≤ length (still_unread text.new)) }
+    ensures size { OnOk result
+        (decompositions_size I.remaining source.new + length (still_unread text.new)
+        ≤ decompositions_size I.remaining source.old + length (still_unread text.old)) }
+{
+    let mut front = decided_front(alloc, context, text)?;
+    'mappings: while mapping_goes_on(context, front.as_slice()) {
+        let Some(c) = read_one(source, text)? else {
+            return Ok(longest_len(context, front.as_slice()));
+        };
+        front.push(c)?;
+    }
+    Ok(longest_len(context, front.as_slice()))
+}
+
 /// Reads on until a contraction's mapping is decided, and with it the marks that may join. Returns how many characters
 /// the mapping takes.
 fn read_match<I: Iterator<Item = char> + Drop>(
+    alloc: Global,
     context: FoundContext<'_>,
     source: &mut Decompositions<I>,
-    text: &mut Text,
+    text: &mut ClassedText,
 ) -> Result<usize, AllocError>
     requires can { CanDecompose I.can_next I.remaining source.old }
     requires ascending { IsTrue (has_ascending_mappings (found_context context)) }
     ensures ready { OnOk result (CanDecompose I.can_next I.remaining source.new) }
     ensures text { IfOk result (λ taken.
         ReadsTo I.next_gives (IsMatchRead (found_context context.entry) taken)
-        source.old (unread text.old) source.new (unread text.new)) }
+        source.old (still_unread text.old) source.new (still_unread text.new)) }
     ensures size { OnOk result
-        (decompositions_size I.remaining source.new + length (unread text.new)
-        ≤ decompositions_size I.remaining source.old + length (unread text.old)) }
+        (decompositions_size I.remaining source.new + length (still_unread text.new)
+        ≤ decompositions_size I.remaining source.old + length (still_unread text.old)) }
 {
-    read_mappings(context, source, text)?;
-    let taken = longest_len(context, text);
+    let taken = read_mappings(alloc, context, source, text)?;
     read_starter(taken, source, text)?;
     Ok(taken)
 }
@@ -210,15 +221,15 @@ fn read_number<I: Iterator<Item = char> + Drop>(
     reading: TextReading<'_>,
     ce32: CollationElement32,
     source: &mut Decompositions<I>,
-    text: &mut Text,
+    text: &mut ClassedText,
 ) -> Result<(), AllocError>
     requires { CanDecompose I.can_next I.remaining source.old }
     ensures ready { OnOk result (CanDecompose I.can_next I.remaining source.new) }
     ensures text { OnOk result (ReadsTo I.next_gives (IsRunRead (reading_of reading.entry) ce32)
-        source.old (unread text.old) source.new (unread text.new)) }
+        source.old (still_unread text.old) source.new (still_unread text.new)) }
     ensures size { OnOk result
-        (decompositions_size I.remaining source.new + length (unread text.new)
-        ≤ decompositions_size I.remaining source.old + length (unread text.old)) }
+        (decompositions_size I.remaining source.new + length (still_unread text.new)
+        ≤ decompositions_size I.remaining source.old + length (still_unread text.old)) }
 {
     if !begins_number(reading, ce32) {
         return Ok(());
@@ -231,18 +242,19 @@ fn read_contraction<I: Iterator<Item = char> + Drop>(
     reading: TextReading<'_>,
     context: FoundContext<'_>,
     source: &mut Decompositions<I>,
-    text: &mut Text,
+    text: &mut ClassedText,
 ) -> Result<(), AllocError>
     requires can { CanDecompose I.can_next I.remaining source.old }
     requires ascending { IsTrue (has_ascending_mappings (found_context context)) }
     ensures ready { OnOk result (CanDecompose I.can_next I.remaining source.new) }
     ensures text { OnOk result (ReadsTo I.next_gives (HasWholeContraction (reading_of reading.entry)
-        (found_context context.entry)) source.old (unread text.old) source.new (unread text.new)) }
+        (found_context context.entry)) source.old (still_unread text.old)
+        source.new (still_unread text.new)) }
     ensures size { OnOk result
-        (decompositions_size I.remaining source.new + length (unread text.new)
-        ≤ decompositions_size I.remaining source.old + length (unread text.old)) }
+        (decompositions_size I.remaining source.new + length (still_unread text.new)
+        ≤ decompositions_size I.remaining source.old + length (still_unread text.old)) }
 {
-    let taken = read_match(context, source, text)?;
+    let taken = read_match(reading.tables.allocator(), context, source, text)?;
     if taken > 0 {
         return Ok(());
     }
@@ -254,15 +266,15 @@ fn read_dot<I: Iterator<Item = char> + Drop>(
     reading: TextReading<'_>,
     c: char,
     source: &mut Decompositions<I>,
-    text: &mut Text,
+    text: &mut ClassedText,
 ) -> Result<(), AllocError>
     requires { CanDecompose I.can_next I.remaining source.old }
     ensures ready { OnOk result (CanDecompose I.can_next I.remaining source.new) }
     ensures text { OnOk result (ReadsTo I.next_gives (IsDotRead (reading_of reading.entry) c)
-        source.old (unread text.old) source.new (unread text.new)) }
+        source.old (still_unread text.old) source.new (still_unread text.new)) }
     ensures size { OnOk result
-        (decompositions_size I.remaining source.new + length (unread text.new)
-        ≤ decompositions_size I.remaining source.old + length (unread text.old)) }
+        (decompositions_size I.remaining source.new + length (still_unread text.new)
+        ≤ decompositions_size I.remaining source.old + length (still_unread text.old)) }
 {
     if reading.lithuanian_dot_above && c == '\u{307}' {
         return read_first(source, text);
@@ -276,15 +288,16 @@ pub(crate) fn read_ahead<I: Iterator<Item = char> + Drop>(
     recent: RecentChars,
     c: char,
     source: &mut Decompositions<I>,
-    text: &mut Text,
+    text: &mut ClassedText,
 ) -> Result<(), AllocError>
     requires { CanDecompose I.can_next I.remaining source.old }
     ensures ready { OnOk result (CanDecompose I.can_next I.remaining source.new) }
     ensures text { OnOk result (ReadsTo I.next_gives (HasWholeStep (reading_of reading.entry)
-        (recent_chars recent) c) source.old (unread text.old) source.new (unread text.new)) }
+        (recent_chars recent) c) source.old (still_unread text.old)
+        source.new (still_unread text.new)) }
     ensures size { OnOk result
-        (decompositions_size I.remaining source.new + length (unread text.new)
-        ≤ decompositions_size I.remaining source.old + length (unread text.old)) }
+        (decompositions_size I.remaining source.new + length (still_unread text.new)
+        ≤ decompositions_size I.remaining source.old + length (still_unread text.old)) }
 {
     if reading.tables.diacritic(c).is_some() {
         return read_dot(reading, c, source, text);

@@ -4,26 +4,27 @@ ghost use Rattle.std.specs.Prelude.{◌≡◌, ◌∷◌, ◌++◌, [], option_t
 ghost use Rattle.icu_elements.specs.TextElements.{last_two};
 
 use crate::reader::recent::RecentChars;
-use icu_matches::Text;
+use icu_matches::ClassedText;
+use std::alloc::Global;
 
 /// How far a text is read: the characters that were consumed last, and those that are still to be read.
 #[derive(Debug, Drop)]
 pub(crate) struct Position {
     pub(crate) recent: RecentChars,
-    pub(crate) text: Text,
+    pub(crate) text: ClassedText,
 }
 
 impl Position {
     ghost use Rattle.icu_elements.specs.inner.Positions.{consumed_last, unread_at};
 
     /// The beginning of a decomposed text.
-    pub(crate) fn at_start(chars: Vec<char>) -> Position
+    pub(crate) fn at_start(alloc: Global, chars: Vec<char>) -> Position
         ensures before { consumed_last result ≡ [] }
         ensures unread { unread_at result ≡ chars.items }
     {
         Position {
             recent: RecentChars::new(),
-            text: Text::new(chars),
+            text: ClassedText::new(alloc, chars),
         }
     }
 }

@@ -4,19 +4,19 @@ ghost use Rattle.std.specs.Prelude.{◌≡◌, ◌<◌, ◌++◌, [], length, If
 ghost use Rattle.icu_elements.specs.TextElements.{is_silent_dot, diacritic_step, step};
 ghost use Rattle.icu_elements.specs.inner.Positions.{IsStep, consumed_last, unread_at, left_elements};
 ghost use Rattle.icu_elements.specs.Reading.{reading_of};
-ghost use Rattle.icu_matches.specs.Texts.{unread};
+ghost use Rattle.icu_matches.specs.Texts.{still_unread};
 
 use crate::element_list::ElementList;
 use crate::reader::entry_step::read_entry;
 use crate::reader::position::Position;
 use crate::text_reading::TextReading;
 use icu_entries::CollationElement;
-use icu_matches::{Text, find_match};
+use icu_matches::{ClassedText, find_match};
 use std::alloc::AllocError;
 
 /// Whether U+0307 is silent before a text, as it is before some diacritics above in Lithuanian.
-fn is_silent(reading: TextReading<'_>, c: char, text: &Text) -> bool
-    ensures { result ≡ is_silent_dot reading.entry.lithuanian_dot_above c (unread text.now) }
+fn is_silent(reading: TextReading<'_>, c: char, text: &ClassedText) -> bool
+    ensures { result ≡ is_silent_dot reading.entry.lithuanian_dot_above c (still_unread text.now) }
 {
     reading.lithuanian_dot_above
         && c == '\u{307}'

@@ -3,7 +3,7 @@
 ghost use Rattle.std.specs.Prelude.{◌≡◌, ◌<◌, ◌∷◌, ◌++◌, All, OnOk, IfOk, MatchOption, map};
 ghost use Rattle.icu_entries.specs.declared.entry.EntryKind.TheVariants.{Digit};
 ghost use Rattle.icu_entries.specs.Entries.{kind_of, digit_value};
-ghost use Rattle.icu_matches.specs.Texts.{unread};
+ghost use Rattle.icu_matches.specs.Texts.{still_unread};
 ghost use Rattle.icu_elements.specs.Reading.{element_tables};
 ghost use Rattle.icu_elements.specs.TextElements.{begins_with_mark, digit_of_char};
 ghost use Rattle.icu_elements.specs.inner.Positions.{unread_at};
@@ -11,7 +11,7 @@ ghost use Rattle.icu_elements.specs.inner.TakenDigits.{IsNoDigit, IsDigitTaken, 
 
 use crate::element_tables::ElementTables;
 use crate::reader::position::Position;
-use icu_matches::{Matched, Text};
+use icu_matches::{ClassedText, Matched};
 use std::alloc::AllocError;
 use unicode_normalization::char::canonical_combining_class;
 
@@ -45,8 +45,8 @@ fn take_run(
 }
 
 /// Whether a text begins with a mark.
-fn begins_with_mark(text: &Text) -> bool
-    ensures { result ≡ begins_with_mark (unread text.now) }
+pub(crate) fn begins_with_mark(text: &ClassedText) -> bool
+    ensures { result ≡ begins_with_mark (still_unread text.now) }
 {
     match text.first() {
         Some(c) => canonical_combining_class(c) != 0,
@@ -55,8 +55,8 @@ fn begins_with_mark(text: &Text) -> bool
 }
 
 /// Whether a digit is a number by itself, since its match consumed a suffix or a mark follows.
-fn stands_alone(found: &Matched, text: &Text) -> bool
-    ensures { result ≡ stands_alone (matched found.now (unread text.now)) }
+fn stands_alone(found: &Matched, text: &ClassedText) -> bool
+    ensures { result ≡ stands_alone (matched found.now (still_unread text.now)) }
 {
     !found.suffix.is_empty() || begins_with_mark(text)
 }

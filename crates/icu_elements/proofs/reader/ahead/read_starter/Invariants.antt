@@ -1,15 +1,15 @@
 use Rattle.std.proofs.Common.{◌+◌, ◌≤◌, length}
 use Rattle.unicode_normalization.specs.Decompositions.{CanDecompose, decompositions_size}
-use Rattle.icu_matches.specs.Texts.{unread}
+use Rattle.icu_matches.specs.Texts.{still_unread}
 use Rattle.icu_elements.specs.inner.ReadsAhead.{ReadsMore}
 use Rattle.icu_elements.proofs.reader.ahead.read_starter.Given as goal
 
 abbrev pub invariant-loop-c : goal.invariant-loop-c
 invariant-loop-c g l = record {
   can : CanDecompose g.I.Iterator.can_next g.I.Iterator.remaining l.source;
-  inside : l.from ≤ length (unread l.text);
-  reads : ReadsMore g.I.Iterator.next_gives l.fn.source (unread l.fn.text) l.source (unread l.text);
-  size : decompositions_size g.I.Iterator.remaining l.source + length (unread l.text) ≤ decompositions_size g.I.Iterator.remaining l.fn.source + length (unread l.fn.text);
+  inside : l.from ≤ length (still_unread l.text);
+  reads : ReadsMore g.I.Iterator.next_gives l.fn.source (still_unread l.fn.text) l.source (still_unread l.text);
+  size : decompositions_size g.I.Iterator.remaining l.source + length (still_unread l.text) ≤ decompositions_size g.I.Iterator.remaining l.fn.source + length (still_unread l.fn.text);
 }
 
 abbrev pub decreases-loop-c : goal.decreases-loop-c

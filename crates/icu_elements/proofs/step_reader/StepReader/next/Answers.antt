@@ -1,5 +1,5 @@
 use Rattle.std.proofs.Common.{length, refl, ap, arith}
-use Rattle.icu_matches.specs.Texts.{unread}
+use Rattle.icu_matches.specs.Texts.{still_unread}
 use Rattle.icu_elements.specs.inner.Positions.{consumed_last}
 use Rattle.icu_elements.specs.inner.ReadsAhead.{IsBegun}
 use Rattle.icu_elements.specs.StepReaders.{reading_in}
@@ -14,7 +14,7 @@ returns-in_default-clause-step g c = λ before text h.
 
 pub overflow_sub-result : goal.overflow_sub-result
 overflow_sub-result g c =
-    let fits = (Rests-step (reading_in c.args.self.now) (consumed_last c.args.self.now.position) c.in-Some.c (unread c.read_ahead.new.text)).fits in
+    let fits = (Rests-step (reading_in c.args.self.now) (consumed_last c.args.self.now.position) c.in-Some.c (still_unread c.read_ahead.new.text)).fits in
     omega (arith, fits, ap length c.in_ok-read_char.ensures.rest, c.len-there.ensures, c.len-left.ensures)
 
 pub returns-clause-step : goal.returns-clause-step
@@ -24,5 +24,5 @@ returns-clause-step g c = λ before text h.
 
 pub returns-clause-shorter : goal.returns-clause-shorter
 returns-clause-shorter g c = λ _.
-    let fits = (Rests-step (reading_in c.args.self.now) (consumed_last c.args.self.now.position) c.in-Some.c (unread c.read_ahead.new.text)).fits in
+    let fits = (Rests-step (reading_in c.args.self.now) (consumed_last c.args.self.now.position) c.in-Some.c (still_unread c.read_ahead.new.text)).fits in
     omega (arith, c.in_ok-read_first.ensures.size, c.in_ok-read_ahead.ensures.size, ap length c.in-Some.ensures.taken, ap length c.in_ok-read_char.ensures.rest, fits)
