@@ -1,8 +1,8 @@
 -- A character more is passed, and at a place the part before it has its line.
-use Rattle.std.proofs.Common.{◌≡◌, ◌∙◌, ◌+◌, ◌++◌, ap, drop, length, rules, subst, sym}
-use Rattle.icu_searcher.specs.PlaceReaders.{elements_read, places_reading}
+use Rattle.std.proofs.Common.{◌≡◌, ◌∙◌, ◌+◌, ◌++◌, [], ap, drop, length, rules, subst, sym}
+use Rattle.icu_searcher.specs.PlaceReaders.{chars_left, elements_read, places_reading}
 use Rattle.text_explanations.specs.Explanations.{part_line, part_of}
-use Rattle.text_explanations.proofs.LineLemmas.{LinesPassed, lines_go_on, lines_wait}
+use Rattle.text_explanations.proofs.LineLemmas.{LinesPassed, lines_end, lines_go_on, lines_wait}
 use Rattle.text_explanations.proofs.part_explanations.explained.Goals as goal
 
 pub characters-preserved-then-here : goal.characters-preserved-then-here
@@ -43,3 +43,10 @@ characters-preserved g c = record {
       lines_wait g.I.Iterator.next_gives (places_reading c.args.places) c.args.text.now c.characters.places c.next.new.self c.characters.start
       c.characters.given c.characters.passed c.characters.output.items c.in-Some.here m passed c.characters.invariant.reading c.if-here.false;
 }
+
+pub returns : goal.returns
+returns g c = λ h.
+    let m = c.characters.invariant.lines h in
+    let none : chars_left c.characters.places ≡ [] = rw c.in_default.is at (c.in_ok-here.ensures.step m.front m.passed) in
+    lines_end g.I.Iterator.next_gives (places_reading c.args.places) c.args.text.now c.characters.places c.characters.start
+    c.characters.given c.characters.passed c.characters.output.items m none
