@@ -1,5 +1,5 @@
 -- The parents of the lists are those below which a tree has other weights than before any rule.
-use Rattle.std.proofs.Common.{◌≡◌, ◌⊎◌, Bool, true, false, List, [], ◌∷◌, Option, Some, None, if◌then◌else◌, inl, inr, refl, ap, sym, ◌∙◌}
+use Rattle.std.proofs.Common.{◌≡◌, ◌⊎◌, List, [], ◌∷◌, Some, None, if◌then◌else◌, inl, inr, refl, ap, sym, ◌∙◌}
 use Rattle.std.proofs.lemmas.Bool.{cases_Bool}
 use Rattle.std.specs.Map.{keys_of, lookup}
 use Rattle.icu_tailoring.specs.declared.symbolic.SymbolicWeight.{SymbolicWeight}

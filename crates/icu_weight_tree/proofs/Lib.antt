@@ -6,3 +6,4 @@ mod CountingLemmas
 mod RuleStateLemmas
 mod PositionLemmas
 mod BegunParentLemmas
+mod WeightRowLemmas

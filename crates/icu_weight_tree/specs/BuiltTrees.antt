@@ -22,7 +22,7 @@ are_parents above parents = are_same_weights above (parent_weights parents)
 -- the siblings of a list, if it was begun; else the common weight alone
 abbrev pub begun_siblings : List SymbolicWeight → Option Siblings → List SymbolicWeight
 begun_siblings above None = first_tree above
-begun_siblings above (Some siblings) = siblings.weights.items
+begun_siblings above (Some siblings) = siblings.weights
 
 -- the tree that lists of siblings are of
 abbrev pub tree_in : List (Parents × Siblings) → WeightTree

@@ -11,6 +11,7 @@ pub mod rule_elements;
 mod siblings;
 mod tailored_siblings;
 pub mod tree;
+mod weight_row;
 
 pub use counting_elements::{counting_at, last_or_ignorable};
 pub use parents::Parents;

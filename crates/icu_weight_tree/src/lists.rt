@@ -37,7 +37,7 @@ pub(crate) fn common_weight(above: &[SymbolicWeight]) -> SymbolicWeight
 /// The list that a tree has before any rule.
 fn first_siblings(alloc: Global, above: &[SymbolicWeight]) -> Result<Siblings, AllocError>
     requires { length above.now ≤ 3 }
-    ensures { IfOk result (λ s. s.weights.items ≡ first_tree above.now) }
+    ensures { IfOk result (λ s. s.weights ≡ first_tree above.now) }
 {
     let mut weights = Vec::new(alloc);
     if !above.is_empty() {

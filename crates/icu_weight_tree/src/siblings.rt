@@ -7,19 +7,20 @@ ghost use Rattle.icu_weight_tree.specs.inner.SiblingChanges.{changed};
 ghost use Rattle.icu_weight_tree.specs.inner.SiblingPlaces.{ends_search, place_among, first_place, IsFoundAt, AreUpTo, number_in};
 
 use crate::change::Change;
+use crate::weight_row::WeightRow;
 use icu_tailoring::SymbolicWeight;
 use std::alloc::AllocError;
 
 /// Weights below the same ones, ascending.
 #[derive(Debug, Drop)]
 pub(crate) struct Siblings {
-    weights: Vec<SymbolicWeight>,
+    weights: WeightRow,
     // where a weight was put or looked for last; it is looked for there first
     last: usize,
     // no tailored weight has a greater number
     greatest: usize,
-    ghost found: { IsFoundAt weights.items last },
-    ghost up_to: { AreUpTo greatest weights.items },
+    ghost found: { IsFoundAt weights last },
+    ghost up_to: { AreUpTo greatest weights },
 }
 
 /// Whether two weights are the same.
@@ -77,16 +78,16 @@ pub(crate) fn search_first(weights: &[SymbolicWeight], w: SymbolicWeight) -> usi
 impl Siblings {
     /// Whether a weight is the one that is remembered.
     fn is_remembered(&self, w: SymbolicWeight) -> bool
-        ensures { OnTrue result ((self.now.last < length self.now.weights.items)
-            × (place_among w self.now.weights.items ≡ self.now.last)
-            × (first_place w self.now.weights.items ≡ self.now.last)) }
+        ensures { OnTrue result ((self.now.last < length self.now.weights)
+            × (place_among w self.now.weights ≡ self.now.last)
+            × (first_place w self.now.weights ≡ self.now.last)) }
     {
-        self.last < self.weights.len() && is_same(self.weights[self.last], w)
+        self.last < self.weights.len() && is_same(self.weights.at(self.last), w)
     }
 
     /// Where a weight stands, or would be put.
     fn place(&self, w: SymbolicWeight) -> usize
-        ensures { result ≡ place_among w self.now.weights.items }
+        ensures { result ≡ place_among w self.now.weights }
     {
         if self.is_remembered(w) {
             return self.last;
@@ -96,7 +97,7 @@ impl Siblings {
 
     /// Where a weight stands first.
     fn first(&self, w: SymbolicWeight) -> usize
-        ensures { result ≡ first_place w self.now.weights.items }
+        ensures { result ≡ first_place w self.now.weights }
     {
         if self.is_remembered(w) {
             return self.last;
@@ -107,11 +108,11 @@ impl Siblings {
     /// Weights of which none is searched for yet.
     pub(crate) fn of(weights: Vec<SymbolicWeight>) -> Self
         requires { AreUpTo 0 weights.items }
-        ensures { result.weights.items ≡ weights.items }
+        ensures { result.weights ≡ weights.items }
     {
         let last = weights.len();
         Siblings {
-            weights,
+            weights: WeightRow::of(weights),
             last,
             greatest: 0,
         }
@@ -120,10 +121,10 @@ impl Siblings {
     /// Whether a weight of the root stands at a place.
     fn stands_at(&self, place: usize, w: u32) -> bool
         ensures { result ≡ is_same_weight
-            (slice_index_or self.now.weights.items place (SymbolicWeight.Tailored 0))
+            (slice_index_or self.now.weights place (SymbolicWeight.Tailored 0))
             (SymbolicWeight.Rooted w) }
     {
-        match self.weights.get(place) {
+        match self.weights.as_slice().get(place) {
             Some(v) => is_same(*v, SymbolicWeight::Rooted(w)),
             None => false,
         }
@@ -131,8 +132,8 @@ impl Siblings {
 
     /// Puts a weight of the root in its place, where it doesn't stand there.
     fn put_rooted(&mut self, w: u32) -> Result<(), AllocError>
-        ensures ok { OnOk result (self.new.weights.items ≡ with_rooted w self.old.weights.items) }
-        ensures err { OnErr result (self.new.weights.items ≡ self.old.weights.items) }
+        ensures ok { OnOk result (self.new.weights ≡ with_rooted w self.old.weights) }
+        ensures err { OnErr result (self.new.weights ≡ self.old.weights) }
     {
         let rooted = SymbolicWeight::Rooted(w);
         let place = self.place(rooted);
@@ -147,9 +148,9 @@ impl Siblings {
 
     /// Puts a new tailored weight directly behind another; both at the end where that one doesn't stand here.
     fn put_behind(&mut self, w: SymbolicWeight, new: usize) -> Result<(), AllocError>
-        ensures ok { OnOk result (self.new.weights.items
-            ≡ with_behind w (SymbolicWeight.Tailored new) self.old.weights.items) }
-        ensures err { OnErr result (self.new.weights.items ≡ self.old.weights.items) }
+        ensures ok { OnOk result (self.new.weights
+            ≡ with_behind w (SymbolicWeight.Tailored new) self.old.weights) }
+        ensures err { OnErr result (self.new.weights ≡ self.old.weights) }
     {
         let place = self.first(w);
         if place < self.weights.len() {
@@ -160,7 +161,7 @@ impl Siblings {
 
     /// Makes a change.
     pub(crate) fn change(&mut self, change: Change) -> Result<(), AllocError>
-        ensures { OnOk result (self.new.weights.items ≡ changed change self.old.weights.items) }
+        ensures { OnOk result (self.new.weights ≡ changed change self.old.weights) }
     {
         match change {
             Change::PutRooted(w) => self.put_rooted(w),
@@ -170,10 +171,10 @@ impl Siblings {
 
     /// Puts a new tailored weight at a place, which is remembered where its number is greater than all before.
     fn insert_new(&mut self, place: usize, new: usize) -> Result<(), AllocError>
-        requires { place ≤ length self.old.weights.items }
-        ensures ok { OnOk result (self.new.weights.items
-            ≡ insert self.old.weights.items place (SymbolicWeight.Tailored new)) }
-        ensures err { OnErr result (self.new.weights.items ≡ self.old.weights.items) }
+        requires { place ≤ length self.old.weights }
+        ensures ok { OnOk result (self.new.weights
+            ≡ insert self.old.weights place (SymbolicWeight.Tailored new)) }
+        ensures err { OnErr result (self.new.weights ≡ self.old.weights) }
     {
         self.weights.insert(place, SymbolicWeight::Tailored(new))?;
         self.last = if self.greatest < new {
@@ -187,9 +188,9 @@ impl Siblings {
 
     /// Puts two weights at the end.
     fn push_both(&mut self, w: SymbolicWeight, new: usize) -> Result<(), AllocError>
-        ensures ok { OnOk result (self.new.weights.items
-            ≡ self.old.weights.items ++ w ∷ SymbolicWeight.Tailored new ∷ []) }
-        ensures err { OnErr result (self.new.weights.items ≡ self.old.weights.items) }
+        ensures ok { OnOk result (self.new.weights
+            ≡ self.old.weights ++ w ∷ SymbolicWeight.Tailored new ∷ []) }
+        ensures err { OnErr result (self.new.weights ≡ self.old.weights) }
     {
         self.weights
             .extend_from_slice(&[w, SymbolicWeight::Tailored(new)])?;
@@ -200,18 +201,18 @@ impl Siblings {
 
     /// The weight directly before another.
     pub(crate) fn before(&self, w: SymbolicWeight) -> Option<SymbolicWeight>
-        ensures { result ≡ directly_before w self.now.weights.items }
+        ensures { result ≡ directly_before w self.now.weights }
     {
         let place = self.first(w);
         if place == 0 || self.weights.len() <= place {
             return None;
         }
-        Some(self.weights[place - 1])
+        Some(self.weights.at(place - 1))
     }
 
     /// The weights.
     pub(crate) fn as_slice(&self) -> &[SymbolicWeight]
-        ensures { result.now ≡ self.now.weights.items }
+        ensures { result.now ≡ self.now.weights }
     {
         self.weights.as_slice()
     }

@@ -6,12 +6,12 @@ use Rattle.icu_weight_tree.proofs.siblings.Siblings.before.Goals.{then-place-eq0
 
 pub returns-then-place-eq0 : goal.returns-then-place-eq0
 returns-then-place-eq0 c = elim c.then-place-eq0.branch [
-  | then-place-eq0-via-then-place-eq0 w ↦ sym (nothing_before c.args.w c.args.self.now.weights.items (omega arith))
+  | then-place-eq0-via-then-place-eq0 w ↦ sym (nothing_before c.args.w c.args.self.now.weights (omega arith))
   | then-place-eq0-via-else-place-eq0+then-len-place w ↦
-      sym (before_none None c.args.w c.args.self.now.weights.items (omega arith))
+      sym (before_none None c.args.w c.args.self.now.weights (omega arith))
 ]
 
 pub returns : goal.returns
 returns c =
-    ap Some c.index.ensures
-    ∙ sym (before_later None c.args.w c.args.self.now.weights.items (c.first-place.result - 1) c.index.result.now (omega arith) (omega arith))
+    ap Some c.at.ensures
+    ∙ sym (before_later None c.args.w c.args.self.now.weights (c.first-place.result - 1) c.at.result (omega arith) (omega arith))

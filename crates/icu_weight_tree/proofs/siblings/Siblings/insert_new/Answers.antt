@@ -8,7 +8,7 @@ use Rattle.icu_weight_tree.proofs.siblings.Siblings.insert_new.Goals.{then-self-
 
 pub invariant_of-self-2-clause-found : goal.invariant_of-self-2-clause-found
 invariant_of-self-2-clause-found c =
-    let items = c.args.self.now.weights.items in
+    let items = c.args.self.now.weights in
     elim c.if-self-new.branch [
       | then-self-new w ↦
           let beyond : length items ≤ place_among (Tailored c.args.new) items =
@@ -20,5 +20,5 @@ invariant_of-self-2-clause-found c =
 pub invariant_of-self-2-clause-up_to : goal.invariant_of-self-2-clause-up_to
 invariant_of-self-2-clause-up_to c =
     rw c.in_ok-insert.ensures.items
-    (up_to_inserted c.args.self.now.greatest c.max-self.result (Tailored c.args.new) c.args.self.now.weights.items c.args.place
+    (up_to_inserted c.args.self.now.greatest c.max-self.result (Tailored c.args.new) c.args.self.now.weights c.args.place
     c.args.self.now.up_to (omega arith) (omega arith))

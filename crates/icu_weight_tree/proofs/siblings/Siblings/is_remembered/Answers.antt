@@ -5,5 +5,5 @@ use Rattle.std.proofs.Common.{arith}
 
 pub returns-then-self-len : goal.returns-then-self-len
 returns-then-self-len c =
-    remembered c.args.self.now.weights.items c.args.self.now.last c.args.w c.index.result.now c.is_same.result
-    c.args.self.now.found (omega arith) c.index.ensures c.is_same.ensures
+    remembered c.args.self.now.weights c.args.self.now.last c.args.w c.at.result c.is_same.result
+    c.args.self.now.found (omega arith) c.at.ensures c.is_same.ensures

@@ -7,26 +7,26 @@ use Rattle.icu_weight_tree.proofs.siblings.Siblings.put_rooted.Goals as goal
 
 pub returns-then-stands_at-clause-ok : goal.returns-then-stands_at-clause-ok
 returns-then-stands_at-clause-ok c =
-    rooted_stays c.args.w c.place-place.result c.args.self.now.weights.items c.stands_at.result
+    rooted_stays c.args.w c.place-place.result c.args.self.now.weights c.stands_at.result
     c.place-place.ensures c.stands_at.ensures c.if-stands_at.true
 
 pub insert-requires : goal.insert-requires
 insert-requires c =
-    let most = place_le (ends_search (Rooted c.args.w)) c.args.self.now.weights.items in
+    let most = place_le (ends_search (Rooted c.args.w)) c.args.self.now.weights in
     omega arith
 
 pub invariant_of-self-2-clause-found : goal.invariant_of-self-2-clause-found
 invariant_of-self-2-clause-found c =
     rw c.in_ok-insert.ensures.items
-    (found_inserted (Rooted c.args.w) c.args.self.now.weights.items c.place-place.result (omega arith))
+    (found_inserted (Rooted c.args.w) c.args.self.now.weights c.place-place.result (omega arith))
 
 pub invariant_of-self-2-clause-up_to : goal.invariant_of-self-2-clause-up_to
 invariant_of-self-2-clause-up_to c =
     rw c.in_ok-insert.ensures.items
-    (up_to_inserted c.args.self.now.greatest c.args.self.now.greatest (Rooted c.args.w) c.args.self.now.weights.items c.place-place.result
+    (up_to_inserted c.args.self.now.greatest c.args.self.now.greatest (Rooted c.args.w) c.args.self.now.weights c.place-place.result
     c.args.self.now.up_to (omega arith) (omega arith))
 
 pub returns-clause-ok : goal.returns-clause-ok
 returns-clause-ok c =
     c.in_ok-insert.ensures.items
-    ∙ rooted_put c.args.w c.place-place.result c.args.self.now.weights.items c.stands_at.result c.place-place.ensures c.stands_at.ensures c.if-stands_at.false
+    ∙ rooted_put c.args.w c.place-place.result c.args.self.now.weights c.stands_at.result c.place-place.ensures c.stands_at.ensures c.if-stands_at.false
