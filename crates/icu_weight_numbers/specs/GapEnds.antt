@@ -15,6 +15,12 @@ abbrev pub last_alone : GapLevel → ℕ
 last_alone Secondary = 0x10000
 last_alone Tertiary = 0x4000
 
+-- the least weight beside one of the level before: secondary weights of a backward level can't have lead byte 02, by
+-- which sort keys part it
+abbrev pub least_beside : GapLevel → ℕ
+least_beside Secondary = 0x0300
+least_beside Tertiary = 0x0200
+
 -- the last number with a lead byte that runs of common weights are written with
 abbrev pub last_common : GapLevel → ℕ
 last_common Secondary = 0x45FF
@@ -22,7 +28,7 @@ last_common Tertiary = 0x05FF
 
 -- weights of a level beside one of the level before: on both sides of what runs of common weights are written with
 abbrev pub IsBesideWeight : GapLevel → ℕ → Type 0
-IsBesideWeight level x = ((0x0200 ≤ x) × (x < common)) ⊎ ((last_common level < x) × (x < first_alone level))
+IsBesideWeight level x = ((least_beside level ≤ x) × (x < common)) ⊎ ((last_common level < x) × (x < first_alone level))
 
 -- weights of a level of elements without one of the level before, or of others
 abbrev pub IsGapWeight : GapLevel → Bool → ℕ → Type 0

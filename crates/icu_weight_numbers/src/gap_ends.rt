@@ -1,6 +1,6 @@
 //! Between which numbers the weights of a gap may stand.
 ghost use Rattle.std.specs.Prelude.{◌≡◌, ◌<◌, ◌↔◌, ℕ};
-ghost use Rattle.icu_weight_numbers.specs.GapEnds.{first_alone, last_alone, last_common, IsInGap};
+ghost use Rattle.icu_weight_numbers.specs.GapEnds.{first_alone, last_alone, least_beside, last_common, IsInGap};
 
 use crate::gap_level::GapLevel;
 use crate::level_gap::LevelGap;
@@ -26,6 +26,17 @@ impl GapLevel {
         match self {
             GapLevel::Secondary => 0x1_0000,
             GapLevel::Tertiary => 0x4000,
+        }
+    }
+
+    /// The least weight of an element with a weight of the level before. Secondary weights of a backward level can't
+    /// have lead byte 02, by which sort keys part it.
+    fn least_beside(self) -> u32
+        ensures { result ≡ least_beside self }
+    {
+        match self {
+            GapLevel::Secondary => 0x0300,
+            GapLevel::Tertiary => 0x0200,
         }
     }
 
@@ -59,7 +70,7 @@ impl GapLevel {
             return LevelGap { low, high, count };
         }
         if w < COMMON {
-            let low = w.max(0x01FF);
+            let low = w.max(self.least_beside() - 1);
             let high = high.min(COMMON);
             return LevelGap { low, high, count };
         }

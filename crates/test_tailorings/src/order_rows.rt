@@ -27,7 +27,7 @@ const STRENGTHS_AND_RESETS: [(&str, &str); 14] = [
 ];
 
 /// Rules, and texts in their order, between each two how they differ: resets, and before them.
-const MORE_RESETS: [(&str, &str); 15] = [
+const MORE_RESETS: [(&str, &str); 16] = [
     ("&a<<<x&a<<y", "a <<< x <<< A << y < b"),
     ("&a<b&b<a&a<c", "b < a < c < d"),
     ("&ab<x", "ab < abc < x < ac < b"),
@@ -38,6 +38,7 @@ const MORE_RESETS: [(&str, &str); 15] = [
     ("&[before 2]b<<x", "a < x << b <<< B"),
     ("&[before 3]b<<<x", "a < x <<< b <<< B"),
     ("&[before 1]b<x&[before 1]b<y", "a < x < y < b"),
+    ("[backwards 2]&[before 2]b<<x", "a < x << b <<< B"),
     ("&[before 2]b<<x&[before 2]b<<y", "a < x << y << b"),
     ("&[before 3]B<<<x", "b <<< x <<< B"),
     ("&a<x&[before 1]x<y", "a < y < x < b"),
