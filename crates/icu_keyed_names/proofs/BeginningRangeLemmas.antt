@@ -9,7 +9,7 @@ use Rattle.icu_beginnings.specs.KeyBeginnings.{least_above, begins, stands_betwe
 use Rattle.icu_keyed_names.proofs.BorderRangeLemmas.{between_is}
 use Rattle.icu_keyed_names.proofs.KeyedLemmas.{filter_along, names_are}
 use Rattle.icu_keyed_names.proofs.LeafPlaceLemmas.{all_pass, leaf_none}
-use Rattle.icu_keyed_names.proofs.PlacedLemmas.{agree, bytes_part}
+use Rattle.icu_keyed_names.proofs.PlacedLemmas.{agree, bytes_key}
 use Rattle.icu_keyed_names.specs.Borders.{border_key, lies_before}
 use Rattle.icu_keyed_names.specs.KeyedLists.{Keyed, beginning_with, behind_border, between, names_in}
 use Rattle.icu_keyed_names.specs.declared.borders.Border.{Border}
@@ -63,7 +63,7 @@ module _ (bytes : List ℕ) (are : AreBytes bytes) (ls : List (Vec Entry)) (soun
 
 pub byte_keys : (bytes : List ℕ) → AreBytes bytes → (es : List Entry) → HaveByteKeys (map (keyed_in bytes) es)
 byte_keys bytes are [] = tt
-byte_keys bytes are (e ∷ es) = (bytes_part bytes e.start e.middle are, byte_keys bytes are es)
+byte_keys bytes are (e ∷ es) = (bytes_key bytes e are, byte_keys bytes are es)
 
 -- ---- those that begin with bytes
 

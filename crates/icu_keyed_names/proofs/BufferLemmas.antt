@@ -1,46 +1,40 @@
 -- Entries of a buffer that grows.
-use Rattle.std.proofs.Common.{◌≡◌, ℕ, zero, suc, ◌+◌, ◌-◌, ◌≤◌, Bool, true, ◌&&◌, List, [], ◌∷◌, ◌++◌, drop, length, length-append, nat_le, take, if◌then◌else◌, refl, sym, ap, ◌∙◌, arith, append_assoc}
-use Rattle.std.proofs.lemmas.Bool.Decides.{nat_tests}
-use Rattle.std.proofs.lemmas.List.{append-nil}
+use Rattle.std.proofs.Common.{◌≡◌, ℕ, ◌^◌, ◌<◌, List, [], ◌∷◌, ◌++◌, drop, length, take, sym, ap, ◌∙◌, arith, subst}
+use Rattle.std.proofs.Math.Seq.{drop-append_seam, take-append_seam}
+use Rattle.std.proofs.lemmas.List.{append-nil, drop-append-le, length-drop}
+use Rattle.std.specs.Int.{to_be_bytes, w64}
 use Rattle.std.specs.List.{AllByRecursion}
+use Rattle.icu_beginnings.specs.KeyBeginnings.{AreBytes}
+use Rattle.icu_keyed_names.proofs.TiedLemmas.{key_joined}
+use Rattle.icu_keyed_names.proofs.CountedLemmas.{all_is, all_more, counted_more, counted_there, first_is, first_more, rest_is, rest_more, size_some}
 use Rattle.icu_keyed_names.specs.declared.name_entries.Entry.{Entry}
-use Rattle.icu_keyed_names.specs.inner.NameEntries.{AreEntriesIn, IsEntryIn, IsEntryOf, key_in, keyed_in, name_in, buffer_part, prefix_of}
-
--- ---- parts
-
-there : (bytes : List ℕ) (i j : ℕ) → i ≤ j → j ≤ length bytes → buffer_part bytes i j ≡ take (j - i) (drop i bytes)
-there bytes i j low high = at (nat_le i j) (nat_le j (length bytes)) (grind (arith, nat_tests)) (grind (arith, nat_tests)) where
-  at : (a b : Bool) → a ≡ true → b ≡ true → (if a && b then take (j - i) (drop i bytes) else []) ≡ take (j - i) (drop i bytes)
-  at a b e f = rw (e, f) refl
-
-range_more : (i n : ℕ) (bytes more : List ℕ) → i + n ≤ length bytes → take n (drop i (bytes ++ more)) ≡ take n (drop i bytes)
-range_more zero zero bytes more low = refl
-range_more zero (suc n) [] more low = absurd (omega arith)
-range_more zero (suc n) (b ∷ bytes) more low = ap (λ bs. b ∷ bs) (range_more zero n bytes more (omega arith))
-range_more (suc i) zero [] more low = refl
-range_more (suc i) (suc n) [] more low = absurd (omega arith)
-range_more (suc i) n (b ∷ bytes) more low = range_more i n bytes more (omega arith)
-
-part_more : (bytes more : List ℕ) (i j : ℕ) → i ≤ j → j ≤ length bytes → buffer_part (bytes ++ more) i j ≡ buffer_part bytes i j
-part_more bytes more i j low high =
-    there (bytes ++ more) i j low (omega (arith, length-append bytes more))
-    ∙ (range_more i (j - i) bytes more (omega arith) ∙ sym (there bytes i j low high))
+use Rattle.icu_keyed_names.specs.inner.NameEntries.{AreEntriesIn, IsCounted, IsEntryIn, IsEntryOf, behind_counted, count_of, with_count, first_counted, key_in, keyed_in, name_in, prefix_of}
 
 -- ---- an entry stays
 
-key_more : (bytes more : List ℕ) (e : Entry) → IsEntryIn bytes e → key_in (bytes ++ more) e ≡ key_in bytes e
-key_more bytes more e is = part_more bytes more e.start e.middle is.key_ends (omega (arith, is.name_ends, is.within))
+module _ (bytes more : List ℕ) (e : Entry) (is : IsEntryIn bytes e) where
+  behind : drop e.start (bytes ++ more) ≡ drop e.start bytes ++ more
+  behind = drop-append-le e.start bytes more (omega (arith, is.key_there, size_some (drop e.start bytes), length-drop e.start bytes))
 
-name_more : (bytes more : List ℕ) (e : Entry) → IsEntryIn bytes e → name_in (bytes ++ more) e ≡ name_in bytes e
-name_more bytes more e is = part_more bytes more e.middle e.end is.name_ends is.within
+  key_more : key_in (bytes ++ more) e ≡ key_in bytes e
+  key_more =
+      let from = drop e.start bytes in
+      ap (λ bs. take (count_of bs) (to_be_bytes w64 e.prefix) ++ first_counted 8 bs) behind
+      ∙ (ap (λ n. take n (to_be_bytes w64 e.prefix) ++ first_counted 8 (from ++ more)) (all_more 8 from more is.key_there)
+      ∙ ap (λ bs. take (count_of from) (to_be_bytes w64 e.prefix) ++ bs) (first_more 8 from more is.key_there))
 
-sound_more : (bytes more : List ℕ) (e : Entry) → IsEntryIn bytes e → IsEntryIn (bytes ++ more) e
-sound_more bytes more e is = record {
-  key_ends = is.key_ends;
-  name_ends = is.name_ends;
-  within = omega (arith, is.within, length-append bytes more);
-  begins = is.begins ∙ ap prefix_of (sym (key_more bytes more e is));
-}
+  rest : behind_counted 8 (drop e.start (bytes ++ more)) ≡ behind_counted 8 (drop e.start bytes) ++ more
+  rest = ap (behind_counted 8) behind ∙ rest_more 8 (drop e.start bytes) more is.key_there
+
+  name_more : name_in (bytes ++ more) e ≡ name_in bytes e
+  name_more = ap (first_counted 0) rest ∙ first_more 0 (behind_counted 8 (drop e.start bytes)) more is.name_there
+
+  sound_more : IsEntryIn (bytes ++ more) e
+  sound_more = record {
+    key_there = subst (IsCounted 8) (sym behind) (counted_more 8 (drop e.start bytes) more is.key_there);
+    name_there = subst (IsCounted 0) (sym rest) (counted_more 0 (behind_counted 8 (drop e.start bytes)) more is.name_there);
+    begins = is.begins ∙ ap prefix_of (sym key_more);
+  }
 
 pub entries_stay : (bytes more : List ℕ) (es : List Entry) → AreEntriesIn bytes es → AreEntriesIn (bytes ++ more) es
 entries_stay bytes more [] h = tt
@@ -55,45 +49,34 @@ keyed_stay bytes more (e ∷ es) h = (both (key_in (bytes ++ more) e) (key_in by
 
 -- ---- a new entry
 
-behind_it : (bytes more : List ℕ) → drop (length bytes) (bytes ++ more) ≡ more
-behind_it [] more = refl
-behind_it (b ∷ bytes) more = behind_it bytes more
+module _ (bytes key name new : List ℕ) (is : new ≡ bytes ++ (with_count 8 key ++ with_count 0 name)) (are : AreBytes key)
+    (short : length key < 2 ^ 64) (small : length name < 2 ^ 64) (e : Entry) (prefix : e.prefix ≡ prefix_of key) (start : e.start ≡ length bytes) where
+  abbrev both_written : List ℕ
+  both_written = with_count 8 key ++ with_count 0 name
 
-first_of : (xs ys : List ℕ) → take (length xs) (xs ++ ys) ≡ xs
-first_of [] ys = refl
-first_of (x ∷ xs) ys = ap (λ zs. x ∷ zs) (first_of xs ys)
+  from_it : drop e.start new ≡ both_written
+  from_it = ap (λ n. drop n new) start ∙ (ap (drop (length bytes)) is ∙ drop-append_seam bytes both_written)
 
-module _ (bytes key name new : List ℕ) (is : new ≡ bytes ++ (key ++ name)) (e : Entry) (prefix : e.prefix ≡ prefix_of key)
-    (start : e.start ≡ length bytes) (middle : e.middle ≡ length bytes + length key) (end : e.end ≡ length bytes + length key + length name) where
-  len : length new ≡ length bytes + length key + length name
-  len = ap length is ∙ (length-append bytes (key ++ name) ∙ omega (arith, length-append key name))
+  behind_key : behind_counted 8 (drop e.start new) ≡ with_count 0 name ++ []
+  behind_key = ap (behind_counted 8) from_it ∙ (rest_is 8 key short (with_count 0 name) ∙ sym (append-nil (with_count 0 name)))
 
   key_got : key_in new e ≡ key
   key_got =
-      there new e.start e.middle (omega arith) (omega (arith, len))
-      ∙ (ap (λ n. take n (drop e.start new)) (omega arith)
-      ∙ (ap (λ n. take (length key) (drop n new)) start ∙ (ap (λ bs. take (length key) (drop (length bytes) bs)) is
-      ∙ (ap (take (length key)) (behind_it bytes (key ++ name)) ∙ first_of key name))))
-
-  name_got : name_in new e ≡ name
-  name_got =
-      there new e.middle e.end (omega arith) (omega (arith, len))
-      ∙ (ap (λ n. take n (drop e.middle new)) (omega arith)
-      ∙ (ap (λ n. take (length name) (drop n new)) (middle ∙ sym (length-append bytes key))
-      ∙ (ap (λ bs. take (length name) (drop (length (bytes ++ key)) bs)) (is ∙ sym (append_assoc bytes key name))
-      ∙ (ap (take (length name)) (behind_it (bytes ++ key) name) ∙ (ap (take (length name)) (sym (append-nil name)) ∙ first_of name [])))))
+      ap (λ bs. take (count_of bs) (to_be_bytes w64 e.prefix) ++ first_counted 8 bs) from_it
+      ∙ (ap (λ n. take n (to_be_bytes w64 e.prefix) ++ first_counted 8 both_written) (all_is 8 key short (with_count 0 name))
+      ∙ (ap (λ bs. take (length key) (to_be_bytes w64 e.prefix) ++ bs) (first_is 8 key short (with_count 0 name))
+      ∙ (ap (λ p. take (length key) (to_be_bytes w64 p) ++ drop 8 key) prefix ∙ key_joined key are)))
 
   pub entry_is : IsEntryOf new key name e
   entry_is = record {
     key_is = key_got;
-    name_is = name_got;
+    name_is = ap (first_counted 0) behind_key ∙ first_is 0 name small [];
     sound = record {
-      key_ends = omega arith;
-      name_ends = omega arith;
-      within = omega (arith, len);
+      key_there = subst (IsCounted 8) (sym from_it) (counted_there 8 key short (with_count 0 name));
+      name_there = subst (IsCounted 0) (sym behind_key) (counted_there 0 name small []);
       begins = prefix ∙ ap prefix_of (sym key_got);
     };
   }
 
 pub shortened : (bytes more new : List ℕ) (n : ℕ) → new ≡ bytes ++ more → n ≡ length bytes → take n new ≡ bytes
-shortened bytes more new n is e = ap (λ m. take m new) e ∙ (ap (take (length bytes)) is ∙ first_of bytes more)
+shortened bytes more new n is e = ap (λ m. take m new) e ∙ (ap (take (length bytes)) is ∙ take-append_seam bytes more)

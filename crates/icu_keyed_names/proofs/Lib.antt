@@ -2,6 +2,8 @@ pub mod KeyPrefixLemmas
 pub mod LeafPlaceLemmas
 pub mod LeafLemmas
 pub mod AddLemmas
+pub mod CountedLemmas
+pub mod TiedLemmas
 pub mod BufferLemmas
 pub mod KeyedLemmas
 pub mod PlacedLemmas

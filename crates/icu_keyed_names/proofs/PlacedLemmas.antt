@@ -1,7 +1,8 @@
 -- A name more among those of a buffer.
-use Rattle.std.proofs.Common.{◌≡◌, ℕ, zero, suc, ◌<◌, ◌-◌, ◌&&◌, nat_le, cond, Bool, true, false, not, List, [], ◌∷◌, ◌++◌, drop, filter, get_or, length, map, take, refl, sym, ap, ◌∙◌, arith, subst}
+use Rattle.std.proofs.Common.{◌≡◌, ℕ, zero, suc, ◌<◌, ◌-◌, ◌&&◌, nat_eq, if◌then◌else◌, Bool, true, false, not, List, [], ◌∷◌, ◌++◌, drop, filter, get_or, length, map, take, refl, sym, ap, ◌∙◌, arith, subst}
 use Rattle.std.proofs.lemmas.List.{length-map}
 use Rattle.std.specs.Borrow.{Bor}
+use Rattle.std.specs.Int.{to_be_bytes, w64}
 use Rattle.std.specs.List.{AllByRecursion}
 use Rattle.std.specs.Ordering.{is_le}
 use Rattle.icu_collation_data.proofs.ListLemmas.{all_append, weaker}
@@ -15,7 +16,7 @@ use Rattle.icu_keyed_names.specs.KeyedLists.{Keyed, between, names_in, placed}
 use Rattle.icu_keyed_names.specs.declared.borders.Border.{Border}
 use Rattle.icu_keyed_names.specs.declared.borders.Border.TheVariants.{Behind}
 use Rattle.icu_keyed_names.specs.declared.name_entries.Entry.{Entry}
-use Rattle.icu_keyed_names.specs.inner.NameEntries.{AreEntriesIn, IsEntryIn, IsEntryOf, entry_before, key_in, keyed_in, name_in, buffer_part}
+use Rattle.icu_keyed_names.specs.inner.NameEntries.{AreEntriesIn, IsEntryIn, IsEntryOf, entry_before, behind_count, count_of, first_counted, key_in, keyed_in, name_in}
 use Rattle.icu_beginnings.specs.KeyBeginnings.{AreBytes}
 use Rattle.icu_keyed_names.specs.inner.Leaves.{IsParted, Parts, Rise, entries_between, entries_of}
 use Rattle.icu_levels.specs.ListOrder.{list_order}
@@ -40,19 +41,29 @@ bytes_take zero xs h = tt
 bytes_take (suc n) [] h = tt
 bytes_take (suc n) (x ∷ xs) h = (h.0, bytes_take n xs h.1)
 
-bytes_if : (b : Bool) (xs : List ℕ) → AreBytes xs → AreBytes (cond b xs [])
-bytes_if true xs h = h
-bytes_if false xs h = tt
+bytes_behind : (xs : List ℕ) → AreBytes xs → AreBytes (behind_count xs)
+bytes_behind [] h = tt
+bytes_behind (x ∷ xs) h = at (nat_eq x 255) where
+  at : (t : Bool) → AreBytes (if t then drop 8 xs else xs)
+  at true = bytes_drop 8 xs h.1
+  at false = h.1
 
-pub bytes_part : (bytes : List ℕ) (i j : ℕ) → AreBytes bytes → AreBytes (buffer_part bytes i j)
-bytes_part bytes i j h = bytes_if (nat_le i j && nat_le j (length bytes)) (take (j - i) (drop i bytes)) (bytes_take (j - i) (drop i bytes) (bytes_drop i bytes h))
+bytes_digits : (n : ℕ) → AreBytes (to_be_bytes w64 n)
+bytes_digits n = (omega arith, (omega arith, (omega arith, (omega arith, (omega arith, (omega arith, (omega arith, (omega arith, tt))))))))
+
+pub bytes_key : (bytes : List ℕ) (e : Entry) → AreBytes bytes → AreBytes (key_in bytes e)
+bytes_key bytes e h =
+    let from = drop e.start bytes in
+    all_append (λ b. b < 256) (take (count_of from) (to_be_bytes w64 e.prefix)) (first_counted 8 from)
+    (bytes_take (count_of from) (to_be_bytes w64 e.prefix) (bytes_digits e.prefix))
+    (bytes_take (count_of from - 8) (behind_count from) (bytes_behind from (bytes_drop e.start bytes h)))
 
 -- ---- entries stand before a border as their keys do
 
 module _ (bytes : List ℕ) (are : AreBytes bytes) (border : Border) (kept : AreBytes (border_key border)) where
   pub agree : (es : List Entry) → AreEntriesIn bytes es → AllByRecursion (λ e. entry_before bytes border e ≡ lies_before border (key_in bytes e)) es
   agree [] h = tt
-  agree (e ∷ es) h = (before_is bytes border e h.0.begins (bytes_part bytes e.start e.middle are) kept, agree es h.1)
+  agree (e ∷ es) h = (before_is bytes border e h.0.begins (bytes_key bytes e are) kept, agree es h.1)
 
   keys_are : (es : List Entry) → map (λ (x : Keyed). x.0) (map (keyed_in bytes) es) ≡ map (key_in bytes) es
   keys_are [] = refl

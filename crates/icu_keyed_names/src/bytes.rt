@@ -1,19 +1,8 @@
-//! Parts of a buffer, and the numbers that keys begin with.
+//! The bytes of a buffer, and the numbers that keys begin with.
 
 ghost use Rattle.std.specs.Prelude.{◌≡◌, slice_index};
-ghost use Rattle.icu_keyed_names.specs.inner.NameEntries.{buffer_part, prefix_of};
+ghost use Rattle.icu_keyed_names.specs.inner.NameEntries.{prefix_of};
 ghost use Rattle.icu_beginnings.specs.KeyBeginnings.{AreBytes};
-
-/// The bytes of a buffer from a start up to an end, none where there are no such bytes.
-pub(crate) fn part(bytes: &[u8], start: usize, end: usize) -> &[u8]
-    ensures { result.now ≡ buffer_part bytes.now start end }
-{
-    if start <= end && end <= bytes.len() {
-        &bytes[start..end]
-    } else {
-        &[]
-    }
-}
 
 /// The bytes of a buffer.
 pub(crate) fn all(bytes: &Vec<u8>) -> &[u8]

@@ -2,19 +2,23 @@
 
 ghost use Rattle.std.specs.Prelude.{◌≡◌, [], ◌↔◌, ◌++◌, length, map, IfOk, IsErr, IsTrue, OnErr, OnOk};
 ghost use Rattle.std.proofs.Props.{props};
-ghost use Rattle.icu_keyed_names.specs.inner.NameEntries.{keyed_in, AreEntriesIn, IsEntryOf};
+ghost use Rattle.icu_keyed_names.specs.inner.NameEntries.{AreEntriesIn, IsEntryOf, with_count, keyed_in};
 ghost use Rattle.icu_keyed_names.specs.inner.Leaves.{entries_of, AreFilled, Rise, Rise-prop};
 
 use crate::borders::Border;
 use crate::bytes::{all, are_bytes, prefix};
+use crate::counted_bytes::push_counted;
 use crate::leaf_places::{Place, find_place};
 use crate::leaves::add;
-use crate::name_entries::{Entry, Sought};
+use crate::name_entries::{Entry, FIRST, Sought};
 use crate::names::{Names, names_between};
 use icu_beginnings::raise;
 use std::alloc::{AllocError, Global};
 
-/// Makes room for more bytes, an eighth of those that there are or more.
+/// How many bytes the counts of a key and a name take at most.
+const COUNTS: usize = 18;
+
+/// Makes room for more bytes, a thirty-second of those that there are or more.
 fn reserve(bytes: &mut Vec<u8>, more: usize) -> Result<(), AllocError>
     ensures { bytes.new.items ≡ bytes.old.items }
 {
@@ -22,30 +26,29 @@ fn reserve(bytes: &mut Vec<u8>, more: usize) -> Result<(), AllocError>
     if more <= spare {
         return Ok(());
     }
-    let step = bytes.len() / 8;
+    let step = bytes.len() / 32;
     bytes.reserve_exact(if more < step { step } else { more })
 }
 
-/// Puts a key and a name behind the bytes of a buffer, and returns their entry. An error leaves the bytes as they were.
+/// Puts a key and a name behind the bytes of a buffer, each with its count, and returns their entry. An error leaves
+/// the bytes as they were.
 fn append(bytes: &mut Vec<u8>, key: &[u8], name: &[u8]) -> Result<Entry, AllocError>
-    ensures ok { OnOk result (bytes.new.items ≡ bytes.old.items ++ (key.now ++ name.now)) }
+    ensures ok { OnOk result
+        (bytes.new.items ≡ bytes.old.items ++ (with_count 8 key.now ++ with_count 0 name.now)) }
     ensures err { OnErr result (bytes.new.items ≡ bytes.old.items) }
     ensures entry { IfOk result (λ e. IsEntryOf bytes.new.items key.now name.now e) }
 {
     let start = bytes.len();
-    reserve(bytes, key.len().saturating_add(name.len()))?;
-    bytes.extend_from_slice(key)?;
-    let middle = bytes.len();
-    if let Err(error) = bytes.extend_from_slice(name) {
+    let more = key.len().saturating_sub(FIRST).saturating_add(name.len());
+    reserve(bytes, more.saturating_add(COUNTS))?;
+    push_counted(bytes, key, FIRST)?;
+    if let Err(error) = push_counted(bytes, name, 0) {
         bytes.truncate(start);
         return Err(error);
     }
-    Ok(Entry {
-        prefix: prefix(key),
-        start,
-        middle,
-        end: bytes.len(),
-    })
+    are_bytes(key);
+    let prefix = prefix(key);
+    Ok(Entry { prefix, start })
 }
 
 /// Names with keys, in the order of the keys, those of equal keys in the order of insertion. Keys are bytes, compared
@@ -53,7 +56,7 @@ fn append(bytes: &mut Vec<u8>, key: &[u8], name: &[u8]) -> Result<Entry, AllocEr
 #[derive(Drop)]
 pub struct KeyedNames {
     alloc: Global,
-    /// The keys and names, each name behind its key.
+    /// The keys, without what entries have of them, and the names, each name behind its key.
     bytes: Vec<u8>,
     /// The entries in the order of the keys.
     leaves: Vec<Vec<Entry>>,

@@ -2,9 +2,9 @@
 
 ghost use Rattle.std.specs.Prelude.{◌≡◌, ◌<◌, ◌≤◌, ◌∷◌, ◌++◌, drop, filter, length, not, take, OnErr, OnOk};
 ghost use Rattle.icu_keyed_names.specs.inner.NameEntries.{entry_before};
-ghost use Rattle.icu_keyed_names.specs.inner.Leaves.{AreFilled, IsParted, entries_cut, entries_of};
+ghost use Rattle.icu_keyed_names.specs.inner.Leaves.{AreFilled, IsParted, before, behind, entries_cut, entries_of, leaf_at};
 
-use crate::leaf_places::{find_place, leaf_at};
+use crate::leaf_places::{Place, find_place, leaf_at};
 use crate::name_entries::{Entry, Sought};
 use std::alloc::{AllocError, Global};
 
@@ -12,7 +12,7 @@ use std::alloc::{AllocError, Global};
 const ENTRIES: usize = 256;
 
 /// For how many entries room is made at once.
-const ROOM: usize = 16;
+const ROOM: usize = 8;
 
 /// Leaves the first entries of a leaf, as many as are told, and keeps no more room than for them.
 fn cut(leaves: &mut Vec<Vec<Entry>>, at: usize, len: usize)
@@ -55,21 +55,27 @@ fn put(leaf: &mut Vec<Entry>, place: usize, entry: Entry) -> Result<(), AllocErr
     Ok(())
 }
 
-/// Parts the leaf that a border stands in where it is full.
-fn make_room(
+/// Puts an entry where a place is.
+fn put_at(
     alloc: Global,
-    bytes: &[u8],
     leaves: &mut Vec<Vec<Entry>>,
-    sought: &Sought<'_>,
+    place: Place,
+    entry: Entry,
 ) -> Result<(), AllocError>
-    ensures entries { entries_of leaves.new.items ≡ entries_of leaves.old.items }
-    ensures filled { AreFilled leaves.old.items → AreFilled leaves.new.items }
+    requires filled { AreFilled leaves.old.items }
+    requires within { place.index ≤ length (leaf_at leaves.old.items place.leaf) }
+    ensures ok { OnOk result (entries_of leaves.new.items
+        ≡ before leaves.old.items place.leaf place.index
+        ++ entry ∷ behind leaves.old.items place.leaf place.index) }
+    ensures err { OnErr result (entries_of leaves.new.items ≡ entries_of leaves.old.items) }
+    ensures filled { AreFilled leaves.new.items }
 {
-    let place = find_place(bytes, leaves.as_slice(), sought);
-    if leaf_at(leaves.as_slice(), place.leaf).len() < ENTRIES {
-        return Ok(());
+    if place.leaf < leaves.len() {
+        return put(&mut leaves[place.leaf], place.index, entry);
     }
-    split(alloc, leaves, place.leaf)
+    let leaf = Vec::from_array(alloc, [entry])?;
+    leaves.push(leaf)?;
+    Ok(())
 }
 
 /// Puts an entry where a border stands among others.
@@ -89,12 +95,11 @@ pub(crate) fn add(
     ensures err { OnErr result (entries_of leaves.new.items ≡ entries_of leaves.old.items) }
     ensures filled { AreFilled leaves.new.items }
 {
-    make_room(alloc, bytes, leaves, sought)?;
     let place = find_place(bytes, leaves.as_slice(), sought);
-    if place.leaf < leaves.len() {
-        return put(&mut leaves[place.leaf], place.index, entry);
+    if leaf_at(leaves.as_slice(), place.leaf).len() < ENTRIES {
+        return put_at(alloc, leaves, place, entry);
     }
-    let leaf = Vec::from_array(alloc, [entry])?;
-    leaves.push(leaf)?;
-    Ok(())
+    split(alloc, leaves, place.leaf)?;
+    let other = find_place(bytes, leaves.as_slice(), sought);
+    put_at(alloc, leaves, other, entry)
 }

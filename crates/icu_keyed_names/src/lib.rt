@@ -1,9 +1,10 @@
-//! Names under sort keys, in the order of the keys: all bytes stand in one buffer, and the entries of names, which are
-//! places in it, in leaves of some hundred.
+//! Names under sort keys, in the order of the keys: entries of names stand in leaves of some hundred, each with the
+//! first eight bytes of the key and a place in one buffer, in which all other bytes stand.
 #![tactic(auto)]
 
 pub mod borders;
 mod bytes;
+mod counted_bytes;
 pub mod keyed_names;
 mod leaf_places;
 mod leaves;

@@ -1,24 +1,23 @@
 //! Entries of names: where they stand in the buffer.
 
-ghost use Rattle.std.specs.Prelude.{◌≡◌};
-ghost use Rattle.icu_keyed_names.specs.inner.NameEntries.{entry_before, key_in, name_in, prefix_of};
+ghost use Rattle.std.specs.Prelude.{◌≡◌, drop};
+ghost use Rattle.icu_levels.specs.ListOrder.{list_order};
+ghost use Rattle.icu_keyed_names.specs.inner.NameEntries.{behind_counted, count_of, entry_before, first_counted, key_in, name_in, prefix_of};
 ghost use Rattle.icu_beginnings.specs.KeyBeginnings.{AreBytes};
 ghost use Rattle.icu_keyed_names.specs.Borders.{border_key};
 
 use crate::borders::Border;
-use crate::bytes::{are_bytes, part, prefix};
+use crate::bytes::{are_bytes, prefix};
+use crate::counted_bytes::{Counted, read_counted, skip};
+use std::cmp::Ordering;
 
-/// Where a name stands in the buffer, with its key before it.
+/// Where a name stands in the buffer, behind what is left of its key, each with its count before it.
 #[derive(Clone, Copy)]
 pub(crate) struct Entry {
     /// The first eight bytes of the key.
     pub(crate) prefix: u64,
-    /// Where the key begins.
+    /// Where the count of the key stands.
     pub(crate) start: usize,
-    /// Where the key ends and the name begins.
-    pub(crate) middle: usize,
-    /// Where the name ends.
-    pub(crate) end: usize,
 }
 
 /// A border with the first eight bytes of its key.
@@ -43,17 +42,34 @@ impl<'k> Sought<'k> {
     }
 }
 
+/// How many bytes of a key stand in its entry.
+pub(crate) const FIRST: usize = 8;
+
 impl Entry {
-    pub(crate) fn key<'b>(&self, bytes: &'b [u8]) -> &'b [u8]
-        ensures { result.now ≡ key_in bytes.now self.now }
+    /// What the buffer has of the key.
+    fn key<'b>(&self, bytes: &'b [u8]) -> Counted<'b>
+        ensures count { result.count ≡ count_of (drop self.now.start bytes.now) }
+        ensures first { result.bytes.now ≡ first_counted 8 (drop self.now.start bytes.now) }
+        ensures behind { result.behind.now ≡ behind_counted 8 (drop self.now.start bytes.now) }
     {
-        part(bytes, self.start, self.middle)
+        read_counted(skip(bytes, self.start), FIRST)
     }
 
     pub(crate) fn name<'b>(&self, bytes: &'b [u8]) -> &'b [u8]
         ensures { result.now ≡ name_in bytes.now self.now }
     {
-        part(bytes, self.middle, self.end)
+        read_counted(self.key(bytes).behind, 0).bytes
+    }
+
+    /// How the key compares to another one, where both begin with the same number.
+    fn tied_order(&self, bytes: &[u8], other: &[u8]) -> Ordering
+        ensures { self.now.prefix ≡ prefix_of other.now
+            → result ≡ list_order (key_in bytes.now self.now) other.now }
+    {
+        are_bytes(other);
+        let key = self.key(bytes);
+        let first = key.count.min(FIRST).cmp(&other.len().min(FIRST));
+        first.then(key.bytes.cmp(skip(other, FIRST)))
     }
 
     /// Whether the key stands before a border.
@@ -63,7 +79,7 @@ impl Entry {
         if self.prefix != sought.prefix {
             return self.prefix < sought.prefix;
         }
-        let order = self.key(bytes).cmp(sought.border.key());
+        let order = self.tied_order(bytes, sought.border.key());
         sought.border.is_behind(order)
     }
 }
