@@ -1,10 +1,12 @@
 //! The fingerprint that stands beside the keys.
 
-ghost use Rattle.std.specs.Prelude.{◌≡◌, ◌∷◌, [], IfErr, IfOk, IsTrue};
+ghost use Rattle.std.specs.Prelude.{◌≡◌, ◌∷◌, [], IfErr, IfOk, IsTrue, List};
 ghost use Rattle.sqlite.specs.Held.{state};
-ghost use Rattle.sqlite.specs.State.{ExecutesInside, HasCleanDisk, Survives};
+ghost use Rattle.sqlite.specs.State.{ExecutesInside, HasCleanDisk, KeepsCommit, Shown, Survives};
+ghost use Rattle.sqlite_value.specs.Order.{Row};
 ghost use Rattle.sqlite.specs.declared.types.Value.TheVariants.{Blob, Text};
-ghost use Rattle.icu_stored_names.specs.StatementTexts.{keep_fingerprint_text, replace_fingerprint_text};
+ghost use Rattle.icu_stored_names.specs.StatementTexts.{fingerprint_text, keep_fingerprint_text, replace_fingerprint_text};
+ghost use Rattle.icu_stored_names.specs.StoredNames.{IsFirstOf, IsRowOfFingerprint};
 
 use sqlite::{Alter, Error, Row, Transaction, params};
 
@@ -18,7 +20,9 @@ pub struct KeptFingerprint {
 }
 
 /// The fingerprint that a row has.
-fn fingerprint_in(row: &Row) -> Result<KeptFingerprint, Error> {
+fn fingerprint_in(row: &Row) -> Result<KeptFingerprint, Error>
+    ensures { IfOk result (IsRowOfFingerprint row.now) }
+{
     Ok(KeptFingerprint {
         fingerprint: row.get(0)?,
         settings: row.get(1)?,
@@ -26,19 +30,28 @@ fn fingerprint_in(row: &Row) -> Result<KeptFingerprint, Error> {
 }
 
 /// The fingerprint that the keys were made by, if there is one.
+#[tactic(auto, using(crate::proofs::QueryLemmas::shown_keeps, crate::proofs::QueryLemmas::fails_keeps))]
 pub fn kept_fingerprint<S: Alter>(
     transaction: &mut Transaction<'_, S>,
 ) -> Result<Option<KeptFingerprint>, Error>
+    ensures same_reference { transaction.new.conn.ghost_name ≡ transaction.old.conn.ghost_name }
+    ensures shown { HasCleanDisk (state S.Store transaction.new.conn.now) → IfOk result (λ kept.
+        (rows : List Row) × Shown fingerprint_text [] (state S.Store transaction.old.conn.now)
+        (state S.Store transaction.new.conn.now) rows × IsFirstOf rows kept) }
+    ensures kept { HasCleanDisk (state S.Store transaction.new.conn.now)
+        → IsTrue (state S.Store transaction.old.conn.now).in_transaction
+        → KeepsCommit (state S.Store transaction.old.conn.now)
+        (state S.Store transaction.new.conn.now) }
     ensures survives { Survives (state S.Store transaction.old.conn.now)
         (state S.Store transaction.new.conn.now) (λ _. ⊥) }
 {
-    match transaction.query_row(
+    let rows = transaction.query_all(
         "SELECT fingerprint, settings FROM icu_collation WHERE id = 1",
         &[],
-    ) {
-        Ok(row) => Ok(Some(fingerprint_in(&row)?)),
-        Err(Error::QueryReturnedNoRows) => Ok(None),
-        Err(error) => Err(error),
+    )?;
+    match rows.first() {
+        Some(row) => Ok(Some(fingerprint_in(row)?)),
+        None => Ok(None),
     }
 }
 
@@ -48,10 +61,15 @@ pub fn keep_fingerprint<S: Alter>(
     fingerprint: &[u8],
     settings: &str,
 ) -> Result<usize, Error>
+    ensures same_reference { transaction.new.conn.ghost_name ≡ transaction.old.conn.ghost_name }
     ensures runs { HasCleanDisk (state S.Store transaction.new.conn.now)
         → IsTrue (state S.Store transaction.old.conn.now).in_transaction
         → ExecutesInside 0 keep_fingerprint_text (Blob fingerprint.now ∷ Text settings.now ∷ [])
         (state S.Store transaction.old.conn.now) (state S.Store transaction.new.conn.now) result }
+    ensures kept { HasCleanDisk (state S.Store transaction.new.conn.now)
+        → IsTrue (state S.Store transaction.old.conn.now).in_transaction
+        → KeepsCommit (state S.Store transaction.old.conn.now)
+        (state S.Store transaction.new.conn.now) }
     ensures survives { Survives (state S.Store transaction.old.conn.now)
         (state S.Store transaction.new.conn.now) (λ _. ⊥) }
 {
@@ -67,11 +85,16 @@ pub fn replace_fingerprint<S: Alter>(
     fingerprint: &[u8],
     settings: &str,
 ) -> Result<usize, Error>
+    ensures same_reference { transaction.new.conn.ghost_name ≡ transaction.old.conn.ghost_name }
     ensures runs { HasCleanDisk (state S.Store transaction.new.conn.now)
         → IsTrue (state S.Store transaction.old.conn.now).in_transaction
         → ExecutesInside 0 replace_fingerprint_text
         (Blob fingerprint.now ∷ Text settings.now ∷ [])
         (state S.Store transaction.old.conn.now) (state S.Store transaction.new.conn.now) result }
+    ensures kept { HasCleanDisk (state S.Store transaction.new.conn.now)
+        → IsTrue (state S.Store transaction.old.conn.now).in_transaction
+        → KeepsCommit (state S.Store transaction.old.conn.now)
+        (state S.Store transaction.new.conn.now) }
     ensures survives { Survives (state S.Store transaction.old.conn.now)
         (state S.Store transaction.new.conn.now) (λ _. ⊥) }
 {

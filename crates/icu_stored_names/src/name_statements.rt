@@ -1,9 +1,9 @@
 //! What is written: each call hands one statement to the database, with its parameters.
 
-ghost use Rattle.std.specs.Prelude.{◌≡◌, ◌∷◌, [], IsTrue};
+ghost use Rattle.std.specs.Prelude.{◌≡◌, ◌∷◌, [], IsTrue, OnOk};
 ghost use Rattle.sqlite.specs.Batch.{ExecutesAllInside};
 ghost use Rattle.sqlite.specs.Held.{state};
-ghost use Rattle.sqlite.specs.State.{CommitsBy, Executes, ExecutesInside, HasCleanDisk, Survives};
+ghost use Rattle.sqlite.specs.State.{CommitsBy, Executes, ExecutesInside, HasCleanDisk, KeepsCommit, Survives};
 ghost use Rattle.sqlite.specs.declared.types.Value.TheVariants.{Blob, Int};
 ghost use Rattle.icu_stored_names.specs.StatementTexts.{insert_text, rekey_text, remove_named_text, remove_text, tables_text};
 
@@ -11,9 +11,17 @@ use sqlite::{Alter, Connection, Error, Transaction, params};
 
 /// Makes the tables, where they aren't there yet: of names, of the fingerprint, and the order of the keys.
 pub fn make_tables<S: Alter>(transaction: &mut Transaction<'_, S>) -> Result<(), Error>
+    ensures same_reference { transaction.new.conn.ghost_name ≡ transaction.old.conn.ghost_name }
     ensures runs { HasCleanDisk (state S.Store transaction.new.conn.now)
         → ExecutesAllInside S.Store 0 tables_text
         transaction.old.conn.now transaction.new.conn.now result }
+    ensures inside { HasCleanDisk (state S.Store transaction.new.conn.now) → OnOk result
+        ((state S.Store transaction.new.conn.now).in_transaction
+        ≡ (state S.Store transaction.old.conn.now).in_transaction) }
+    ensures kept { HasCleanDisk (state S.Store transaction.new.conn.now)
+        → IsTrue (state S.Store transaction.old.conn.now).in_transaction
+        → KeepsCommit (state S.Store transaction.old.conn.now)
+        (state S.Store transaction.new.conn.now) }
     ensures survives { Survives (state S.Store transaction.old.conn.now)
         (state S.Store transaction.new.conn.now) (λ _. ⊥) }
 {
@@ -49,10 +57,15 @@ pub fn insert_within<S: Alter>(
     name: &[u8],
     payload: &[u8],
 ) -> Result<usize, Error>
+    ensures same_reference { transaction.new.conn.ghost_name ≡ transaction.old.conn.ghost_name }
     ensures runs { HasCleanDisk (state S.Store transaction.new.conn.now)
         → IsTrue (state S.Store transaction.old.conn.now).in_transaction
         → ExecutesInside 0 insert_text (Blob key.now ∷ Blob name.now ∷ Blob payload.now ∷ [])
         (state S.Store transaction.old.conn.now) (state S.Store transaction.new.conn.now) result }
+    ensures kept { HasCleanDisk (state S.Store transaction.new.conn.now)
+        → IsTrue (state S.Store transaction.old.conn.now).in_transaction
+        → KeepsCommit (state S.Store transaction.old.conn.now)
+        (state S.Store transaction.new.conn.now) }
     ensures survives { Survives (state S.Store transaction.old.conn.now)
         (state S.Store transaction.new.conn.now) (λ _. ⊥) }
 {
@@ -97,10 +110,15 @@ pub fn rekey<S: Alter>(
     id: i64,
     key: &[u8],
 ) -> Result<usize, Error>
+    ensures same_reference { transaction.new.conn.ghost_name ≡ transaction.old.conn.ghost_name }
     ensures runs { HasCleanDisk (state S.Store transaction.new.conn.now)
         → IsTrue (state S.Store transaction.old.conn.now).in_transaction
         → ExecutesInside 0 rekey_text (Int id ∷ Blob key.now ∷ [])
         (state S.Store transaction.old.conn.now) (state S.Store transaction.new.conn.now) result }
+    ensures kept { HasCleanDisk (state S.Store transaction.new.conn.now)
+        → IsTrue (state S.Store transaction.old.conn.now).in_transaction
+        → KeepsCommit (state S.Store transaction.old.conn.now)
+        (state S.Store transaction.new.conn.now) }
     ensures survives { Survives (state S.Store transaction.old.conn.now)
         (state S.Store transaction.new.conn.now) (λ _. ⊥) }
 {

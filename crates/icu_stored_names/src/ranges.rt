@@ -1,9 +1,9 @@
 //! What is read: each call hands one query to the database, with its parameters.
 
-ghost use Rattle.std.specs.Prelude.{◌≡◌, ◌∷◌, [], IfErr, IfOk};
+ghost use Rattle.std.specs.Prelude.{◌≡◌, ◌∷◌, [], IfErr, IfOk, IsTrue};
 ghost use Rattle.sqlite.specs.Given.{HasBegun};
 ghost use Rattle.sqlite.specs.Held.{state};
-ghost use Rattle.sqlite.specs.State.{CommitsShowing, HasCleanDisk, Shown, Survives};
+ghost use Rattle.sqlite.specs.State.{CommitsShowing, HasCleanDisk, KeepsCommit, Shown, Survives};
 ghost use Rattle.sqlite.specs.declared.types.Value.TheVariants.{Blob, Int};
 ghost use Rattle.icu_stored_names.specs.StatementTexts.{after_text, all_text, behind_text, between_text, bytes_given, range_parameters, range_text};
 
@@ -69,14 +69,20 @@ pub fn names_within<'c, S: Alter>(
 }
 
 /// Of the names whose numbers are above one so many, as they came in.
+#[tactic(auto, using(crate::proofs::QueryLemmas::shown_keeps, crate::proofs::QueryLemmas::fails_keeps))]
 pub fn names_after<S: Alter>(
     transaction: &mut Transaction<'_, S>,
     id: i64,
     most: i64,
 ) -> Result<Vec<Row>, Error>
+    ensures same_reference { transaction.new.conn.ghost_name ≡ transaction.old.conn.ghost_name }
     ensures ok { HasCleanDisk (state S.Store transaction.new.conn.now) → IfOk result (λ rows.
         Shown after_text (Int id ∷ Int most ∷ []) (state S.Store transaction.old.conn.now)
         (state S.Store transaction.new.conn.now) rows.items) }
+    ensures kept { HasCleanDisk (state S.Store transaction.new.conn.now)
+        → IsTrue (state S.Store transaction.old.conn.now).in_transaction
+        → KeepsCommit (state S.Store transaction.old.conn.now)
+        (state S.Store transaction.new.conn.now) }
     ensures survives { Survives (state S.Store transaction.old.conn.now)
         (state S.Store transaction.new.conn.now) (λ _. ⊥) }
 {

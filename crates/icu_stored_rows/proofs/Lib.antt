@@ -1,3 +1,4 @@
+pub mod TransactionLemmas
 mod NumberedListLemmas
 mod ValueLemmas
 mod StatementMeanings
@@ -7,6 +8,9 @@ mod ListedRows
 mod PrintedRows
 mod RekeyedRows
 mod RanStatements
+mod NextRows
 mod RekeyedNames
+mod RenewedNames
+pub mod RenewalLemmas
 mod MadeTables
 pub mod ListingLemmas

@@ -25,7 +25,7 @@ use Rattle.icu_stored_rows.specs.KeptNames.{KeptName, NameStep, added, first_pri
 use Rattle.icu_stored_rows.specs.RowLaws.{Runs, RunInTurn}
 
 -- the database has the same names where it is the same
-keeps_as : (old new : Database) (kept : List KeptName) → new ≡ old → Keeps old kept → Keeps new kept
+pub keeps_as : (old new : Database) (kept : List KeptName) → new ≡ old → Keeps old kept → Keeps new kept
 keeps_as old new kept same = subst (λ d. Keeps d kept) (sym same)
 
 module _ {S : Type 0} (g : Ghosts S) where

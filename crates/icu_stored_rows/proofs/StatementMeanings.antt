@@ -9,12 +9,12 @@ use Rattle.sqlite_schema.specs.declared.command.Source.TheVariants.{Values}
 use Rattle.sqlite_sql.specs.Query.{Query, inner, end}
 use Rattle.sqlite_sql.specs.Term.{Term, lit, col, op2}
 use Rattle.sqlite_sql.specs.declared.ops.BinaryOp.TheVariants.{Compare}
-use Rattle.sqlite_sql.specs.declared.ops.CompareOp.TheVariants.{Eq, Ge, Lt}
+use Rattle.sqlite_sql.specs.declared.ops.CompareOp.TheVariants.{Eq, Ge, Gt, Lt}
 use Rattle.sqlite_value.specs.declared.keys.Collation.TheVariants.{Binary}
 use Rattle.sqlite_value.specs.declared.keys.Key.{Key}
 use Rattle.sqlite_value.specs.declared.value.Value.TheVariants.{Int, Null}
 use Rattle.sqlite_value.specs.Keys.{ascending}
-use Rattle.icu_stored_names.specs.StatementTexts.{insert_text, keep_fingerprint_text, rekey_text, remove_named_text, replace_fingerprint_text, all_text, between_text, behind_text}
+use Rattle.icu_stored_names.specs.StatementTexts.{after_text, fingerprint_text, insert_text, keep_fingerprint_text, rekey_text, remove_named_text, replace_fingerprint_text, all_text, between_text, behind_text}
 use Rattle.icu_stored_rows.specs.StoredSchemas.{names_schema}
 
 -- the query of a statement over the table of names
@@ -126,3 +126,25 @@ first_print_command = Insert 1 (Values (lit (Int (pos 1)) ∷ lit Null ∷ col 0
 pub first_print_is : (command_of (understood names_schema keep_fingerprint_text) ≡ first_print_command) × IsPlain (understood names_schema keep_fingerprint_text)
 unfolding understood everything
 first_print_is = (refl, (refl, refl))
+
+-- ---- the next names
+
+abbrev pub number_is_above : Term
+number_is_above = op2 (Compare Gt Binary) (col 1 0) (col 0 0)
+
+abbrev pub after_query : Query
+after_query =
+    record (query_of (number_is_above ∷ []) (col 1 0 ∷ col 1 3 ∷ col 1 4 ∷ []) ((col 1 0, ascending Binary) ∷ [])) { limit = col 0 1 }
+
+abbrev pub after_command : Command
+after_command = Select (record { lets = []; body = after_query }) (codes "id" ∷ codes "name" ∷ codes "payload" ∷ [])
+
+pub after_is : (command_of (understood names_schema after_text) ≡ after_command) × IsPlain (understood names_schema after_text) × (reads_listing names_schema after_text ≡ false)
+unfolding understood everything
+after_is = (refl, (refl, refl), refl)
+
+-- ---- the fingerprint that is there
+
+pub print_is : IsPlain (understood names_schema fingerprint_text)
+unfolding understood everything
+print_is = (refl, refl)

@@ -1,11 +1,11 @@
 -- Names as a database keeps them, and what is made of them.
-use Rattle.std.specs.Prelude.{◌≡◌, ℕ, pos, ◌+◌, ◌<◌, Bool, not, ◌&&◌, ◌==◌, if◌then◌else◌, List, [], ◌∷◌, ◌++◌, map, filter, fold, bytes_eq, Option, Some, None}
+use Rattle.std.specs.Prelude.{◌≡◌, ℕ, ℤ, pos, int_lt, take, ◌+◌, ◌<◌, Bool, not, ◌&&◌, ◌==◌, if◌then◌else◌, List, [], ◌∷◌, ◌++◌, map, filter, fold, bytes_eq, Option, Some, None}
 use Rattle.std.specs.Cmp.Lexicographic.{slice_cmp}
 use Rattle.std.specs.List.{AllByRecursion}
 use Rattle.std.specs.List.Sorted.{IsPermutation, IsSortedByKey, IsStableByKey}
 use Rattle.std.specs.Ordering.{nat_cmp, is_ge, is_lt}
 use Rattle.sqlite.specs.Effect.{Database}
-use Rattle.sqlite_trees.specs.Tree.{IsAscending}
+use Rattle.sqlite_trees.specs.Tree.{IsAscending, Trees}
 use Rattle.sqlite_value.specs.Order.{Row}
 use Rattle.sqlite_value.specs.declared.value.Value.TheVariants.{Blob, Int, Null}
 use Rattle.icu_stored_rows.specs.StoredSchemas.{names_schema}
@@ -29,10 +29,14 @@ shown_row k = Int (pos k.number) ∷ Blob k.name ∷ Blob k.payload ∷ []
 abbrev pub AreNumbered : List KeptName → Type 0
 AreNumbered = IsAscending (λ a b. a.number < b.number)
 
+-- the trees have just the rows of these names where names stand
+abbrev pub HasRows : Trees → List KeptName → Type 0
+HasRows db kept = db 0 ≡ map row_of kept
+
 -- the database has the tables of an index, and just these names in it, as they came in
 pub record Keeps (db : Database) (kept : List KeptName) : Type 0 where
   pub schema : db.schema ≡ names_schema
-  pub rows : db.trees 0 ≡ map row_of kept
+  pub rows : HasRows db.trees kept
   pub numbered : AreNumbered kept
 
 -- the number of the next name: one above the last
@@ -111,3 +115,19 @@ HaveNameKeys key = AllByRecursion (λ k. k.key ≡ key k.name)
 abbrev pub rekeying : (List ℕ → List ℕ) → List ℕ → List ℕ → List KeptName → List NameStep
 rekeying key fingerprint settings kept =
     map (λ k. rekeyed k.number (key k.name)) kept ++ other_print fingerprint settings ∷ []
+
+-- a name's number is above a number
+abbrev pub is_above : ℤ → KeptName → Bool
+is_above number k = int_lt number (pos k.number)
+
+-- the names above a number, as they came in
+abbrev pub names_above : ℤ → List KeptName → List KeptName
+names_above number kept = filter (is_above number) kept
+
+-- so many of them, from the first on
+abbrev pub next_names : ℤ → ℕ → List KeptName → List KeptName
+next_names number most kept = take most (names_above number kept)
+
+-- the names, of which those up to a number are under the key that names have
+abbrev pub renewed_up_to : (List ℕ → List ℕ) → ℤ → List KeptName → List KeptName
+renewed_up_to key number kept = map (λ k. if is_above number k then k else under_key key k) kept

@@ -2,3 +2,4 @@ pub mod StoredSchemas
 pub mod KeptNames
 pub mod RowLaws
 pub mod NameListings
+pub mod Renewals

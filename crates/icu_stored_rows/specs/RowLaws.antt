@@ -1,5 +1,5 @@
 -- What the statements of an index make of its names, and what its queries show of them.
-use Rattle.std.specs.Prelude.{◌≡◌, ◌⊎◌, ℕ, pos, List, [], ◌∷◌, map, filter, Option, Ok, Err, IsTrue}
+use Rattle.std.specs.Prelude.{◌≡◌, ◌⊎◌, ℕ, ℤ, pos, List, [], ◌∷◌, map, filter, Option, Ok, Err, IsTrue}
 use Rattle.sqlite.specs.Batch.{ExecutesAllInside}
 use Rattle.sqlite.specs.Held.{Held, state}
 use Rattle.sqlite.specs.State.{Executes, Shown}
@@ -7,8 +7,8 @@ use Rattle.sqlite.specs.declared.error.Error.{Error}
 use Rattle.sqlite_trees.specs.declared.store.Store.{Ghosts}
 use Rattle.sqlite_value.specs.Order.{Row}
 use Rattle.sqlite_value.specs.declared.value.Value.TheVariants.{Blob, Int, Text}
-use Rattle.icu_stored_names.specs.StatementTexts.{all_text, insert_text, keep_fingerprint_text, range_parameters, range_text, rekey_text, remove_named_text, replace_fingerprint_text, tables_text}
-use Rattle.icu_stored_rows.specs.KeptNames.{KeptName, NameStep, added, first_print, other_print, rekeyed, removed, Keeps, IsListingOf, is_within, left_by_all, rekeying, shown_row, under_key}
+use Rattle.icu_stored_names.specs.StatementTexts.{after_text, all_text, insert_text, keep_fingerprint_text, range_parameters, range_text, rekey_text, remove_named_text, replace_fingerprint_text, tables_text}
+use Rattle.icu_stored_rows.specs.KeptNames.{KeptName, NameStep, added, first_print, other_print, rekeyed, removed, Keeps, IsListingOf, is_within, left_by_all, next_names, rekeying, shown_row, under_key}
 use Rattle.icu_stored_rows.specs.StoredSchemas.{no_schema}
 
 module _ {S : Type 0} (g : Ghosts S) where
@@ -60,6 +60,13 @@ module _ {S : Type 0} (g : Ghosts S) where
       → Keeps (state g old).now kept
       → Shown (range_text upper) (range_parameters lower upper) (state g old) (state g new) rows
       → (listed : List KeptName) × IsListingOf (filter (is_within lower upper) kept) listed × (rows ≡ map shown_row listed)
+
+  -- the query for the next names shows those above a number in the order of their numbers, at most so many
+  abbrev pub NextAreShown : Type 0
+  NextAreShown =
+      (behind : ℤ) (most : ℕ) (old new : Held S) (rows : List Row) (kept : List KeptName) → Keeps (state g old).now kept
+      → Shown after_text (Int behind ∷ Int (pos most) ∷ []) (state g old) (state g new) rows
+      → rows ≡ map shown_row (next_names behind most kept)
 
   -- a statement that is refused, or fails, leaves what the connection saw or what was committed, if it is still open
   abbrev pub FailuresLeaveNames : Type 0

@@ -3,7 +3,7 @@
 #![tactic(auto)]
 
 ghost use Rattle.icu_stored_rows.specs.NameListings.{ChangesAreListed, RebuildsAreListed};
-ghost use Rattle.icu_stored_rows.specs.RowLaws.{AllAreListed, FailuresLeaveNames, NamesAreRekeyed, RangesAreListed, StepsLeaveNames, TablesAreMade};
+ghost use Rattle.icu_stored_rows.specs.RowLaws.{AllAreListed, FailuresLeaveNames, NamesAreRekeyed, NextAreShown, RangesAreListed, StepsLeaveNames, TablesAreMade};
 
 use sqlite::Alter;
 
@@ -34,6 +34,12 @@ pub fn all_are_listed<S: Alter>()
 /// The query for a range shows just the names whose keys stand between its bounds, in that order.
 pub fn ranges_are_listed<S: Alter>()
     ensures { RangesAreListed S.Store }
+{}
+
+/// The query for the next names shows those whose numbers are above one, in the order of their numbers, from the first
+/// on, at most so many.
+pub fn next_are_shown<S: Alter>()
+    ensures { NextAreShown S.Store }
 {}
 
 /// A statement that is refused, or fails, leaves what the connection saw before it, or what was committed last, where
