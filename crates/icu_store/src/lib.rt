@@ -4,11 +4,13 @@
 pub mod laws;
 pub mod opening;
 pub mod printed_collator;
+pub mod rebuilding;
 pub mod setting_words;
 pub mod stored_index;
 
 pub use icu_stored_names::StoredName;
-pub use opening::{FingerprintDifference, OpenError, open, rebuild};
+pub use opening::{FingerprintDifference, OpenError, open};
 pub use printed_collator::PrintedCollator;
+pub use rebuilding::rebuild;
 pub use setting_words::written_settings;
 pub use stored_index::StoredIndex;

@@ -1,22 +1,18 @@
-//! How an index is opened over a database, and made anew for another collator.
+//! How an index is opened over a database.
 
-ghost use Rattle.std.specs.Prelude.{◌≡◌, IfOk};
+ghost use Rattle.std.specs.Prelude.{◌≡◌, IfErr, IfOk, IsTrue, OnOk};
+ghost use Rattle.icu_stored_rows.specs.Renewals.{LeavesDatabase, StaysIndex};
+ghost use Rattle.sqlite.specs.Held.{state};
+ghost use Rattle.sqlite.specs.State.{HasCleanDisk, KeepsCommit, Survives};
 ghost use Rattle.icu_store.specs.Stores.{printed_collation, store_collation};
 
 use crate::printed_collator::PrintedCollator;
 use crate::setting_words::written_settings;
-use crate::stored_index::{StoredIndex, key_of};
-use icu_collator::CollatorBorrowed;
-use icu_stored_names::{
-    KeptFingerprint, StoredName, keep_fingerprint, kept_fingerprint, make_tables, names_after,
-    rekey, replace_fingerprint,
-};
-use sqlite::{Alter, Connection, Error, ErrorCode, Row, Transaction};
+use crate::stored_index::StoredIndex;
+use icu_stored_names::{KeptFingerprint, keep_fingerprint, kept_fingerprint, make_tables};
+use sqlite::{Alter, Connection, Error, ErrorCode, Transaction};
 use std::alloc::{AllocError, Global};
 use std::fmt;
-
-/// How many names are made anew at a time.
-const CHUNK: i64 = 256;
 
 /// What the keys of a database were made by, and what they were to be made by.
 #[derive(Debug, Drop)]
@@ -64,7 +60,7 @@ impl From<AllocError> for OpenError {
 }
 
 /// The index that a collator orders.
-fn index_of(alloc: Global, collator: &PrintedCollator) -> StoredIndex<'_>
+pub(crate) fn index_of(alloc: Global, collator: &PrintedCollator) -> StoredIndex<'_>
     ensures { store_collation result ≡ printed_collation collator.entry.now }
 {
     StoredIndex {
@@ -74,18 +70,52 @@ fn index_of(alloc: Global, collator: &PrintedCollator) -> StoredIndex<'_>
 }
 
 /// The settings of a collator, as words.
-fn settings_of(alloc: Global, collator: &PrintedCollator) -> Result<String, AllocError> {
+pub(crate) fn settings_of(alloc: Global, collator: &PrintedCollator) -> Result<String, AllocError> {
     written_settings(alloc, collator.collator().as_borrowed().resolved_options())
 }
 
+/// The fingerprint that the keys of a database were made by, if there is one. The tables are made where there are none.
+fn found_print<S: Alter>(
+    transaction: &mut Transaction<'_, S>,
+) -> Result<Option<KeptFingerprint>, Error>
+    ensures same_reference { transaction.new.conn.ghost_name ≡ transaction.old.conn.ghost_name }
+    ensures stays { HasCleanDisk (state S.Store transaction.new.conn.now)
+        → IsTrue (state S.Store transaction.old.conn.now).in_transaction
+        → OnOk result (IsTrue (state S.Store transaction.new.conn.now).in_transaction
+        × StaysIndex (state S.Store transaction.old.conn.now).now
+        (state S.Store transaction.new.conn.now).now) }
+    ensures kept { HasCleanDisk (state S.Store transaction.new.conn.now)
+        → IsTrue (state S.Store transaction.old.conn.now).in_transaction
+        → KeepsCommit (state S.Store transaction.old.conn.now)
+        (state S.Store transaction.new.conn.now) }
+    ensures survives { Survives (state S.Store transaction.old.conn.now)
+        (state S.Store transaction.new.conn.now) (λ _. ⊥) }
+{
+    make_tables(transaction)?;
+    let kept = kept_fingerprint(transaction)?;
+    Ok(kept)
+}
+
 /// Whether a database's fingerprint is the collator's; one that has none gets it.
-fn fits<S: Alter>(
+pub(crate) fn fits<S: Alter>(
     transaction: &mut Transaction<'_, S>,
     collator: &PrintedCollator,
     wanted: &str,
-) -> Result<Option<KeptFingerprint>, Error> {
-    make_tables(transaction)?;
-    match kept_fingerprint(transaction)? {
+) -> Result<Option<KeptFingerprint>, Error>
+    ensures same_reference { transaction.new.conn.ghost_name ≡ transaction.old.conn.ghost_name }
+    ensures stays { HasCleanDisk (state S.Store transaction.new.conn.now)
+        → IsTrue (state S.Store transaction.old.conn.now).in_transaction
+        → OnOk result (IsTrue (state S.Store transaction.new.conn.now).in_transaction
+        × StaysIndex (state S.Store transaction.old.conn.now).now
+        (state S.Store transaction.new.conn.now).now) }
+    ensures kept { HasCleanDisk (state S.Store transaction.new.conn.now)
+        → IsTrue (state S.Store transaction.old.conn.now).in_transaction
+        → KeepsCommit (state S.Store transaction.old.conn.now)
+        (state S.Store transaction.new.conn.now) }
+    ensures survives { Survives (state S.Store transaction.old.conn.now)
+        (state S.Store transaction.new.conn.now) (λ _. ⊥) }
+{
+    match found_print(transaction)? {
         Some(kept) if kept.fingerprint.as_slice() != collator.fingerprint() => Ok(Some(kept)),
         Some(_) => Ok(None),
         None => {
@@ -102,7 +132,12 @@ pub fn open<'c, S: Alter>(
     connection: &mut Connection<S>,
     collator: &'c PrintedCollator,
 ) -> Result<StoredIndex<'c>, OpenError>
-    ensures { IfOk result (λ index. store_collation index ≡ printed_collation collator.entry.now) }
+    ensures collation { IfOk result (λ index.
+        store_collation index ≡ printed_collation collator.entry.now) }
+    ensures names { HasCleanDisk (state S.Store connection.new) → OnOk result (StaysIndex
+        (state S.Store connection.old).now (state S.Store connection.new).now) }
+    ensures undone { HasCleanDisk (state S.Store connection.new) → IfErr result (λ _.
+        LeavesDatabase (state S.Store connection.old) (state S.Store connection.new)) }
 {
     let wanted = settings_of(alloc, collator)?;
     if !connection.is_autocommit() {
@@ -112,72 +147,6 @@ pub fn open<'c, S: Alter>(
     if let Some(kept) = fits(&mut transaction, collator, wanted.as_str())? {
         let stored = kept.settings;
         return Err(OpenError::Differs(FingerprintDifference { stored, wanted }));
-    }
-    transaction.commit()?;
-    Ok(index_of(alloc, collator))
-}
-
-/// Makes the key of a name anew, and returns the name's number.
-fn rekey_one<S: Alter>(
-    alloc: Global,
-    transaction: &mut Transaction<'_, S>,
-    collator: &CollatorBorrowed<'_>,
-    row: &Row,
-) -> Result<i64, Error> {
-    let name = StoredName::read(row)?;
-    let key = key_of(alloc, collator, name.name.as_slice())?;
-    rekey(transaction, name.id, key.as_slice())?;
-    Ok(name.id)
-}
-
-/// Makes the keys of some names anew, and returns the last one's number, or `None` where there are none.
-fn rekey_some<S: Alter>(
-    alloc: Global,
-    transaction: &mut Transaction<'_, S>,
-    collator: &CollatorBorrowed<'_>,
-    behind: i64,
-) -> Result<Option<i64>, Error> {
-    let rows = names_after(transaction, behind, CHUNK)?;
-    let mut last = None;
-    for row in rows.iter() {
-        last = Some(rekey_one(alloc, transaction, collator, row)?);
-    }
-    Ok(last)
-}
-
-/// Makes the keys of all names anew.
-fn rekey_all<S: Alter>(
-    alloc: Global,
-    transaction: &mut Transaction<'_, S>,
-    collator: &CollatorBorrowed<'_>,
-) -> Result<(), Error> {
-    let mut behind = i64::MIN;
-    for _ in 0..u64::MAX {
-        match rekey_some(alloc, transaction, collator, behind)? {
-            Some(last) => behind = last,
-            None => return Ok(()),
-        }
-    }
-    Ok(())
-}
-
-/// Makes all keys of a database anew from its names, with the fingerprint of this collator, in one transaction: after a
-/// failure the database is as it was.
-pub fn rebuild<'c, S: Alter>(
-    alloc: Global,
-    connection: &mut Connection<S>,
-    collator: &'c PrintedCollator,
-) -> Result<StoredIndex<'c>, Error>
-    ensures { IfOk result (λ index. store_collation index ≡ printed_collation collator.entry.now) }
-{
-    let wanted = settings_of(alloc, collator)?;
-    if !connection.is_autocommit() {
-        return Err(Error::SqliteFailure(ErrorCode::TransactionState));
-    }
-    let mut transaction = connection.transaction();
-    if fits(&mut transaction, collator, wanted.as_str())?.is_some() {
-        rekey_all(alloc, &mut transaction, &collator.collator().as_borrowed())?;
-        replace_fingerprint(&mut transaction, collator.fingerprint(), wanted.as_str())?;
     }
     transaction.commit()?;
     Ok(index_of(alloc, collator))
