@@ -19,6 +19,7 @@ import tempfile
 TESTS = os.path.dirname(os.path.realpath(__file__))
 CRATE = os.path.join(os.path.dirname(TESTS), "crates", "collate_index")
 LETTERS = os.path.join(CRATE, "data", "letters.txt")
+CLDR = os.path.join(TESTS, "cldr")
 HOWS = [("fail", 0), ("fail", 1), ("full", 0), ("full", 1), ("kill", 0), ("torn", 0), ("after", 0)]
 
 # Names as lines, with what is kept with each behind a tab: they are put in as they stand here.
@@ -30,8 +31,11 @@ MORE = "mv\t7\nA\t8\n"
 LISTED_WITH_MORE = "A\t8\nab\t2\naB\nmá\t3\nmu\t5\nMu\t1\nMU\t4\nmv\t7\nz\t6\n"
 WITHOUT_MU = "ab\t2\naB\nmá\t3\nMu\t1\nMU\t4\nz\t6\n"
 BETWEEN = "aB\nmá\t3\nmu\t5\n"
-# Labels of a locale and of its parent, in the form of CLDR's files; those of another form are refused.
+# Labels of a locale and of its parent, in the form of CLDR's files; those of another form are refused. Of these locales no rules are
+# there, so their order is the root's.
 LABELS = {"xx": "[M {A\\u0301b}]", "xx_YY": None, "zz": "[A-Z]"}
+NO_RULES = ('<ldml><identity><language type="root"/></identity>'
+            '<collations><collation type="standard"><cr><![CDATA[]]></cr></collation></collations></ldml>\n')
 HEADED_BY_LOCALE = "A\u0301b\tab\t2\nA\u0301b\taB\nM\tmá\t3\nM\tmu\t5\nM\tMu\t1\nM\tMU\t4\nM\tz\t6\n"
 HEADED = "A\tab\t2\nA\taB\nM\tmá\t3\nM\tmu\t5\nM\tMu\t1\nM\tMU\t4\nM\tz\t6\n"
 HEADED_FROM_B = "\u2026\tab\t2\n\u2026\taB\nB\tmá\t3\nB\tmu\t5\nB\tMu\t1\nB\tMU\t4\nZ\tz\t6\n"
@@ -79,8 +83,11 @@ def filled(program, folder, shim=None):
 
 
 def write_labels(folder):
-    """Files of locales with labels, and returns the folder of the data."""
+    """Files of locales with labels and of a root without rules, and returns the folder of the data."""
     os.makedirs(os.path.join(folder, "common", "main"))
+    os.makedirs(os.path.join(folder, "common", "collation"))
+    with open(os.path.join(folder, "common", "collation", "root.xml"), "w", encoding="utf-8") as it:
+        it.write(NO_RULES)
     for locale, labels in LABELS.items():
         said = f'<exemplarCharacters type="index">{labels}</exemplarCharacters>' if labels else ""
         with open(os.path.join(folder, "common", "main", f"{locale}.xml"), "w", encoding="utf-8") as it:
@@ -159,6 +166,53 @@ def wrong_refusals(program, room):
     return faults, 9
 
 
+# Commands in turn over one index in the order of a locale, by the rules of small files: words beside the folder, lines, and what each
+# has to print with which status. Of German the file has no rules, so its order is the root's.
+OF_LOCALES = [
+    (("add", "-l", "sv"), "z\nå\nä\na\nwa\nvb\n", 0, ""),
+    (("list", "-l", "sv"), "", 0, "a\nvb\nwa\nz\nå\nä\n"),
+    (("list", "-l", "sv-SE"), "", 0, "a\nvb\nwa\nz\nå\nä\n"),
+    (("find", "-l", "sv", "å"), "", 0, "å\n"),
+    (("between", "-l", "sv", "w", "ä"), "", 0, "wa\nz\nå\n"),
+    (("headings", "-l", "sv", "--labels", "A,Z,Å,Ä"), "", 0, "A\ta\nA\tvb\nA\twa\nZ\tz\nÅ\tå\nÄ\tä\n"),
+    (("list",), "", 3, ""),
+    (("list", "-l", "sv-u-co-standard"), "", 3, ""),
+    (("add", "-l", "de", "b"), "", 3, ""),
+    (("rebuild", "-l", "sv-u-co-standard"), "", 0, ""),
+    (("list", "-l", "sv-u-co-standard"), "", 0, "a\nwa\nvb\nz\nå\nä\n"),
+    (("rebuild",), "", 0, ""),
+    (("list",), "", 0, "a\nä\nå\nvb\nwa\nz\n"),
+    (("list", "-l", "de"), "", 0, "a\nä\nå\nvb\nwa\nz\n"),
+    (("find", "-l", "und", "a"), "", 0, "a\nä\nå\n"),
+    (("list", "-l", "und-u-ks-level1"), "", 3, ""),
+    (("rebuild", "-l", "und-u-ks-level1"), "", 0, ""),
+    (("list", "-l", "und-u-ks-level1"), "", 0, "å\nä\na\nvb\nwa\nz\n"),
+    (("list", "--strength", "1"), "", 0, "å\nä\na\nvb\nwa\nz\n"),
+]
+# Words that name no locale, rules that are refused, and a root that isn't there; what is said of them.
+REFUSED_LOCALES = [
+    (("list", "-l", "x"), "collate-index: locale x: "),
+    (("list", "-l", "sv-u-ks-level9"), "collate-index: locale sv-u-ks-level9: "),
+    (("list", "-l", "tb-u-co-unsaid"), f"collate-index: {CLDR}/common/collation/tb.xml, collation unsaid: &[before 2]a < b: "),
+    (("list", "--root", os.path.join(CLDR, "none.txt")), f"collate-index: {CLDR}/none.txt: not opened; "),
+]
+
+
+def wrong_locales(program, room):
+    """An index in the order of a locale, which another locale's is refused for, and which is made anew for it."""
+    faults, file = [], os.path.join(room, "names.db")
+    for (command, *words), given, *told in OF_LOCALES:
+        done = subprocess.run([program, command, "--cldr", CLDR, file, *words], input=given.encode(), capture_output=True, check=False)
+        got = [done.returncode, done.stdout.decode()]
+        if got != told or (told[0] == 3) != (b"its keys were made " in done.stderr):
+            faults += [f"{command} {' '.join(words)}: {got}, {done.stderr.decode()!r} in place of {told}"]
+    for (command, *words), said in REFUSED_LOCALES:
+        done = subprocess.run([program, command, "--cldr", CLDR, file, *words], stdin=subprocess.DEVNULL, capture_output=True, check=False)
+        if done.returncode != 3 or not done.stderr.decode().startswith(said):
+            faults += [f"{command} {' '.join(words)}: status {done.returncode}, {done.stderr.decode()!r}"]
+    return faults, len(OF_LOCALES) + len(REFUSED_LOCALES)
+
+
 # ---- what is left where a run is stopped
 
 
@@ -205,6 +259,7 @@ def check_collate_index(report, room, program, shim, in_all_ways=False):
     room = made(room, "index")
     report.say("collate-index: answers", *wrong_answers(program, made(room, "answers")))
     report.say("collate-index: refusals", *wrong_refusals(program, made(room, "refusals")))
+    report.say("collate-index: orders of locales", *wrong_locales(program, made(room, "locales")))
     index = filled(program, os.path.join(room, "filled"), shim)
     for what, run, wanted in [
         ("added", (("add",), MORE), (LISTED, LISTED_WITH_MORE)),

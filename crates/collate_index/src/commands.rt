@@ -4,9 +4,10 @@ ghost use Rattle.std.specs.Prelude.{◌≡◌};
 ghost use Rattle.icu_headings.specs.Headed.{headings_collation};
 ghost use Rattle.icu_store.specs.Stores.{printed_collation, store_collation};
 
-use crate::name_lines::{add_lines, push_rows};
+use crate::name_lines::add_lines;
 use icu_headings::{Heading, HeadingStart, Headings};
 use icu_store::{PrintedCollator, StoredIndex};
+use icu_stored_lines::push_rows;
 use sqlite::{Alter, Connection, Error, ErrorCode, Transaction};
 use std::alloc::{AllocError, Global};
 

@@ -1,6 +1,6 @@
 //! The labels that headings are asked for with.
 
-use crate::named_collator::cldr_folder;
+use crate::named_collator::named_locale;
 use crate::refusals::{joined, refused};
 use clap::ArgMatches;
 use collate_commands::ProgramError;
@@ -94,9 +94,12 @@ pub(crate) fn labels_asked<R: Files + Env + AllocGlobal>(
     if let Some(labels) = matches.get_str("labels") {
         return Ok(labels_between_commas(rt.alloc(), labels)?);
     }
-    let Some(locale) = matches.get_str("locale") else {
+    let Some(locale) = named_locale(rt, matches)? else {
         return Ok(Vec::new(rt.alloc()));
     };
-    let folder = cldr_folder(rt, matches)?;
-    labels_of_locale(rt, folder.as_str(), locale)
+    labels_of_locale(
+        rt,
+        locale.folder.as_str(),
+        locale.asked.name.locale.as_str(),
+    )
 }

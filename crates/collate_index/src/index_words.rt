@@ -19,7 +19,7 @@ static STRENGTHS: [&str; 10] = [
 static HANDLINGS: [&str; 3] = ["non-ignorable", "shifted", "blanked"];
 
 const ABOUT: &str =
-    "Keeps an index of names in a database file of SQLite, in the order of CLDR's root collation.";
+    "Keeps an index of names in a database file of SQLite, in the order of a language, or of CLDR's root collation.";
 
 const AFTER: &str = "\
 Examples:
@@ -28,7 +28,8 @@ Examples:
   collate-index list names.db                    all names in order, those that are equal as they came in
   collate-index find names.db mü                 the names that begin with it, whatever accents and case
   collate-index between names.db L N             the names from one up to another, which isn't among them
-  collate-index headings names.db -l de          each name behind its heading and a tab
+  collate-index add -l sv namn.db < names        in the order of a language: the option is needed with each command
+  collate-index headings -l sv namn.db           each name behind its heading and a tab, by the labels of the language
   collate-index headings names.db --labels A,B,C the same, with one's own labels
   collate-index remove names.db Müller           the names that are this one, byte by byte
   collate-index rebuild names.db --strength 1    the index for other options or other data
@@ -38,7 +39,7 @@ it anew, all of it or nothing.
 
 Data: FractionalUCA.txt of CLDR, which the option --root names, or else stands in common/uca of the folder that the \
 option --cldr or the environment's CLDR_DIR names, or else in /usr/share/unicode/cldr, where Debian's package \
-unicode-cldr-core installs it.
+unicode-cldr-core installs it. The rules of a locale stand in common/collation of that folder, its labels in common/main.
 
 Status: 0, 1 (no such name), 2 (wrong words), 3 (data, memory, the database, input or output).";
 
@@ -70,7 +71,7 @@ fn command<'a>(alloc: Global, name: &'a str, about: &'a str) -> Result<Command<'
             alloc,
             "cldr",
             "DIR",
-            "The folder of CLDR's data, which has common/uca",
+            "The folder of CLDR's data, which has common/uca, common/collation and common/main",
         ))?
         .arg(valued(
             alloc,
@@ -91,6 +92,13 @@ fn command<'a>(alloc: Global, name: &'a str, about: &'a str) -> Result<Command<'
             "numeric",
             "Digits count by the value of their number",
         ))?
+        .arg(valued(
+            alloc,
+            "locale",
+            "LOCALE",
+            "The order of a locale, by CLDR's rules, and its labels: sv, zh_Hant, de-u-co-phonebk",
+        )
+        .short('l'))?
         .arg(Arg::new(alloc, "FILE").required(true))
 }
 
@@ -121,14 +129,7 @@ fn headings_command<'a>(alloc: Global) -> Result<Command<'a>, AllocError> {
     )?
     .arg(valued(alloc, "labels", "LABELS", "The labels, as A,B,C").required_unless_present(
         "locale",
-    )?)?
-    .arg(valued(
-        alloc,
-        "locale",
-        "LOCALE",
-        "Takes the labels that CLDR has for a locale, named as its file: sv, zh_Hant",
-    )
-    .short('l'))
+    )?)
 }
 
 /// The whole of the words that the program takes.

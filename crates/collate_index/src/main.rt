@@ -1,4 +1,5 @@
-//! The program `collate-index`: an index of names in a database file, in the order of CLDR's root collation.
+//! The program `collate-index`: an index of names in a database file, in the order of a language, or of CLDR's
+//! root collation.
 #![tactic(auto)]
 
 mod commands;

@@ -1,8 +1,8 @@
 //! Names as lines: each is a name, or a name, a tab and a payload.
 
 use collate_commands::ProgramError;
-use icu_store::{StoredIndex, StoredName};
-use sqlite::{Alter, Error, Rows, Transaction};
+use icu_store::StoredIndex;
+use sqlite::{Alter, Error, Transaction};
 use std::alloc::Global;
 use std::io::Read;
 
@@ -45,34 +45,6 @@ pub(crate) fn add_lines<S: Alter>(
 ) -> Result<(), Error> {
     for line in text.split(|b| *b == b'\n') {
         add_line(index, transaction, line)?;
-    }
-    Ok(())
-}
-
-/// Adds a name to a text as a line, behind some bytes.
-fn push_name(text: &mut Vec<u8>, front: &[u8], name: &StoredName) -> Result<(), Error> {
-    text.extend_from_slice(front)?;
-    text.extend_from_slice(name.name.as_slice())?;
-    if !name.payload.is_empty() {
-        text.push(b'\t')?;
-        text.extend_from_slice(name.payload.as_slice())?;
-    }
-    text.push(b'\n')?;
-    Ok(())
-}
-
-/// Adds the names of rows to a text as lines, each behind some bytes.
-pub(crate) fn push_rows<S: Alter>(
-    text: &mut Vec<u8>,
-    front: &[u8],
-    rows: &mut Rows<'_, S>,
-) -> Result<(), Error> {
-    for _ in 0..u64::MAX {
-        rows.advance()?;
-        let Some(row) = rows.get() else {
-            return Ok(());
-        };
-        push_name(text, front, &StoredName::read(row)?)?;
     }
     Ok(())
 }

@@ -1,91 +1,41 @@
 //! The collator that options ask for, with its fingerprint.
 
-use crate::refusals::{joined, refused};
+use crate::refusals::joined;
 use clap::ArgMatches;
+use cldr_collators::asked_locale::asked_by;
+use cldr_collators::made_collator::{CollatorRequest, PlacedLocale, made_collator};
+use cldr_collators::{Chosen, cldr_folder, root_file};
 use collate_commands::ProgramError;
-use icu_checks::CheckedTables;
-use icu_cldr::{CldrRoot, ReadError, read_root};
-use icu_entries::{DataError, DataErrorKind};
-use icu_options::{
-    AlternateHandling, CollationNumericOrdering, CollatorOptions, CollatorPreferences, Strength,
-};
+use icu_options::{AlternateHandling, CollationNumericOrdering, Strength};
 use icu_store::PrintedCollator;
-use std::alloc::Global;
-use std::env::{self, VarError};
-use std::fs;
-use std::io::BufReader;
+use std::alloc::{AllocError, Global};
 use std::rt::{Env, Files};
 
-/// Where Debian's package unicode-cldr-core installs CLDR's data.
-const USUAL_FOLDER: &str = "/usr/share/unicode/cldr";
-
-/// The root's file in a folder of CLDR's data.
-const ROOT_FILE: &str = "/common/uca/FractionalUCA.txt";
-
-/// The folder of CLDR's data: the one that the option `--cldr` names, else that of the environment's `CLDR_DIR`, else
-/// the usual one.
-pub(crate) fn cldr_folder<R: Env + AllocGlobal>(
-    rt: &R,
-    matches: &ArgMatches<'_>,
-) -> Result<String, ProgramError> {
-    if let Some(folder) = matches.get_str("cldr") {
-        return Ok(folder.to_string(rt.alloc())?);
-    }
-    match env::var(rt, "CLDR_DIR") {
-        Ok(folder) if !folder.is_empty() => Ok(folder),
-        Ok(_) | Err(VarError::NotPresent) => Ok(USUAL_FOLDER.to_string(rt.alloc())?),
-        Err(VarError::NotUnicode) => Err(refused(rt.alloc(), "CLDR_DIR", &"not in UTF-8")),
-        Err(VarError::OutOfMemory) => Err(ProgramError::NoMemory),
-    }
-}
-
-/// The file of the root's data: the one that the option `--root` names, else that of the folder of CLDR's data.
-fn root_file<R: Env + AllocGlobal>(
-    rt: &R,
-    matches: &ArgMatches<'_>,
-) -> Result<String, ProgramError> {
-    if let Some(file) = matches.get_str("root") {
-        return Ok(file.to_string(rt.alloc())?);
-    }
-    let folder = cldr_folder(rt, matches)?;
-    Ok(joined(rt.alloc(), folder.as_str(), ROOT_FILE)?)
-}
-
-/// Reads the tables of a file.
-fn read_file<R: Files + AllocGlobal>(rt: &R, file: &str) -> Result<CldrRoot, ProgramError> {
-    let Ok(opened) = fs::open(rt, file) else {
-        return Err(refused(
-            rt.alloc(),
-            file,
-            &"not opened; Debian's package unicode-cldr-core has it, and --root or --cldr say where it is",
-        ));
+/// An error of what makes collators, whose line begins with the name of this program, in place of another's if there is
+/// one.
+fn named_here(alloc: Global, error: ProgramError) -> ProgramError {
+    let ProgramError::Refused(line) = error else {
+        return error;
     };
-    let Ok(reader) = BufReader::new(rt.alloc(), opened) else {
-        return Err(ProgramError::NoMemory);
-    };
-    match read_root(rt.alloc(), reader) {
-        Ok(root) => Ok(root),
-        Err(ReadError::NoMemory) => Err(ProgramError::NoMemory),
-        Err(error) => Err(refused(rt.alloc(), file, &error)),
+    let what = line
+        .as_str()
+        .strip_prefix("collate-cldr: ")
+        .unwrap_or(line.as_str());
+    match joined(alloc, "collate-index: ", what) {
+        Ok(line) => ProgramError::Refused(line),
+        Err(AllocError) => ProgramError::NoMemory,
     }
 }
 
-/// What an error of tables comes to.
-fn error_of(alloc: Global, file: &str, error: DataError) -> ProgramError {
-    match error.kind {
-        DataErrorKind::NoMemory => ProgramError::NoMemory,
-        _ => refused(alloc, file, &error),
-    }
-}
-
-/// The strength that an option names: tertiary where none does.
-fn strength_in(matches: &ArgMatches<'_>) -> Strength {
+/// The strength that an option names, if one does.
+fn strength_in(matches: &ArgMatches<'_>) -> Option<Strength> {
     match matches.get_str("strength") {
-        Some("1" | "primary") => Strength::Primary,
-        Some("2" | "secondary") => Strength::Secondary,
-        Some("4" | "quaternary") => Strength::Quaternary,
-        Some("i" | "identical") => Strength::Identical,
-        _ => Strength::Tertiary,
+        Some("1" | "primary") => Some(Strength::Primary),
+        Some("2" | "secondary") => Some(Strength::Secondary),
+        Some("3" | "tertiary") => Some(Strength::Tertiary),
+        Some("4" | "quaternary") => Some(Strength::Quaternary),
+        Some("i" | "identical") => Some(Strength::Identical),
+        _ => None,
     }
 }
 
@@ -99,48 +49,77 @@ fn handling_in(matches: &ArgMatches<'_>) -> Option<AlternateHandling> {
     }
 }
 
-/// The options of the collator.
-fn options_in(matches: &ArgMatches<'_>) -> CollatorOptions {
-    CollatorOptions {
-        strength: Some(strength_in(matches)),
-        alternate_handling: handling_in(matches),
-        max_variable: None,
-        case_level: None,
-    }
-}
-
-/// The preferences of the collator.
-fn preferences_in(matches: &ArgMatches<'_>) -> CollatorPreferences<'static> {
-    CollatorPreferences {
-        locale: "",
-        collation_type: None,
-        case_first: None,
-        numeric_ordering: if matches.get_flag("numeric") {
+/// The settings that options choose.
+fn chosen_in(matches: &ArgMatches<'_>) -> Chosen {
+    Chosen {
+        numeric: if matches.get_flag("numeric") {
             Some(CollationNumericOrdering::True)
         } else {
             None
         },
+        alternate_handling: handling_in(matches),
+        case_level: None,
+        max_variable: None,
+        case_first: None,
     }
 }
 
-/// The collator that options ask for: by the tables of the root's file.
+/// The tag of a locale that may be named as CLDR's files are: `zh_Hant` is `zh-Hant`.
+fn tag_named(alloc: Global, name: &str) -> Result<String, AllocError> {
+    let mut tag = String::new(alloc);
+    for c in name.chars() {
+        tag.push(if c == '_' { '-' } else { c })?;
+    }
+    Ok(tag)
+}
+
+/// The locale that words name, by its tag or as CLDR's files are named, if they name one.
+fn locale_in<R: Env + AllocGlobal>(
+    rt: &R,
+    matches: &ArgMatches<'_>,
+) -> Result<Option<PlacedLocale>, ProgramError> {
+    let Some(name) = matches.get_str("locale") else {
+        return Ok(None);
+    };
+    let folder = cldr_folder(rt, matches.get_str("cldr"))?;
+    let asked = asked_by(rt.alloc(), tag_named(rt.alloc(), name)?)?;
+    Ok(Some(PlacedLocale { folder, asked }))
+}
+
+/// The locale whose order and whose labels words ask for, if they name one.
+pub(crate) fn named_locale<R: Env + AllocGlobal>(
+    rt: &R,
+    matches: &ArgMatches<'_>,
+) -> Result<Option<PlacedLocale>, ProgramError> {
+    match locale_in(rt, matches) {
+        Ok(locale) => Ok(locale),
+        Err(error) => Err(named_here(rt.alloc(), error)),
+    }
+}
+
+/// The collator that options ask for: by the tables of the root's file, and by the rules of a locale over it where one
+/// is named, with its fingerprint.
+fn asked_collator<R: Files + Env + AllocGlobal>(
+    rt: &R,
+    matches: &ArgMatches<'_>,
+) -> Result<PrintedCollator, ProgramError> {
+    let request = CollatorRequest {
+        root: root_file(rt, matches.get_str("root"), matches.get_str("cldr"))?,
+        locale: locale_in(rt, matches)?,
+        chosen: chosen_in(matches),
+        strength: strength_in(matches),
+    };
+    let collator = made_collator(rt, &request)?;
+    Ok(PrintedCollator::new(collator))
+}
+
+/// The collator that options ask for, with its fingerprint.
 pub(crate) fn named_collator<R: Files + Env + AllocGlobal>(
     rt: &R,
     matches: &ArgMatches<'_>,
 ) -> Result<PrintedCollator, ProgramError> {
-    let file = root_file(rt, matches)?;
-    let tables = read_file(rt, file.as_str())?.into_tables();
-    let tables = match CheckedTables::from_owned(rt.alloc(), tables) {
-        Ok(tables) => tables,
-        Err(error) => return Err(error_of(rt.alloc(), file.as_str(), error)),
-    };
-    match PrintedCollator::from_checked_tables(
-        rt.alloc(),
-        tables,
-        preferences_in(matches),
-        options_in(matches),
-    ) {
+    match asked_collator(rt, matches) {
         Ok(collator) => Ok(collator),
-        Err(error) => Err(error_of(rt.alloc(), file.as_str(), error)),
+        Err(error) => Err(named_here(rt.alloc(), error)),
     }
 }
