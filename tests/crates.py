@@ -60,10 +60,16 @@ def listed():
 
 def below(crates, name):
     """The names of the crates below a crate, each after those that it stands on."""
-    found = []
-    for dep in crates[name].deps:
-        found += [it for it in [*below(crates, dep), dep] if it not in found]
-    return found
+    found = {}
+
+    def visit(it):
+        for dep in crates[it].deps:
+            if dep not in found:
+                visit(dep)
+                found[dep] = None
+
+    visit(name)
+    return [*found]
 
 
 def above(crates, names):

@@ -17,6 +17,7 @@ import crates  # noqa: E402
 
 TOP = crates.TOP
 LOG = os.path.join(TOP, "out", "test.log")
+PROVE = [sys.executable, os.path.join(TOP, "tests", "proved_anew.py")]
 # The programs of bin/ that compare documents and comments with the sources, count what makes sources hard to read, and list where
 # a body makes an error.
 COMPARISONS = ["definitions", "documents", "citations", "comments", "undocumented", "house", "made-errors"]
@@ -94,7 +95,7 @@ def prove():
     progress = Progress([*crates.listed()])
     print(f"rt ci, from nothing: each crate and its tests are proved; all that it says: {os.path.relpath(LOG)}", flush=True)
     how = {"stdin": subprocess.DEVNULL, "stdout": subprocess.PIPE, "stderr": subprocess.STDOUT, "errors": "replace"}
-    with open(LOG, "w", encoding="utf-8", buffering=1) as log, subprocess.Popen(["rt", "ci"], cwd=TOP, text=True, **how) as ran:
+    with open(LOG, "w", encoding="utf-8", buffering=1) as log, subprocess.Popen(PROVE, cwd=TOP, text=True, **how) as ran:
         sampler, lines = costs.Sampler(ran.pid), queue.Queue()
         sampler.start()
         threading.Thread(target=feed, args=(ran.stdout, lines), daemon=True).start()

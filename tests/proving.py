@@ -42,8 +42,25 @@ def toolchain():
     missing = [it for it in ("below", "is_built", "build_rlib", "compile", "call", "stamp") if not hasattr(made.Crate, it)]
     if missing or not hasattr(made, "lock"):
         raise ImportError("the toolchain's rtlib.py is another one")
-    made.Crate.stamp = kept_for_a_while(made.Crate.stamp)
+    keep_answers(made.Crate)
     return made
+
+
+def keep_answers(crate):
+    """Keeps what the toolchain's class of crates says of the sources and of the crates below one."""
+    crate.stamp, crate.below = kept_for_a_while(crate.stamp), kept(crate.below)
+
+
+def kept(below):
+    """The crates below a crate, which asks those that it stands on for theirs, by each way that leads to them."""
+    known = {}
+
+    def once(crate):
+        if crate.folder not in known:
+            known[crate.folder] = below(crate)
+        return [*known[crate.folder]]
+
+    return once
 
 
 def kept_for_a_while(stamp):
@@ -70,23 +87,37 @@ class Work:
     """The seconds that each crate takes with one process: by the costs that are kept or, without those, by its lines."""
 
     def __init__(self, listed):
-        self.listed, self.kept = listed, costs.read(costs.KEPT)
+        self.listed, self.kept, self.known = listed, costs.read(costs.KEPT), {}
 
     def of(self, name):
+        if name not in self.known:
+            self.known[name] = self.worked_out(name)
+        return self.known[name]
+
+    def worked_out(self, name):
         known = self.kept.of(name, "proof") + self.kept.of(name, "compilers") / 2 if self.kept else 0
         if known:
             return SHARE * known
         code, specs, proofs = (self.listed[name].lines(it) for it in crates.PARTS)
         return 8 + 0.045 * code + 0.005 * (specs + proofs)
 
-    def chain(self, name, left):
-        """The longest chain of crates that wait for each other, from this one up."""
-        above = [self.chain(it, left) for it in left if name in self.listed[it].deps]
-        return self.of(name) + max(above, default=0)
+    def chains(self, left):
+        """The longest chain of crates that wait for each other, from each of these up."""
+        above, found = {it: [] for it in left}, {}
+        for name in left:
+            for it in above.keys() & self.listed[name].deps:
+                above[it].append(name)
+
+        def chain(name):
+            if name not in found:
+                found[name] = self.of(name) + max(map(chain, above[name]), default=0)
+            return found[name]
+
+        return {it: chain(it) for it in left}
 
     def expected(self, left, processors):
         """The seconds that these crates take: no less than the chain with all processors, nor than all with none idle."""
-        longest = max((self.chain(it, left) for it in left), default=0)
+        longest = max(self.chains(left).values(), default=0)
         return max(longest / (1 + SHARED * (min(processors, 4) - 1)), sum(map(self.of, left)) / processors / 0.9)
 
 
@@ -146,8 +177,9 @@ class Run:
 
     def jobs(self, name, running):
         """How many processes a crate gets: one for each processor where it has the longest chain of all, and else one."""
-        others = [self.work.chain(it, self.left) for it in self.left if it != name]
-        if len(self.left) > 1 and running and self.work.chain(name, self.left) < max(others):
+        chains = self.work.chains(self.left)
+        own = chains.pop(name)
+        if chains and running and own < max(chains.values()):
             return 1
         room = free_memory() - FIRST * (1 + len(running)) / 2
         return max(1, min(self.processors, 4, 1 + int(max(room, 0) / EACH)))
@@ -174,7 +206,8 @@ class Run:
         """Starts the crates whose turn it is, those with the longest chain first, where processors and memory are free."""
         waiting = [it for it in self.left if it not in running.values()]
         lacking = {it for it in waiting if set(crates.below(self.listed, it)) & {*self.left, *failed}}
-        ready = sorted((it for it in waiting if it not in lacking), key=lambda it: -self.work.chain(it, self.left))
+        chains = self.work.chains(self.left)
+        ready = sorted((it for it in waiting if it not in lacking), key=lambda it: -chains[it])
         for name in ready[: self.processors - len(running)]:
             if running and free_memory() < FIRST:
                 return
