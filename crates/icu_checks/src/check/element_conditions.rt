@@ -16,6 +16,7 @@ use icu_weights::leads::is_middle;
 pub(crate) const IMPLICIT_LEAD: u8 = 0xFE;
 
 /// Whether the element has a tertiary weight and no secondary weight.
+#[inline(always)]
 pub(crate) fn is_tertiary_element(element: CollationElement) -> bool
     ensures { result ≡ is_tertiary_element element }
 {
@@ -23,18 +24,21 @@ pub(crate) fn is_tertiary_element(element: CollationElement) -> bool
 }
 
 /// Whether it is in upper case, and its tertiary weight greater than the common one.
+#[inline(always)]
 fn is_high_tertiary_element(element: CollationElement) -> bool
     ensures { result ≡ is_high_tertiary_element element }
 {
     element.non_primary().case() == 0x8000 && element.non_primary().tertiary() > COMMON_WEIGHT16
 }
 
+#[inline(always)]
 fn has_low_bytes(primary: u32) -> bool
     ensures { result ≡ has_low_bytes primary }
 {
     primary >> 16 & 0xFF != 0 && primary >> 8 & 0xFF != 0 && primary & 0xFF != 0
 }
 
+#[inline(always)]
 fn has_second_byte(primary: u32) -> bool
     ensures { result ≡ has_second_byte primary }
 {
@@ -45,6 +49,7 @@ fn has_second_byte(primary: u32) -> bool
 impl ReachableElementCondition {
     /// Whether a nonzero primary weight meets the condition.
     #[tactic(auto, unfolding(icu_provider::specs::TableSets::tables_in))]
+    #[inline(always)]
     fn primary_meets(self, tables: TableSet<'_>, primary: u32) -> bool
         ensures { result ≡ primary_meets self (tables_in tables.entry) primary }
     {
@@ -70,6 +75,7 @@ impl ReachableElementCondition {
     }
 
     /// Whether the element meets the condition.
+    #[inline(always)]
     pub(crate) fn holds(self, tables: TableSet<'_>, element: CollationElement) -> bool
         ensures { result ≡ reachable_element_meets self (tables_in tables.entry) element }
     {

@@ -27,6 +27,7 @@ use icu_weights::leads::is_middle;
 use std::convert::Infallible;
 
 /// The first condition that an element fails, in the order in which an error names them.
+#[inline(always)]
 #[tactic(auto, unfolding(crate::specs::inner::EntryViolations::first_failing_element))]
 fn first_failing_element(
     tables: TableSet<'_>,
