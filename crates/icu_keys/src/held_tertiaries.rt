@@ -102,14 +102,6 @@ impl HeldTertiaries {
         Ok(())
     }
 
-    /// How many common weights are counted, and not written yet.
-    #[inline(always)]
-    pub(crate) fn commons(&self) -> u32
-        ensures { result ≡ self.now.commons }
-    {
-        self.commons
-    }
-
     /// Adds a common weight.
     #[inline(always)]
     pub(crate) fn count_common(&mut self)
