@@ -35,7 +35,7 @@ vanishing_fed items effects appends x y s t before after v n m (Ok u) w = λ ws.
     rw (only_commons n m ws, joined) refl
 vanishing_fed items effects appends x y s t before after v n m (Err e) w = tt
 
--- the same of cases, by a form that stays
+-- a case level fed more of its common rank, by a form that stays
 pub vanishing_cases : {X St F E : Type 0} (items : X → List ℕ) (effects : SinkEffects X St F E)
     → ((x y : X) (s t : St) (b : List ℕ) → effects.took x s b y t → items y ≡ items x ++ b)
     → (x y : X) (s t : St) (before after : List ℕ → List ℕ) (v : Bool) (form left : CaseForm) → left ≡ form → (m : ℕ) (r : Result Unit E)

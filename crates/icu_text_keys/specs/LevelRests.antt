@@ -67,27 +67,32 @@ levels_left reorder form l cs hs =
 
 -- ---- with common weights that were counted, and that come before the further elements
 
+-- the secondary level
 abbrev pub secondaries_after : ℕ → Option SecondaryForm → HeldSecondaries → Option HeldSegments → List Element → LevelPart
 secondaries_after n None l backward es = absent
 secondaries_after n (Some Forward) l backward es = closed (held_secondaries l (replicate n SECONDARY_RUNS.common ++ secondaries es))
 secondaries_after n (Some Backward) l backward es = segments_left backward es
 
+-- the case level, where all of them are lower case
 abbrev pub cases_after : ℕ → Option SecondaryForm → Option CaseForm → Option HeldCases → List Element → LevelPart
 cases_after n before None l es = absent
 cases_after n before (Some form) None es = absent
 cases_after n before (Some form) (Some l) es =
     opened (held_cases l (replicate n (case_runs (held_case_form l)).common ++ weights (case_reads before) (case_rank (held_case_form l)) es))
 
+-- the tertiary level, in the form in which it is held
 abbrev pub tertiaries_after : ℕ → Option TertiaryForm → HeldTertiaries → List Element → LevelPart
 tertiaries_after n None l es = absent
 tertiaries_after n (Some form) l es =
     closed (held_tertiaries l (replicate n (tertiary_runs (held_tertiary_form l)).common ++ tertiaries form es))
 
+-- the quaternary level
 abbrev pub quaternaries_after : (ℕ → ℕ) → ℕ → Option QuaternaryForm → Option HeldQuaternaries → List HandledElement → LevelPart
 quaternaries_after reorder n None l hs = absent
 quaternaries_after reorder n (Some form) None hs = absent
 quaternaries_after reorder n (Some form) (Some l) hs = closed (held_quaternaries l (replicate n (2 ^ 32) ++ quaternaries reorder hs))
 
+-- all levels after the primary one
 abbrev pub levels_after : (ℕ → ℕ) → KeyForm → LaterLevels → ℕ → List ℕ → List HandledElement → List LevelPart
 levels_after reorder form l n cs hs =
     secondaries_after n form.secondary l.secondaries l.segments (stayed_elements hs)
@@ -96,14 +101,15 @@ levels_after reorder form l n cs hs =
     ∷ quaternaries_after reorder n form.quaternary l.quaternaries hs ∷ characters_left form.identical cs ∷ []
 
 -- how many elements were counted: none where secondaries don't stand from the front
-abbrev pub counted : ℕ → Option SecondaryForm → ℕ
-counted zero before = 0
-counted (suc n) (Some Forward) = suc n
-counted (suc n) (Some Backward) = 0
-counted (suc n) None = 0
+abbrev pub counted_commons : ℕ → Option SecondaryForm → ℕ
+counted_commons zero before = 0
+counted_commons (suc n) (Some Forward) = suc n
+counted_commons (suc n) (Some Backward) = 0
+counted_commons (suc n) None = 0
 
+-- all levels after the primary one, where elements are counted
 abbrev pub counted_left : (ℕ → ℕ) → KeyForm → CountedLevels → List ℕ → List HandledElement → List LevelPart
-counted_left reorder form l cs hs = levels_after reorder form l.levels (counted l.commons form.secondary) cs hs
+counted_left reorder form l cs hs = levels_after reorder form l.levels (counted_commons l.commons form.secondary) cs hs
 
 -- tertiaries are held in the form of the key, where it has them
 abbrev pub HasLaterForm : KeyForm → LaterLevels → Type 0

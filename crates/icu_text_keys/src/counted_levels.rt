@@ -43,13 +43,13 @@ pub struct CountedLevels {
 }
 
 impl CountedLevels {
-    ghost use Rattle.icu_text_keys.specs.LevelRests.{counted, levels_left, counted_left};
+    ghost use Rattle.icu_text_keys.specs.LevelRests.{counted_commons, levels_left, counted_left};
     ghost use Rattle.icu_text_keys.specs.KeyRests.{HasForm};
     ghost use Rattle.icu_keys.specs.KeyWrites.{KeyWrites};
 
     /// The levels of a form, with nothing fed. It allocates nothing.
     #[inline(always)]
-    #[tactic(auto, using(crate::proofs::CountedLemmas::levels_plain))]
+    #[tactic(auto, using(crate::proofs::CommonElementLemmas::levels_plain))]
     pub(crate) fn new<F: WrittenForm>(alloc: Global, form: &F) -> Self
         ensures form { HasForm (F.form_written form.now) result }
         ensures begins { let f = F.form_written form.now in
@@ -64,12 +64,12 @@ impl CountedLevels {
 
     /// Feeds the levels what was counted.
     #[inline(always)]
-    #[tactic(auto, using(crate::proofs::CountedLemmas::counted_none, crate::proofs::CountedLemmas::counted_some, crate::proofs::CountedLemmas::uncounted))]
+    #[tactic(auto, using(crate::proofs::CommonElementLemmas::counted_none, crate::proofs::CommonElementLemmas::counted_some, crate::proofs::CommonElementLemmas::uncounted))]
     fn feed<F: WrittenForm>(&mut self, form: &F) -> Result<(), AllocError>
         ensures form { HasForm (F.form_written form.now) self.old
             → HasForm (F.form_written form.now) self.new }
         ensures none { let f = F.form_written form.now in
-            OnOk result (counted self.new.commons f.secondary ≡ 0) }
+            OnOk result (counted_commons self.new.commons f.secondary ≡ 0) }
         ensures levels { let f = F.form_written form.now in
             OnOk result ((reorder : ℕ → ℕ) (cs : List ℕ) (hs : List HandledElement) →
             counted_left reorder f self.old cs hs ≡ levels_left reorder f self.new.levels cs hs) }
@@ -84,7 +84,7 @@ impl CountedLevels {
 
     /// Holds what each level has for an element that stayed. After an error, discard the levels.
     #[inline(always)]
-    #[tactic(auto, using(crate::proofs::CountedLemmas::counted_more, crate::proofs::CountedLemmas::uncounted))]
+    #[tactic(auto, using(crate::proofs::CommonElementLemmas::counted_more, crate::proofs::CommonElementLemmas::uncounted))]
     pub(crate) fn push_stayed<F: WrittenForm>(
         &mut self,
         form: &F,
@@ -108,7 +108,7 @@ impl CountedLevels {
 
     /// Holds the primary of an element that is shifted. After an error, discard the levels.
     #[inline(always)]
-    #[tactic(auto, using(crate::proofs::CountedLemmas::uncounted))]
+    #[tactic(auto, using(crate::proofs::CommonElementLemmas::uncounted))]
     pub(crate) fn push_shifted<F: WrittenForm, C: PrimaryCompression>(
         &mut self,
         form: &F,
@@ -139,7 +139,8 @@ impl CountedLevels {
         requires { S.is_sound sink.old state.old }
         ensures sound { S.is_sound sink.new state.new }
         ensures bytes { (reorder : ℕ → ℕ) → KeyWrites S.effects sink.old state.old
-            (parts_bytes (counted_left reorder (F.form_written form.now) self.old characters.now []))
+            (parts_bytes
+            (counted_left reorder (F.form_written form.now) self.old characters.now []))
             result sink.new state.new }
     {
         self.feed(form)?;

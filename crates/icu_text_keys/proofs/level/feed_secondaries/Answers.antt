@@ -1,4 +1,4 @@
-use Rattle.icu_text_keys.proofs.CountedLemmas.{secondaries_fed}
+use Rattle.icu_text_keys.proofs.CommonElementLemmas.{secondaries_fed}
 use Rattle.icu_text_keys.proofs.level.feed_secondaries.Goals as goal
 
 pub returns : goal.returns

@@ -1,8 +1,8 @@
 use Rattle.std.proofs.Common.{◌≡◌, ℕ, suc, ◌+◌, ◌∙◌, ap, sym, arith, refl, Some}
 use Rattle.icu_levels.specs.declared.forms.KeyForm.{KeyForm}
 use Rattle.icu_levels.specs.declared.forms.SecondaryForm.TheVariants.{Forward}
-use Rattle.icu_text_keys.specs.LevelRests.{counted, levels_after}
-use Rattle.icu_text_keys.proofs.CountedLemmas.{counted_more}
+use Rattle.icu_text_keys.specs.LevelRests.{counted_commons, levels_after}
+use Rattle.icu_text_keys.proofs.CommonElementLemmas.{counted_more}
 use Rattle.icu_text_keys.proofs.counted_levels.CountedLevels.push_stayed.Goals as goal
 
 pub returns-then-self-lt4294967295-clause-levels : goal.returns-then-self-lt4294967295-clause-levels
@@ -13,4 +13,4 @@ returns-then-self-lt4294967295-clause-levels g c = λ reorder cs hs.
     let common : (c.args.element.secondary ≡ 0x500) × (c.args.element.lower ≡ 0x500) = c.if-is_common.ensures refl in
     let one : suc n ≡ n + 1 = omega arith in
     counted_more reorder f c.args.self.now.levels cs n c.args.element hs forward c.requires.form common.0 common.1
-    ∙ ap (λ (m : ℕ). levels_after reorder f c.args.self.now.levels (counted m f.secondary) cs hs) one
+    ∙ ap (λ (m : ℕ). levels_after reorder f c.args.self.now.levels (counted_commons m f.secondary) cs hs) one

@@ -21,18 +21,18 @@ use Rattle.icu_keys.specs.declared.held_tertiaries.HeldTertiaries.{HeldTertiarie
 use Rattle.icu_keys.specs.declared.held_quaternaries.HeldQuaternaries.{HeldQuaternaries}
 use Rattle.icu_weighting.specs.Handled.{HandledElement, stayed, stayed_elements}
 use Rattle.icu_weighting.specs.Levels.{weights, secondaries, case_reads, case_rank, tertiaries, quaternaries}
-use Rattle.icu_text_keys.specs.LevelRests.{counted, secondaries_left, secondaries_after, cases_left, cases_after, tertiaries_left, tertiaries_after, quaternaries_left, quaternaries_after, levels_left, levels_after, HasLaterForm}
+use Rattle.icu_text_keys.specs.LevelRests.{counted_commons, secondaries_left, secondaries_after, cases_left, cases_after, tertiaries_left, tertiaries_after, quaternaries_left, quaternaries_after, levels_left, levels_after, HasLaterForm}
 use Rattle.icu_text_keys.specs.declared.later_levels.LaterLevels.{LaterLevels}
 
 -- ---- how many are counted
 
-pub counted_none : (n : ℕ) (before : Option SecondaryForm) → (before ≡ Some Forward → ⊥) → counted n before ≡ 0
+pub counted_none : (n : ℕ) (before : Option SecondaryForm) → (before ≡ Some Forward → ⊥) → counted_commons n before ≡ 0
 counted_none zero before h = refl
 counted_none (suc n) (Some Forward) h = absurd (h refl)
 counted_none (suc n) (Some Backward) h = refl
 counted_none (suc n) None h = refl
 
-pub counted_some : (n : ℕ) (before : Option SecondaryForm) → before ≡ Some Forward → counted n before ≡ n
+pub counted_some : (n : ℕ) (before : Option SecondaryForm) → before ≡ Some Forward → counted_commons n before ≡ n
 counted_some zero before e = refl
 counted_some (suc n) (Some Forward) e = refl
 counted_some (suc n) (Some Backward) e = cc
@@ -166,7 +166,7 @@ same_weights p s l e f = rw (e, f) refl
 -- an element with common weights counts as one more
 pub counted_more : (reorder : ℕ → ℕ) (form : KeyForm) (l : LaterLevels) (cs : List ℕ) (n : ℕ) (x : Element) (hs : List HandledElement)
     → form.secondary ≡ Some Forward → HasLaterForm form l → x.secondary ≡ 0x500 → x.lower ≡ 0x500
-    → levels_after reorder form l (counted n form.secondary) cs (stayed x ∷ hs) ≡ levels_after reorder form l (counted (suc n) form.secondary) cs hs
+    → levels_after reorder form l (counted_commons n form.secondary) cs (stayed x ∷ hs) ≡ levels_after reorder form l (counted_commons (suc n) form.secondary) cs hs
 counted_more reorder form l cs n x hs e f s t =
     ap (λ (m : ℕ). levels_after reorder form l m cs (stayed x ∷ hs)) (counted_some n form.secondary e)
     ∙ (ap (λ (y : Element). levels_after reorder form l n cs (stayed y ∷ hs)) (same_weights x.primary x.secondary x.lower s t)
