@@ -1,9 +1,13 @@
 -- Nibbles of a level that counts runs, one case at a time.
-use Rattle.std.proofs.Common.{◌≡◌, ◌≢◌, ℕ, suc, List, [], ◌∷◌, ◌++◌, sym, ap, ◌∙◌, append_assoc}
+use Rattle.std.proofs.Common.{◌≡◌, ◌≢◌, ℕ, suc, List, [], ◌∷◌, ◌++◌, refl, sym, ap, ◌∙◌, append_assoc}
 use Rattle.std.proofs.lemmas.List.{append-nil}
 use Rattle.icu_levels.specs.declared.run_bytes.RunBytes.{RunBytes}
 use Rattle.icu_levels.specs.Runs.{run_before_less, run_before, level_bytes}
-use Rattle.icu_levels.specs.Cases.{packed}
+use Rattle.icu_levels.specs.Cases.{packed, case_runs}
+use Rattle.icu_levels.specs.declared.forms.CaseForm.{CaseForm}
+use Rattle.icu_levels.specs.declared.forms.CaseForm.TheVariants.{LowerFirst, UpperFirst}
+use Rattle.icu_keys.specs.CaseRanks.{rank_of}
+use Rattle.icu_keys.specs.declared.cases.LetterCase.TheVariants.{Lower}
 use Rattle.icu_levels.proofs.LevelOrder.{level_common}
 use Rattle.icu_keys.proofs.RunSteps.{other_level}
 
@@ -41,3 +45,11 @@ end_case q r n held last first mid second d ends packs pads =
     ap (λ p. packed (held ++ run_before_less p n)) d
     ∙ (ap (λ l. packed (held ++ l)) (sym ends ∙ sym (append-nil last))
     ∙ (packs [] ∙ ap (λ l. first ++ l) (ap packed (append-nil mid) ∙ sym pads)))
+
+-- lower case is common
+lower : (form : CaseForm) → rank_of form Lower ≡ (case_runs form).common
+lower LowerFirst = refl
+lower UpperFirst = refl
+
+pub lower_common : (f g : CaseForm) → f ≡ g → rank_of f Lower ≡ (case_runs g).common
+lower_common f g e = rw e (lower g)

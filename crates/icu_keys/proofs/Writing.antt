@@ -90,6 +90,25 @@ module _ {X St F E : Type 0} (effects : SinkEffects X St F E) where
   brings_fails x y z s t u b before middle after e w p h rest =
       record { sink = y; state = t; front = w.front; tried = b; rest = after rest; splits = w.leaves rest ∙ ap (λ l. w.front ++ l) (h rest); taken = w.taken; fails = p }
 
+  -- what a call brought, after a part of what is to be written was taken
+  pub brings_both : {Q R : Type 0} (f : R → Q) (x y z : X) (s t u : St) (before middle after : R → List ℕ) (p q : Q → List ℕ)
+      → ((y z : X) (t u : St) (b c : List ℕ) → effects.took x s b y t → effects.took y t c z u → effects.took x s (b ++ c) z u)
+      → Brings effects x s before middle y t → Brings effects y t p q z u
+      → ((rest : R) → middle rest ≡ p (f rest)) → ((rest : R) → after rest ≡ q (f rest)) → Brings effects x s before after z u
+  brings_both f x y z s t u before middle after p q both w v h k = record {
+    front = w.front ++ v.front;
+    taken = both y z t u w.front v.front w.taken v.taken;
+    leaves = λ rest. w.leaves rest ∙ (ap (λ l. w.front ++ l) (h rest ∙ (v.leaves (f rest) ∙ ap (λ l. v.front ++ l) (sym (k rest))))
+        ∙ sym (append_assoc w.front v.front (after rest)));
+  }
+
+  pub brings_stopped : {Q R : Type 0} (f : R → Q) (x y z : X) (s t u : St) (before middle : R → List ℕ) (p : Q → List ℕ) (e : E)
+      → ((y z : X) (t u : St) (b c : List ℕ) → effects.took x s b y t → effects.took y t c z u → effects.took x s (b ++ c) z u)
+      → Brings effects x s before middle y t → ((q : Q) → WriteFails effects y t (p q) e z u)
+      → ((rest : R) → middle rest ≡ p (f rest)) → (rest : R) → WriteFails effects x s (before rest) e z u
+  brings_stopped f x y z s t u before middle p e both w v h rest =
+      rw (w.leaves rest, h rest) (fails_after x y z s t u w.front (p (f rest)) e both w.taken (v (f rest)))
+
   -- what a call returned that writes the rest
   pub brings_written : {R O : Type 0} (x y z : X) (s t u : St) (before after : R → List ℕ) (rest : R) (r : Result O E)
       → ((y z : X) (t u : St) (b c : List ℕ) → effects.took x s b y t → effects.took y t c z u → effects.took x s (b ++ c) z u)

@@ -1,6 +1,6 @@
 //! The case level, written as it is fed.
 
-ghost use Rattle.std.specs.Prelude.{◌≡◌, ℕ, ◌<◌, ◌≤◌, List, [], ◌∷◌};
+ghost use Rattle.std.specs.Prelude.{◌≡◌, ℕ, ◌<◌, ◌≤◌, List, [], ◌∷◌, ◌++◌, replicate};
 ghost use Rattle.icu_levels.specs.Cases.{packed, case_runs, case_nibble, case_nibbles};
 ghost use Rattle.icu_keys.specs.CaseRanks.{rank_of};
 ghost use Rattle.icu_keys.specs.Writes.{Writes, Feeds};
@@ -115,6 +115,56 @@ impl CaseWriter {
             let second = self.nibbles.add(nibble(self.form, rank));
             write_both(sink, state, first, second)
         }
+    }
+
+    /// Writes what `more` lower cases decide. An error is the sink's own.
+    #[inline(always)]
+    pub fn push_lower<S: CollationKeySink>(
+        &mut self,
+        sink: &mut S,
+        state: &mut S::State,
+        more: u32,
+    ) -> Result<(), S::Error>
+        requires { S.is_sound sink.old state.old }
+        ensures sound { S.is_sound sink.new state.new }
+        ensures form { case_form_of self.new ≡ case_form_of self.old }
+        ensures bytes { Feeds S.effects sink.old state.old
+            (λ ranks. case_rest self.old
+            (replicate more (case_runs (case_form_of self.old)).common ++ ranks))
+            (case_rest self.new) result sink.new state.new }
+    {
+        let runs = runs_of(self.form);
+        let room = runs.count - self.run.length;
+        if more <= u32::from(room) {
+            self.run.length += more as u8;
+            return Ok(());
+        }
+        self.push_each_lower(sink, state, more)
+    }
+
+    /// Writes what `more` lower cases decide, one after another.
+    #[cold]
+    #[inline(never)]
+    fn push_each_lower<S: CollationKeySink>(
+        &mut self,
+        sink: &mut S,
+        state: &mut S::State,
+        more: u32,
+    ) -> Result<(), S::Error>
+        requires { S.is_sound sink.old state.old }
+        ensures sound { S.is_sound sink.new state.new }
+        ensures form { case_form_of self.new ≡ case_form_of self.old }
+        ensures bytes { Feeds S.effects sink.old state.old
+            (λ ranks. case_rest self.old
+            (replicate more (case_runs (case_form_of self.old)).common ++ ranks))
+            (case_rest self.new) result sink.new state.new }
+    {
+        let mut left = more;
+        while left > 0 {
+            self.push(sink, state, LetterCase::Lower)?;
+            left -= 1;
+        }
+        Ok(())
     }
 
     /// Writes what is left at the end of the level. An error is the sink's own.

@@ -1,7 +1,7 @@
 //! The case level, held until its end.
 
-ghost use Rattle.std.specs.Prelude.{◌≡◌, ℕ, List, [], ◌∷◌, OnOk};
-ghost use Rattle.icu_levels.specs.Cases.{case_level};
+ghost use Rattle.std.specs.Prelude.{◌≡◌, ℕ, List, [], ◌∷◌, ◌++◌, replicate, OnOk};
+ghost use Rattle.icu_levels.specs.Cases.{case_level, case_runs};
 ghost use Rattle.icu_keys.specs.CaseRanks.{rank_of};
 
 use crate::cases::{CaseWriter, LetterCase};
@@ -43,6 +43,18 @@ impl HeldCases {
     {
         self.vanishes = self.vanishes && case == LetterCase::Lower;
         self.writer.push(&mut self.bytes, &mut (), case)
+    }
+
+    /// Adds `more` lower cases. After an error, discard the level.
+    #[inline(always)]
+    pub fn push_lower(&mut self, more: u32) -> Result<(), AllocError>
+        ensures form { held_case_form self.new ≡ held_case_form self.old }
+        ensures bytes { OnOk result ((ranks : List ℕ) →
+            held_cases self.old
+            (replicate more (case_runs (held_case_form self.old)).common ++ ranks)
+            ≡ held_cases self.new ranks) }
+    {
+        self.writer.push_lower(&mut self.bytes, &mut (), more)
     }
 
     /// Ends the level, whose bytes are held then. Push nothing after it.

@@ -1,6 +1,6 @@
 //! The quaternary level, held until its end.
 
-ghost use Rattle.std.specs.Prelude.{◌≡◌, ℕ, ◌+◌, ◌≤◌, ◌^◌, List, [], ◌∷◌, OnOk};
+ghost use Rattle.std.specs.Prelude.{◌≡◌, ℕ, ◌+◌, ◌≤◌, ◌^◌, List, [], ◌∷◌, ◌++◌, replicate, OnOk};
 ghost use Rattle.icu_levels.specs.Quaternaries.{quaternary_level};
 ghost use Rattle.icu_keys.specs.QuaternaryWeights.{weight_of};
 
@@ -41,6 +41,16 @@ impl HeldQuaternaries {
     {
         self.vanishes = self.vanishes && weight.is_common();
         self.writer.push(&mut self.bytes, &mut (), weight)
+    }
+
+    /// Adds `more` common weights. After an error, discard the level.
+    #[inline(always)]
+    pub fn push_commons(&mut self, more: u32) -> Result<(), AllocError>
+        ensures { OnOk result ((ws : List ℕ) →
+            held_quaternaries self.old (replicate more (2 ^ 32) ++ ws)
+            ≡ held_quaternaries self.new ws) }
+    {
+        self.writer.push_commons(&mut self.bytes, &mut (), more)
     }
 
     /// Ends the level, whose bytes are held then. Push nothing after it.

@@ -1,6 +1,6 @@
 //! The secondary level, held until its end.
 
-ghost use Rattle.std.specs.Prelude.{◌≡◌, ◌<◌, ℕ, List, [], ◌∷◌, OnOk};
+ghost use Rattle.std.specs.Prelude.{◌≡◌, ◌<◌, ℕ, List, [], ◌∷◌, ◌++◌, replicate, OnOk};
 ghost use Rattle.icu_levels.specs.Secondaries.{secondary_level};
 ghost use Rattle.icu_levels.specs.Keys.{part_bytes, opened, closed};
 ghost use Rattle.icu_keys.specs.Writes.{Writes};
@@ -47,12 +47,33 @@ impl HeldSecondaries {
         self.push_next(weight)
     }
 
-    /// How many common weights are counted, and not written yet.
+    /// Adds `more` common weights. After an error, discard the level.
     #[inline(always)]
-    pub(crate) fn commons(&self) -> u32
-        ensures { result ≡ self.now.commons }
+    #[tactic(auto, using(crate::proofs::CommonSteps::commons_joined))]
+    pub fn push_commons(&mut self, more: u32) -> Result<(), AllocError>
+        ensures { OnOk result ((ws : List ℕ) →
+            held_secondaries self.old (replicate more SECONDARY_RUNS.common ++ ws)
+            ≡ held_secondaries self.new ws) }
     {
-        self.commons
+        if more <= u32::MAX - self.commons {
+            self.commons += more;
+            return Ok(());
+        }
+        self.push_many(more)
+    }
+
+    /// Feeds the counted weights to the writer, and counts `more`.
+    #[cold]
+    #[inline(never)]
+    fn push_many(&mut self, more: u32) -> Result<(), AllocError>
+        ensures { OnOk result ((ws : List ℕ) →
+            held_secondaries self.old (replicate more SECONDARY_RUNS.common ++ ws)
+            ≡ held_secondaries self.new ws) }
+    {
+        self.writer
+            .push_commons(&mut self.bytes, &mut (), self.commons)?;
+        self.commons = more;
+        Ok(())
     }
 
     /// Adds a common weight.

@@ -1,6 +1,6 @@
 //! The tertiary level, held until its end.
 
-ghost use Rattle.std.specs.Prelude.{◌≡◌, ℕ, ◌<◌, ◌^◌, List, [], ◌∷◌, OnOk};
+ghost use Rattle.std.specs.Prelude.{◌≡◌, ℕ, ◌<◌, ◌^◌, List, [], ◌∷◌, ◌++◌, replicate, OnOk};
 ghost use Rattle.icu_levels.specs.Tertiaries.{moved_tertiary, tertiary_level, tertiary_runs};
 ghost use Rattle.icu_levels.specs.Keys.{part_bytes, opened, closed};
 ghost use Rattle.icu_keys.specs.Writes.{Writes};
@@ -69,12 +69,37 @@ impl HeldTertiaries {
         self.push_next(weight)
     }
 
-    /// How many common weights are counted, and not written yet.
+    /// Adds `more` common weights of the form. After an error, discard the level.
     #[inline(always)]
-    pub(crate) fn commons(&self) -> u32
-        ensures { result ≡ self.now.commons }
+    #[tactic(auto, using(crate::proofs::CommonSteps::commons_joined))]
+    pub fn push_commons(&mut self, more: u32) -> Result<(), AllocError>
+        ensures form { held_tertiary_form self.new ≡ held_tertiary_form self.old }
+        ensures bytes { OnOk result ((ws : List ℕ) →
+            held_tertiaries self.old
+            (replicate more (tertiary_runs (held_tertiary_form self.old)).common ++ ws)
+            ≡ held_tertiaries self.new ws) }
     {
-        self.commons
+        if more <= u32::MAX - self.commons {
+            self.commons += more;
+            return Ok(());
+        }
+        self.push_many(more)
+    }
+
+    /// Feeds the counted weights to the writer, and counts `more`.
+    #[cold]
+    #[inline(never)]
+    fn push_many(&mut self, more: u32) -> Result<(), AllocError>
+        ensures form { held_tertiary_form self.new ≡ held_tertiary_form self.old }
+        ensures bytes { OnOk result ((ws : List ℕ) →
+            held_tertiaries self.old
+            (replicate more (tertiary_runs (held_tertiary_form self.old)).common ++ ws)
+            ≡ held_tertiaries self.new ws) }
+    {
+        self.writer
+            .push_commons(&mut self.bytes, &mut (), self.commons)?;
+        self.commons = more;
+        Ok(())
     }
 
     /// Adds a common weight.

@@ -1,5 +1,6 @@
 //! Lists as sinks: a key is appended to what they hold. A refused write changes nothing.
 
+ghost use Rattle.std.specs.Prelude.{◌≡◌, [], ◌∷◌, ◌++◌, OnOk, OnErr};
 ghost use Rattle.icu_keys.specs.Sinks.{list_effects};
 ghost use Rattle.icu_keys.specs.ListSinkLaws.{appended_nothing, appended_both, refused_beginning};
 
@@ -7,6 +8,17 @@ use crate::sink::CollationKeySink;
 use smallvec::SmallVec;
 use std::alloc::AllocError;
 use std::collections::VecDeque;
+
+/// Appends to a vector that has no room.
+#[cold]
+#[inline(never)]
+fn push_full(list: &mut Vec<u8>, byte: u8) -> Result<(), AllocError>
+    ensures ok { OnOk result (list.new.items ≡ list.old.items ++ byte ∷ []) }
+    ensures err { OnErr result (list.new.items ≡ list.old.items) }
+{
+    list.push(byte)?;
+    Ok(())
+}
 
 /// Appends to the vector.
 impl CollationKeySink for Vec<u8> {
@@ -36,8 +48,11 @@ impl CollationKeySink for Vec<u8> {
 
     #[inline(always)]
     fn write_byte(&mut self, _state: &mut (), byte: u8) -> Result<(), AllocError> {
-        self.push(byte)?;
-        Ok(())
+        if self.len() < self.capacity() {
+            self.push_reserved(byte);
+            return Ok(());
+        }
+        push_full(self, byte)
     }
 
     fn finish(&mut self, _state: ()) -> Result<(), AllocError> {

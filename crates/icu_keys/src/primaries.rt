@@ -1,12 +1,11 @@
 //! The primary level, compressed and reordered, written as it is fed.
 
-ghost use Rattle.std.specs.Prelude.{◌≡◌, ◌/◌, ℕ, List, [], ◌∷◌, ◌++◌, IsTrue, option_to_list};
-ghost use Rattle.icu_levels.specs.Primaries.{Compression, lead, below_lead, lead_change, dropped_after, primary_bytes, primary_level};
-ghost use Rattle.icu_levels.specs.WeightBytes.{weight_bytes};
+ghost use Rattle.std.specs.Prelude.{◌≡◌, ◌≢◌, ℕ, List, ◌∷◌, option_to_list};
+ghost use Rattle.icu_levels.specs.Primaries.{Compression, lead, lead_change, dropped_after, primary_bytes, primary_level};
 ghost use Rattle.icu_keys.specs.Writes.{Writes, Feeds};
 
 use crate::sink::CollationKeySink;
-use crate::writes::{write_both, write_three};
+use crate::writes::{write_long_after, write_some, write_three};
 
 /// How primaries are written: what reordering makes of each, and the weights of which leads are compressed (UTS #35
 /// part 5, "Collation Reordering", and "Root Collation Data Files" on lead bytes that compress).
@@ -50,51 +49,22 @@ fn lead_to_drop<C: PrimaryCompression>(compression: &C, weight: u32, reordered: 
     }
 }
 
-/// The lead of a reordered primary as it is written: not of 0, which has no bytes.
-fn written_lead(primary: u32) -> Option<u8>
-    ensures { weight_bytes 4 primary
-        ≡ option_to_list result ++ weight_bytes 3 (below_lead primary) }
-{
-    if primary == 0 {
-        None
-    } else {
-        Some((primary / 0x100_0000) as u8)
-    }
-}
-
-/// Writes of a reordered primary, after weights whose lead is dropped, what stands before the bytes below its lead.
-#[inline(always)]
-fn write_lead<S: CollationKeySink>(
+/// Writes a reordered primary after weights of another lead, which is dropped: what says the change of lead, and then
+/// the weight.
+fn write_change<S: CollationKeySink>(
     sink: &mut S,
     state: &mut S::State,
     dropped: u8,
     primary: u32,
 ) -> Result<(), S::Error>
-    requires { S.is_sound sink.old state.old }
+    requires sound { S.is_sound sink.old state.old }
+    requires other { lead primary ≢ dropped }
     ensures sound { S.is_sound sink.new state.new }
-    ensures bytes { Feeds S.effects sink.old state.old
-        (λ (_ : Unit {0}). primary_bytes dropped primary) (λ _. weight_bytes 3 (below_lead primary))
+    ensures bytes { Writes S.effects sink.old state.old (primary_bytes dropped primary)
         result sink.new state.new }
 {
-    let new = (primary / 0x100_0000) as u8;
-    if new == dropped {
-        return Ok(());
-    }
-    write_both(
-        sink,
-        state,
-        change_of_lead(dropped, new),
-        written_lead(primary),
-    )
-}
-
-/// Whether a reordered primary after weights whose lead is dropped is written as its lead alone, as those of Latin
-/// letters are, which have one byte. False says nothing.
-#[inline(always)]
-fn is_lead_alone(dropped: u8, primary: u32) -> bool
-    ensures { IsTrue result → primary_bytes dropped primary ≡ primary / 0x1000000 ∷ [] }
-{
-    dropped == 0 && primary != 0 && primary % 0x100_0000 == 0
+    let change = change_of_lead(dropped, (primary / 0x100_0000) as u8);
+    write_long_after(sink, state, change, None, primary)
 }
 
 /// Writes a reordered primary after weights whose lead is dropped.
@@ -110,11 +80,14 @@ fn write_primary<S: CollationKeySink>(
     ensures bytes { Writes S.effects sink.old state.old (primary_bytes dropped primary)
         result sink.new state.new }
 {
-    if is_lead_alone(dropped, primary) {
-        return sink.write_byte(state, (primary / 0x100_0000) as u8);
+    let lead = (primary / 0x100_0000) as u8;
+    if lead == dropped {
+        return write_three(sink, state, primary % 0x100_0000);
     }
-    write_lead(sink, state, dropped, primary)?;
-    write_three(sink, state, primary % 0x100_0000)
+    if dropped == 0 {
+        return write_some(sink, state, primary);
+    }
+    write_change(sink, state, dropped, primary)
 }
 
 /// Writes the primary level of a text.

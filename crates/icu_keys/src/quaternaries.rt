@@ -1,6 +1,6 @@
 //! The quaternary level, written as it is fed.
 
-ghost use Rattle.std.specs.Prelude.{◌≡◌, ◌↔◌, IsTrue, ℕ, ◌+◌, ◌≤◌, ◌^◌, List, [], ◌∷◌, ◌++◌, option_to_list};
+ghost use Rattle.std.specs.Prelude.{◌≡◌, ◌↔◌, IsTrue, ℕ, ◌+◌, ◌≤◌, ◌^◌, List, [], ◌∷◌, ◌++◌, replicate, option_to_list};
 ghost use Rattle.icu_levels.specs.declared.run_bytes.TheConstants.{QUATERNARY_RUNS};
 ghost use Rattle.icu_levels.specs.Quaternaries.{quaternary_bytes, quaternary_runs};
 ghost use Rattle.icu_levels.specs.WeightBytes.{weight_bytes};
@@ -96,6 +96,23 @@ impl QuaternaryWriter {
                     .write_long(&QUATERNARY_RUNS, sink, state, whole, first, primary)
             }
         }
+    }
+
+    /// Writes what `more` common weights decide. An error is the sink's own.
+    #[inline(always)]
+    pub fn push_commons<S: CollationKeySink>(
+        &mut self,
+        sink: &mut S,
+        state: &mut S::State,
+        more: u32,
+    ) -> Result<(), S::Error>
+        requires { S.is_sound sink.old state.old }
+        ensures sound { S.is_sound sink.new state.new }
+        ensures bytes { Feeds S.effects sink.old state.old
+            (λ ws. quaternary_rest self.old (replicate more QUATERNARY_RUNS.common ++ ws))
+            (quaternary_rest self.new) result sink.new state.new }
+    {
+        self.run.write_commons(&QUATERNARY_RUNS, sink, state, more)
     }
 
     /// Writes what is left at the end of the level. An error is the sink's own.

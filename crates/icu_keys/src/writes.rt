@@ -3,7 +3,7 @@
 //! Each byte is one write of its own: a sink that is a list adds it in place, where bytes of a number that only the run
 //! decides would be a copy.
 
-ghost use Rattle.std.specs.Prelude.{◌++◌, ◌<◌, ◌^◌, option_to_list};
+ghost use Rattle.std.specs.Prelude.{◌++◌, ◌<◌, ◌≢◌, ◌^◌, option_to_list};
 ghost use Rattle.icu_levels.specs.WeightBytes.{weight_bytes};
 ghost use Rattle.icu_keys.specs.Writes.{Writes};
 
@@ -102,6 +102,23 @@ pub(crate) fn write_three<S: CollationKeySink>(
     write_two(sink, state, (weight % 0x1_0000) as u16)
 }
 
+/// Writes the bytes of a weight of four bytes that is not 0.
+#[inline(always)]
+pub(crate) fn write_some<S: CollationKeySink>(
+    sink: &mut S,
+    state: &mut S::State,
+    weight: u32,
+) -> Result<(), S::Error>
+    requires sound { S.is_sound sink.old state.old }
+    requires some { weight ≢ 0 }
+    ensures sound { S.is_sound sink.new state.new }
+    ensures bytes { Writes S.effects sink.old state.old (weight_bytes 4 weight)
+        result sink.new state.new }
+{
+    sink.write_byte(state, (weight / 0x100_0000) as u8)?;
+    write_three(sink, state, weight % 0x100_0000)
+}
+
 /// Writes the bytes of a weight of four bytes.
 #[inline(always)]
 fn write_four<S: CollationKeySink>(
@@ -117,8 +134,7 @@ fn write_four<S: CollationKeySink>(
     if weight == 0 {
         return Ok(());
     }
-    sink.write_byte(state, (weight / 0x100_0000) as u8)?;
-    write_three(sink, state, weight % 0x100_0000)
+    write_some(sink, state, weight)
 }
 
 /// Writes a byte, where there is one, and then the bytes of a weight of two bytes.

@@ -1,8 +1,8 @@
 -- Leads of which none is compressible.
-use Rattle.std.proofs.Common.{◌≡◌, ℕ, ◌+◌, ◌<◌, ◌≤◌, ◌^◌, ◌/◌, ◌%◌, true, false, length, refl, ap, ◌∙◌, arith, ne_eqb, eq-eqb, le-ltb, ◌⊎◌, inl, inr, List}
+use Rattle.std.proofs.Common.{◌≡◌, ℕ, ◌+◌, ◌<◌, ◌≤◌, ◌^◌, ◌/◌, ◌%◌, false, length, refl, ap, ◌∙◌, arith, ne_eqb, eq-eqb, ◌⊎◌, inl, inr}
 use Rattle.std.proofs.Math.Nat.{zero-div}
 use Rattle.std.proofs.lemmas.Bool.{cases_eq}
-use Rattle.std.specs.Prelude.{slice_index, nat_le, ◌==◌, ◌&&◌, ◌||◌, if◌then◌else◌}
+use Rattle.std.specs.Prelude.{slice_index, nat_le}
 use Rattle.icu_entries.specs.Entries.{has_bit}
 use Rattle.icu_provider.specs.SpecialPrimaries.{SpecialPrimaries, is_compressible}
 

@@ -2,3 +2,4 @@ pub mod KeyPartLemmas
 pub mod KeySourceLemmas
 pub mod CaseLemmas
 pub mod CompressionLemmas
+pub mod CommonElementLemmas

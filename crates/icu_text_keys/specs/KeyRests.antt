@@ -1,21 +1,20 @@
 -- What is still to be written of a key.
-use Rattle.std.specs.Prelude.{ℕ, List, ◌++◌, ◌≡◌, IfSome}
+use Rattle.std.specs.Prelude.{ℕ, List, ◌++◌}
 use Rattle.icu_levels.specs.Primaries.{Compression}
 use Rattle.icu_levels.specs.Keys.{parts_bytes}
 use Rattle.icu_levels.specs.declared.forms.KeyForm.{KeyForm}
-use Rattle.icu_keys.specs.HeldRests.{held_tertiary_form}
 use Rattle.icu_keys.specs.WriterRests.{primary_rest}
 use Rattle.icu_weighting.specs.Handled.{HandledElement, stayed_elements}
 use Rattle.icu_weighting.specs.Levels.{primaries}
-use Rattle.icu_text_keys.specs.LevelRests.{levels_left}
-use Rattle.icu_text_keys.specs.declared.later_levels.LaterLevels.{LaterLevels}
+use Rattle.icu_text_keys.specs.LevelRests.{counted_left, HasLaterForm}
+use Rattle.icu_text_keys.specs.declared.counted_levels.CountedLevels.{CountedLevels}
 use Rattle.icu_text_keys.specs.declared.writer.KeyWriter.{KeyWriter}
 
 -- how primaries are written, the key's form, all characters of the text, and its further elements, as they are handled
 abbrev pub key_rest : Compression → KeyForm → KeyWriter → List ℕ → List HandledElement → List ℕ
 key_rest c form w cs hs =
-    primary_rest c w.primaries (primaries (stayed_elements hs)) ++ parts_bytes (levels_left c.reorder form w.levels cs hs)
+    primary_rest c w.primaries (primaries (stayed_elements hs)) ++ parts_bytes (counted_left c.reorder form w.levels cs hs)
 
 -- tertiaries are held in the form of the key, where it has them
-abbrev pub HasForm : KeyForm → LaterLevels → Type 0
-HasForm form l = IfSome form.tertiary (λ t. held_tertiary_form l.tertiaries ≡ t)
+abbrev pub HasForm : KeyForm → CountedLevels → Type 0
+HasForm form l = HasLaterForm form l.levels

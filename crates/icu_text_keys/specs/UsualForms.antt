@@ -4,13 +4,13 @@ use Rattle.icu_levels.specs.declared.forms.CaseForm.{CaseForm}
 use Rattle.icu_levels.specs.declared.forms.CaseForm.TheVariants as cases
 use Rattle.icu_levels.specs.declared.forms.KeyForm.{KeyForm}
 use Rattle.icu_levels.specs.declared.forms.QuaternaryForm.{QuaternaryForm}
-use Rattle.icu_levels.specs.declared.forms.QuaternaryForm.TheVariants.{MayShift}
+use Rattle.icu_levels.specs.declared.forms.QuaternaryForm.TheVariants as quaternaries
 use Rattle.icu_levels.specs.declared.forms.SecondaryForm.{SecondaryForm}
 use Rattle.icu_levels.specs.declared.forms.SecondaryForm.TheVariants.{Forward}
 use Rattle.icu_levels.specs.declared.forms.TertiaryForm.{TertiaryForm}
 use Rattle.icu_levels.specs.declared.forms.TertiaryForm.TheVariants as tertiaries
 use Rattle.icu_text_keys.specs.declared.usual_forms.UsualForm.{UsualForm}
-use Rattle.icu_text_keys.specs.declared.usual_forms.UsualForm.TheVariants.{Primary, Secondary, Tertiary, LowerFirst, UpperFirst, Quaternary, CaseLevel}
+use Rattle.icu_text_keys.specs.declared.usual_forms.UsualForm.TheVariants.{Primary, Secondary, Tertiary, LowerFirst, UpperFirst, Quaternary, Unshifted, CaseLevel}
 
 -- a form with these levels after the primary one, and the identical level where there is one
 abbrev pub levels_form : Option SecondaryForm → Option CaseForm → Option TertiaryForm → Option QuaternaryForm → Bool → KeyForm
@@ -24,5 +24,6 @@ form_of Secondary identical = levels_form (Some Forward) None None None identica
 form_of Tertiary identical = levels_form (Some Forward) None (Some tertiaries.WithoutCase) None identical
 form_of LowerFirst identical = levels_form (Some Forward) None (Some tertiaries.LowerFirst) None identical
 form_of UpperFirst identical = levels_form (Some Forward) None (Some tertiaries.UpperFirst) None identical
-form_of Quaternary identical = levels_form (Some Forward) None (Some tertiaries.WithoutCase) (Some MayShift) identical
+form_of Quaternary identical = levels_form (Some Forward) None (Some tertiaries.WithoutCase) (Some quaternaries.MayShift) identical
+form_of Unshifted identical = levels_form (Some Forward) None (Some tertiaries.WithoutCase) (Some quaternaries.Unshifted) identical
 form_of CaseLevel identical = levels_form (Some Forward) (Some cases.LowerFirst) (Some tertiaries.WithoutCase) None identical

@@ -10,7 +10,8 @@ ghost use Rattle.icu_weighting.specs.Levels.{level_lists};
 ghost use Rattle.icu_text_keys.specs.LevelRests.{secondaries_left, cases_left, tertiaries_left, quaternaries_left};
 
 use crate::level::{
-    push_both, push_case, push_quaternary, push_secondary_of, push_shifted, push_tertiary_of,
+    feed_cases, feed_quaternaries, feed_secondaries, feed_tertiaries, push_case, push_quaternary,
+    push_secondary_of, push_shifted, push_tertiary_of,
 };
 use crate::written_form::WrittenForm;
 use crate::written_levels::{
@@ -97,14 +98,13 @@ pub struct LaterLevels {
 }
 
 impl LaterLevels {
-    ghost use Rattle.icu_text_keys.specs.LevelRests.{levels_left};
-    ghost use Rattle.icu_text_keys.specs.KeyRests.{HasForm};
+    ghost use Rattle.icu_text_keys.specs.LevelRests.{levels_after, levels_left, HasLaterForm};
     ghost use Rattle.icu_keys.specs.KeyWrites.{KeyWrites};
 
     /// The levels of a form, with nothing fed. It allocates nothing.
     #[inline(always)]
     pub(crate) fn new<F: WrittenForm>(alloc: Global, form: &F) -> Self
-        ensures form { HasForm (F.form_written form.now) result }
+        ensures form { HasLaterForm (F.form_written form.now) result }
         ensures begins { let f = F.form_written form.now in
             (reorder : ℕ → ℕ) (cs : List ℕ) (hs : List HandledElement) →
             levels_left reorder f result cs hs ≡ later_parts f (level_lists reorder f hs cs) }
@@ -126,8 +126,8 @@ impl LaterLevels {
         element: CollationElement,
     ) -> Result<(), AllocError>
         requires case { element.lower < 0xC000 }
-        requires form { HasForm (F.form_written form.now) self.old }
-        ensures form { HasForm (F.form_written form.now) self.new }
+        requires form { HasLaterForm (F.form_written form.now) self.old }
+        ensures form { HasLaterForm (F.form_written form.now) self.new }
         ensures secondaries { let f = F.form_written form.now in OnOk result ((es : List Element) →
             secondaries_left f.secondary self.old.secondaries self.old.segments (element ∷ es)
             ≡ secondaries_left f.secondary self.new.secondaries self.new.segments es) }
@@ -138,16 +138,33 @@ impl LaterLevels {
         ensures quaternaries { self.new.quaternaries ≡ self.old.quaternaries }
     {
         let form = form.form();
-        let (secondaries, tertiaries) = (&mut self.secondaries, &mut self.tertiaries);
-        match (form.secondary, form.tertiary) {
-            (Some(SecondaryForm::Forward), Some(tertiary)) => {
-                push_both(tertiary, secondaries, tertiaries, &self.segments, element)
-            }
-            (secondary, tertiary) => {
-                push_secondary_of(secondary, secondaries, &mut self.segments, element)?;
-                push_tertiary_of(tertiary, tertiaries, element)
-            }
-        }
+        push_secondary_of(
+            form.secondary,
+            &mut self.secondaries,
+            &mut self.segments,
+            element,
+        )?;
+        push_tertiary_of(form.tertiary, &mut self.tertiaries, element)
+    }
+
+    /// Feeds each level common weights of as many elements.
+    #[inline(always)]
+    pub(crate) fn feed_commons<F: WrittenForm>(
+        &mut self,
+        form: &F,
+        more: u32,
+    ) -> Result<(), AllocError>
+        ensures form { HasLaterForm (F.form_written form.now) self.old
+            → HasLaterForm (F.form_written form.now) self.new }
+        ensures levels { let f = F.form_written form.now in
+            OnOk result ((reorder : ℕ → ℕ) (cs : List ℕ) (hs : List HandledElement) →
+            levels_after reorder f self.old more cs hs ≡ levels_left reorder f self.new cs hs) }
+    {
+        let form = form.form();
+        feed_secondaries(&mut self.secondaries, more)?;
+        feed_cases(form.cases, &mut self.cases, more)?;
+        feed_tertiaries(form.tertiary, &mut self.tertiaries, more)?;
+        feed_quaternaries(form.quaternary, &mut self.quaternaries, more)
     }
 
     /// Holds what each level has for an element that stayed. After an error, discard the levels.
@@ -158,8 +175,8 @@ impl LaterLevels {
         element: CollationElement,
     ) -> Result<(), AllocError>
         requires case { element.lower < 0xC000 }
-        requires form { HasForm (F.form_written form.now) self.old }
-        ensures form { HasForm (F.form_written form.now) self.new }
+        requires form { HasLaterForm (F.form_written form.now) self.old }
+        ensures form { HasLaterForm (F.form_written form.now) self.new }
         ensures levels { let f = F.form_written form.now in
             OnOk result ((reorder : ℕ → ℕ) (cs : List ℕ) (hs : List HandledElement) →
             levels_left reorder f self.old cs (stayed element ∷ hs)
@@ -179,8 +196,8 @@ impl LaterLevels {
         compression: &C,
         primary: u32,
     ) -> Result<(), AllocError>
-        requires { HasForm (F.form_written form.now) self.old }
-        ensures form { HasForm (F.form_written form.now) self.new }
+        requires { HasLaterForm (F.form_written form.now) self.old }
+        ensures form { HasLaterForm (F.form_written form.now) self.new }
         ensures levels { let reorder = (C.compression compression.now).reorder in
             let f = F.form_written form.now in
             OnOk result ((cs : List ℕ) (hs : List HandledElement) →

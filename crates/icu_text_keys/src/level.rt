@@ -1,11 +1,11 @@
 //! Elements fed to single levels after the primary one. Which levels a key has, and in which form, the callers say.
 
-ghost use Rattle.std.specs.Prelude.{◌≡◌, ◌<◌, ℕ, List, ◌∷◌, Some, IfSome, OnOk};
+ghost use Rattle.std.specs.Prelude.{◌≡◌, ◌<◌, ℕ, List, ◌∷◌, Option, Some, IfSome, OnOk};
 ghost use Rattle.icu_entries.specs.Elements.{Element};
 ghost use Rattle.icu_keys.specs.HeldRests.{held_tertiary_form};
 ghost use Rattle.icu_levels.specs.declared.forms.SecondaryForm.TheVariants.{Forward};
 ghost use Rattle.icu_weighting.specs.Handled.{HandledElement, stayed, shifted_primary};
-ghost use Rattle.icu_text_keys.specs.LevelRests.{segments_left, secondaries_left, cases_left, tertiaries_left, quaternaries_left};
+ghost use Rattle.icu_text_keys.specs.LevelRests.{segments_left, secondaries_after, secondaries_left, cases_after, tertiaries_after, quaternaries_after, cases_left, tertiaries_left, quaternaries_left};
 
 use crate::written_weights::{case_of, quaternary_weight, secondary_or_none, tertiary_or_none};
 use icu_entries::CollationElement;
@@ -17,7 +17,7 @@ use icu_keys::held_segments::HeldSegments;
 use icu_keys::held_tertiaries::HeldTertiaries;
 use icu_keys::primaries::PrimaryCompression;
 use icu_keys::quaternaries::QuaternaryWeight;
-use icu_keys::two_levels::{push_secondary, push_tertiary, push_two};
+use icu_keys::two_levels::{push_secondary, push_tertiary};
 use icu_levels::forms::{CaseForm, QuaternaryForm, SecondaryForm, TertiaryForm};
 use icu_weighting::element_weights::case_read;
 use std::alloc::AllocError;
@@ -84,32 +84,70 @@ pub(crate) fn push_tertiary_of(
     }
 }
 
-/// Holds the secondary and the tertiary of an element, of a key that has both levels, secondaries from the front.
+/// Feeds the secondary level common weights.
 #[inline(always)]
-pub(crate) fn push_both(
-    form: TertiaryForm,
-    secondaries: &mut HeldSecondaries,
-    tertiaries: &mut HeldTertiaries,
-    backward: &Option<HeldSegments>,
-    element: CollationElement,
-) -> Result<(), AllocError>
-    requires case { element.lower < 0xC000 }
-    requires form { held_tertiary_form tertiaries.old ≡ form }
-    ensures form { held_tertiary_form tertiaries.new ≡ held_tertiary_form tertiaries.old }
-    ensures secondaries { OnOk result ((es : List Element) →
-        secondaries_left (Some Forward) secondaries.old backward.now (element ∷ es)
-        ≡ secondaries_left (Some Forward) secondaries.new backward.now es) }
-    ensures tertiaries { OnOk result ((es : List Element) →
-        tertiaries_left (Some form) tertiaries.old (element ∷ es)
-        ≡ tertiaries_left (Some form) tertiaries.new es) }
+pub(crate) fn feed_secondaries(level: &mut HeldSecondaries, more: u32) -> Result<(), AllocError>
+    ensures { OnOk result ((before : Option SecondaryForm) (backward : Option HeldSegments)
+        (es : List Element) → secondaries_after more before level.old backward es
+        ≡ secondaries_left before level.new backward es) }
 {
-    push_two(
-        secondaries,
-        tertiaries,
-        form,
-        secondary_or_none(element),
-        tertiary_or_none(form, element),
-    )
+    level.push_commons(more)
+}
+
+/// Feeds the tertiary level, where there is one, common weights.
+#[inline(always)]
+pub(crate) fn feed_tertiaries(
+    form: Option<TertiaryForm>,
+    level: &mut HeldTertiaries,
+    more: u32,
+) -> Result<(), AllocError>
+    ensures form { held_tertiary_form level.new ≡ held_tertiary_form level.old }
+    ensures bytes { OnOk result ((es : List Element) →
+        tertiaries_after more form level.old es ≡ tertiaries_left form level.new es) }
+{
+    match form {
+        None => Ok(()),
+        Some(_) => level.push_commons(more),
+    }
+}
+
+/// Feeds the case level, where there is one, lower cases.
+#[inline(always)]
+pub(crate) fn feed_cases(
+    form: Option<CaseForm>,
+    level: &mut Option<HeldCases>,
+    more: u32,
+) -> Result<(), AllocError>
+    ensures { OnOk result ((before : Option SecondaryForm) (es : List Element) →
+        cases_after more before form level.old es ≡ cases_left before form level.new es) }
+{
+    match form {
+        None => Ok(()),
+        Some(_) => match level {
+            None => Ok(()),
+            Some(level) => level.push_lower(more),
+        },
+    }
+}
+
+/// Feeds the quaternary level, where there is one, common weights.
+#[inline(always)]
+pub(crate) fn feed_quaternaries(
+    form: Option<QuaternaryForm>,
+    level: &mut Option<HeldQuaternaries>,
+    more: u32,
+) -> Result<(), AllocError>
+    ensures { OnOk result ((reorder : ℕ → ℕ) (hs : List HandledElement) →
+        quaternaries_after reorder more form level.old hs
+        ≡ quaternaries_left reorder form level.new hs) }
+{
+    match form {
+        None => Ok(()),
+        Some(_) => match level {
+            None => Ok(()),
+            Some(level) => level.push_commons(more),
+        },
+    }
 }
 
 /// Holds the case of an element, where there is the level.

@@ -6,6 +6,7 @@
 #![tactic(auto)]
 
 pub mod compression;
+pub mod counted_levels;
 pub mod later_levels;
 pub mod laws;
 mod level;

@@ -21,6 +21,8 @@ pub(crate) enum UsualForm {
     UpperFirst,
     /// Four levels, where variable elements may be shifted.
     Quaternary,
+    /// Four levels, where no element is shifted.
+    Unshifted,
     /// Three levels and a case level, lower case first.
     CaseLevel,
 }
@@ -43,6 +45,12 @@ impl UsualForm {
                 None,
                 Some(TertiaryForm::WithoutCase),
                 Some(QuaternaryForm::MayShift),
+            ),
+            UsualForm::Unshifted => (
+                secondary,
+                None,
+                Some(TertiaryForm::WithoutCase),
+                Some(QuaternaryForm::Unshifted),
             ),
             UsualForm::CaseLevel => (
                 secondary,
@@ -73,12 +81,11 @@ pub(crate) fn usual_form(form: KeyForm) -> Option<UsualForm>
             TertiaryForm::LowerFirst => UsualForm::LowerFirst,
             TertiaryForm::UpperFirst => UsualForm::UpperFirst,
         }),
-        (
-            Some(SecondaryForm::Forward),
-            None,
-            Some(TertiaryForm::WithoutCase),
-            Some(QuaternaryForm::MayShift),
-        ) => Some(UsualForm::Quaternary),
+        (Some(SecondaryForm::Forward), None, Some(TertiaryForm::WithoutCase), Some(quaternary)) =>
+            Some(match quaternary {
+                QuaternaryForm::MayShift => UsualForm::Quaternary,
+                QuaternaryForm::Unshifted => UsualForm::Unshifted,
+            }),
         (
             Some(SecondaryForm::Forward),
             Some(CaseForm::LowerFirst),

@@ -14,7 +14,7 @@ use crate::usual_forms::{UsualForm, usual_form};
 use crate::writer::KeyWriter;
 use crate::written_form::{
     CaseLevelKey, LowerFirstKey, PrimaryKey, QuaternaryKey, SecondaryKey, TertiaryKey,
-    UpperFirstKey, WrittenForm,
+    UnshiftedKey, UpperFirstKey, WrittenForm,
 };
 use icu_keys::parts::end_key;
 use icu_keys::primaries::PrimaryCompression;
@@ -123,6 +123,10 @@ fn write_usual<S: CollationKeySink, C: PrimaryCompression, H: HandledSource>(
         }
         UsualForm::Quaternary => {
             let form = QuaternaryKey { identical };
+            write_in_form(alloc, &form, sink, state, compression, elements, characters)
+        }
+        UsualForm::Unshifted => {
+            let form = UnshiftedKey { identical };
             write_in_form(alloc, &form, sink, state, compression, elements, characters)
         }
         UsualForm::CaseLevel => {

@@ -11,7 +11,7 @@ ghost use Rattle.icu_weighting.specs.Handled.{HandledElement, stayed, shifted_pr
 ghost use Rattle.icu_weighting.specs.Levels.{level_lists, primaries};
 ghost use Rattle.icu_weighting.specs.HandledSources.{HasCase, handled_as};
 
-use crate::later_levels::LaterLevels;
+use crate::counted_levels::CountedLevels;
 use crate::written_form::WrittenForm;
 use icu_entries::CollationElement;
 use icu_keys::primaries::{PrimaryCompression, PrimaryWriter};
@@ -51,7 +51,7 @@ fn push_primary<S: CollationKeySink, C: PrimaryCompression>(
 #[derive(Drop)]
 pub struct KeyWriter {
     primaries: PrimaryWriter,
-    levels: LaterLevels,
+    levels: CountedLevels,
 }
 
 impl KeyWriter {
@@ -68,7 +68,7 @@ impl KeyWriter {
     {
         KeyWriter {
             primaries: PrimaryWriter::new(),
-            levels: LaterLevels::new(alloc, form),
+            levels: CountedLevels::new(alloc, form),
         }
     }
 

@@ -3,7 +3,7 @@
 ghost use Rattle.std.specs.Prelude.{◌≡◌};
 ghost use Rattle.icu_levels.specs.declared.forms.KeyForm.{KeyForm};
 ghost use Rattle.icu_text_keys.specs.UsualForms.{form_of};
-ghost use Rattle.icu_text_keys.specs.declared.usual_forms.UsualForm.TheVariants.{Primary, Secondary, Tertiary, LowerFirst, UpperFirst, Quaternary, CaseLevel};
+ghost use Rattle.icu_text_keys.specs.declared.usual_forms.UsualForm.TheVariants.{Primary, Secondary, Tertiary, LowerFirst, UpperFirst, Quaternary, Unshifted, CaseLevel};
 
 use crate::usual_forms::UsualForm;
 use icu_levels::forms::KeyForm;
@@ -115,6 +115,21 @@ impl WrittenForm for QuaternaryKey {
     #[inline(always)]
     fn form(&self) -> KeyForm {
         UsualForm::Quaternary.form(self.identical)
+    }
+}
+
+/// Four levels, where no element is shifted, and the identical level where it is asked for.
+#[derive(Clone, Copy, Debug)]
+pub(crate) struct UnshiftedKey {
+    pub(crate) identical: bool,
+}
+
+impl WrittenForm for UnshiftedKey {
+    ghost form_written = { λ form. form_of Unshifted form.identical };
+
+    #[inline(always)]
+    fn form(&self) -> KeyForm {
+        UsualForm::Unshifted.form(self.identical)
     }
 }
 
