@@ -109,11 +109,7 @@ fn read_follower(tables: &CursorTables<'_>, c: char) -> Follower
 
 /// Whether the classes of the marks that a text begins with rise, no mapping of a context begins with one of them, and
 /// the text may be cut after them, or no mapping begins with the starter there. False says nothing.
-fn joins_none<T: EncodedText>(
-    tables: &CursorTables<'_>,
-    context: FoundContext<'_>,
-    text: T,
-) -> bool
+fn joins_none<T: EncodedText>(tables: &CursorTables<'_>, context: FoundContext<'_>, text: T) -> bool
     requires { IsTrue (has_ascending_mappings (found_context context)) }
     ensures { IsTrue result → IsUnjoinedBefore (cursor_reading tables.now)
         (found_context context.entry) 0 (T.text text) }

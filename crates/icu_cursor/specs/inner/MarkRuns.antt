@@ -19,6 +19,6 @@ pub record IsInRun (c class : ℕ) : Type 0 where
   pub goes_on : class ≢ 0 → (least : ℕ) (text : List ℕ) → least ≤ class → Rises class text → Rises least (c ∷ text)
 
 -- a mark of this class that decomposes to itself
-pub record IsMarkItself (c class : ℕ) : Type 0 where
+pub record IsMarkItself (c k : ℕ) : Type 0 where
   pub itself : decompose Nfd c ≡ c ∷ []
-  pub class : class_of c ≡ class
+  pub class : class_of c ≡ k

@@ -56,9 +56,9 @@ pub record IsUnjoinedBefore (reading : Reading) (context : Context) (least : ℕ
   pub boundary : BeginsAtBoundary reading rest
 
 -- a character decomposes to this one, of this class, alone, or to this starter and others
-pub record IsHead (c d class : ℕ) : Type 0 where
+pub record IsHead (c d k : ℕ) : Type 0 where
   pub heads : HeadsRun c d
-  pub class : class_of d ≡ class
+  pub class : class_of d ≡ k
 
 -- what a character is that follows one that begins contractions
 abbrev pub IsFollower : Reading → ℕ → Follower → Type 0
