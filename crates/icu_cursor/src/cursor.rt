@@ -115,8 +115,8 @@ impl<'c, 'd, T: EncodedText, R: ReadyPlace> ElementCursor<'c, 'd, T, R> {
         Some(elements[0])
     }
 
-    /// The first element of the next character, which isn't ASCII, where it is read by itself. What most letters take is
-    /// here, and all else out of line.
+    /// The first element of the next character, which isn't ASCII, where it is read by itself. What most letters take
+    /// is here, and all else out of line.
     #[inline(always)]
     fn take_other(&mut self) -> Option<CollationElement>
         requires { HasNothingReady R.ready self.old }
