@@ -116,8 +116,8 @@ impl<'c, 'd, T: EncodedText, R: ReadyPlace> ElementCursor<'c, 'd, T, R> {
     }
 
     /// The first element of the next character, which isn't ASCII, where it is read by itself. What most letters take
-    /// is here, and all else out of line.
-    #[inline(always)]
+    /// comes first. Out of line, so that ASCII is read where it is asked for.
+    #[inline(never)]
     fn take_other(&mut self) -> Option<CollationElement>
         requires { HasNothingReady R.ready self.old }
         ensures next { gives_with R.ready T.text self.old
@@ -135,7 +135,7 @@ impl<'c, 'd, T: EncodedText, R: ReadyPlace> ElementCursor<'c, 'd, T, R> {
     }
 
     /// The first element of a character of which this is kept, where it is read by itself.
-    #[inline(never)]
+    #[inline(always)]
     fn take_kept(&mut self, c: char, kept: Kept<'_>, rest: T) -> Option<CollationElement>
         requires nothing { HasNothingReady R.ready self.old }
         requires text { T.text self.old.text ≡ c ∷ T.text rest }
