@@ -1,5 +1,5 @@
 -- Characters that are read by themselves, and the runs of marks that they stand before.
-use Rattle.std.proofs.Common.{◌≡◌, ◌≢◌, ℕ, ◌<◌, ◌≤◌, Bool, true, false, ◌&&◌, ◌||◌, nat_le, List, [], ◌∷◌, ◌++◌, length, get_or, flat_map, Option, Some, None, IfSome, refl, sym, ap, ◌∙◌, append-nil, arith, zero-le}
+use Rattle.std.proofs.Common.{◌≡◌, ◌≢◌, ℕ, ◌<◌, ◌≤◌, Bool, true, false, ◌&&◌, ◌||◌, nat_le, List, [], ◌∷◌, ◌++◌, length, get_or, flat_map, Option, Some, None, IfSome, refl, sym, ap, subst, ◌∙◌, append-nil, append_assoc, arith, zero-le}
 use Rattle.std.proofs.lemmas.Bool.{and_parts, and_from, not-true, eqb-true, eq-eqb, ne_eqb, le-leb}
 use Rattle.ucd_normal.specs.CanonicalCombiningClass.{canonical_combining_class as class_of}
 use Rattle.ucd_normal.specs.declared.forms.Form.TheVariants.{Nfd}
@@ -27,7 +27,7 @@ use Rattle.icu_facts.specs.declared.char_words.Kept.{Kept}
 use Rattle.icu_facts.specs.declared.char_words.Kept.TheVariants.{Own, Facts, Nothing}
 use Rattle.icu_facts.specs.KeptFacts.{char_elements, IsOwn, StandsAlone, HasStarters, IsMarkedStarter, IsLoneMark, IsBase, IsNumberDigit, AreTrueFacts, StandByThemselves, IsPair, rises_to}
 use Rattle.icu_cursor.specs.inner.Places.{BeginsAtBoundary}
-use Rattle.icu_cursor.specs.inner.MarkRuns.{Rises, EndsRuns, IsInRun}
+use Rattle.icu_cursor.specs.inner.MarkRuns.{Rises, EndsRuns, IsInRun, IsMarkItself}
 use Rattle.icu_cursor.specs.inner.Standing.{StandsBefore, Serves, StandsAnywhere, KeptServes}
 
 -- ---- runs of marks
@@ -56,6 +56,10 @@ one_in_run c first split = record {
   ends = λ lowest. ends_runs c first [] split (eq-eqb (class_of first) 0 lowest);
   goes_on = goes_on c first split;
 }
+
+-- a mark that decomposes to itself
+pub mark_in_run : (c class : ℕ) → IsMarkItself c class → IsInRun c class
+mark_in_run c class h = subst (λ k. IsInRun c k) h.class (one_in_run c c h.itself)
 
 -- one whose decomposition begins with a starter
 pub starter_in_run : (c : ℕ) → EndsRuns c → IsInRun c 0
@@ -117,6 +121,19 @@ base_stands reading c l text h boundary = λ before.
     let after = context_after before (decompose Nfd c) in
     parted reading before after (c ∷ []) text boundary ∙ ap (λ (es : List Element). es ++ elements_after reading after (nfd text)) (h.at_end before)
 
+-- before a text that may be cut it gives what it gives before the first part
+pub cut_stands : (reading : Reading) (c : ℕ) (es : List Element) (text front rest : List ℕ) → text ≡ front ++ rest → BeginsAtBoundary reading rest
+    → StandsBefore reading c es front → StandsBefore reading c es text
+cut_stands reading c es text front rest parts boundary stands = λ before.
+    let after = context_after before (decompose Nfd c) in
+    let left = elements_after reading after (nfd rest) in
+    ap (λ (t : List ℕ). elements_after reading before (nfd (c ∷ t))) parts
+    ∙ parted reading before after (c ∷ front) rest boundary
+    ∙ ap (λ (fs : List Element). fs ++ left) (stands before)
+    ∙ append_assoc es (elements_after reading after (nfd front)) left
+    ∙ ap (λ (fs : List Element). es ++ fs) (sym (parted reading after after front rest boundary))
+    ∙ ap (λ (t : List ℕ). es ++ elements_after reading after (nfd t)) (sym parts)
+
 -- a character that stands alone gives the elements of its entry
 pub own_serves : (reading : Reading) (c : ℕ) → IsOwn reading c → StandsAnywhere reading c
 own_serves reading c h = record {
@@ -133,6 +150,7 @@ serves reading c l h = record {
   starters = λ kind text. starters_stand reading c l text (h.starters kind);
   marked = λ kind text. marked_stand reading c l text (h.marked kind);
   mark = λ kind text. marks_stand reading c l text (h.mark kind);
+  lone = λ kind. let m = h.mark kind in record { itself = m.itself; class = m.class };
   base = λ kind text boundary. base_stands reading c l text (h.base kind) boundary;
   digit = some_is l.digit (λ d. IsNumberDigit reading c d) h.digit;
   begins = λ begins. let b = h.begins begins in ends_runs c b.first b.more b.decomposes b.starter;
@@ -144,8 +162,11 @@ serves reading c l h = record {
 elements_set : IsSet (List Element)
 elements_set = is_set (hlevel props)
 
+characters_set : IsSet (List ℕ)
+characters_set = is_set (hlevel props)
+
 pub Serves-prop : (reading : Reading) (c : ℕ) (l : CharFacts) → IsProp (Serves reading c l)
-Serves-prop reading c l = hlevel (props, elements_set)
+Serves-prop reading c l = hlevel (props, elements_set, characters_set)
 
 pub KeptServes-prop : (reading : Reading) (c : ℕ) (k : Kept) → IsProp (KeptServes reading c k)
 KeptServes-prop reading c Own = hlevel (props, elements_set)

@@ -1,5 +1,5 @@
 -- A character that begins contractions, before a text that goes on none of them, gives what it gives at the end of one.
-use Rattle.std.proofs.Common.{◌≡◌, ◌≢◌, ℕ, ◌≤◌, Bool, true, false, ◌&&◌, nat_eq, List, [], ◌∷◌, ◌++◌, length, drop, append-nil, append_assoc, Option, Some, None, if◌then◌else◌, refl, sym, ap, ◌∙◌, inl, inr, arith, flat_map, subst, ◌||◌}
+use Rattle.std.proofs.Common.{◌≡◌, ◌≢◌, ℕ, ◌≤◌, Bool, true, false, ◌&&◌, nat_eq, List, [], ◌∷◌, ◌++◌, length, drop, append-nil, append_assoc, Option, Some, None, if◌then◌else◌, refl, sym, ap, ◌∙◌, inl, inr, arith, flat_map, subst, eq-eqb, ◌||◌}
 use Rattle.std.specs.Prelude.{bytes_eq}
 use Rattle.std.specs.List.{starts_with}
 use Rattle.std.proofs.lemmas.Bool.{cases_Bool, and_from, ne_eqb, true≢false}
@@ -24,9 +24,10 @@ use Rattle.icu_elements.proofs.StepLemmas.{elements_after_cons, elements_after_n
 use Rattle.icu_boundaries.specs.Alone.{context_after, stays_first, all_stay}
 use Rattle.icu_boundaries.proofs.NfdLemmas.{nfd-starters, nfd-nil, nfd-begins, nfd-stay, stays_first-rises}
 use Rattle.icu_facts.proofs.KeptBaseLemmas.{own_entry}
-use Rattle.icu_cursor.specs.inner.MarkRuns.{Rises}
+use Rattle.icu_cursor.specs.inner.MarkRuns.{Rises, IsMarkItself}
+use Rattle.icu_cursor.specs.inner.Places.{MayBeCut}
 use Rattle.icu_cursor.specs.inner.Standing.{StandsBefore}
-use Rattle.icu_cursor.specs.inner.Unjoined.{BeginsNone, GoesOnNone, IsUnjoined, BeginsContractions, HeadsRun}
+use Rattle.icu_cursor.specs.inner.Unjoined.{BeginsNone, GoesOnNone, IsUnjoined, IsUnjoinedBefore, BeginsContractions, HeadsRun, IsHead}
 use Rattle.icu_cursor.proofs.StandLemmas.{ends_runs, one_in_run, nothing_rises}
 
 -- ---- mappings
@@ -233,4 +234,38 @@ module _ (context : Context) where
       record {
         rises = (one_in_run c d split).goes_on other least text fits left.rises;
         goes_on = subst (GoesOnNone context) (sym (nfd-stay c (d ∷ []) text split stay)) (none, λ _. left.goes_on);
+      }
+
+-- ---- texts that may be cut behind such a run
+
+-- a mark that decomposes to itself
+pub mark_heads : (c class : ℕ) → IsMarkItself c class → IsHead c c class
+mark_heads c class h = record { heads = record { more = []; decomposes = h.itself; alone = λ _. refl }; class = h.class }
+
+module _ (reading : Reading) (context : Context) where
+  pub ended_before : (least : ℕ) → IsUnjoinedBefore reading context least []
+  ended_before least = record { front = []; rest = []; parts = refl; unjoined = ended_unjoined context least; boundary = tt }
+
+  pub cut_before : (least c : ℕ) (text : List ℕ) → MayBeCut reading c → IsUnjoinedBefore reading context least (c ∷ text)
+  cut_before least c text cut = record { front = []; rest = c ∷ text; parts = refl; unjoined = ended_unjoined context least; boundary = cut }
+
+  pub starter_before : (least c d class : ℕ) (text : List ℕ) → IsHead c d class → class ≡ 0 → BeginsNone context d → IsUnjoinedBefore reading context least (c ∷ text)
+  starter_before least c d class text h zero none = record {
+    front = c ∷ text;
+    rest = [];
+    parts = sym (append-nil (c ∷ text));
+    unjoined = starter_unjoined context least c d text h.heads (eq-eqb (class_of d) 0 (h.class ∙ zero)) none;
+    boundary = tt;
+  }
+
+  pub mark_before : (least c d class : ℕ) (text : List ℕ) → IsHead c d class → class ≢ 0 → least ≤ class → BeginsNone context d
+      → IsUnjoinedBefore reading context class text → IsUnjoinedBefore reading context least (c ∷ text)
+  mark_before least c d class text h other fits none left =
+      let same : class_of d ≡ class = h.class in record {
+        front = c ∷ left.front;
+        rest = left.rest;
+        parts = ap (λ (l : List ℕ). c ∷ l) left.parts;
+        unjoined = mark_unjoined context least c d left.front h.heads (λ e. other (sym same ∙ e)) (subst (λ (n : ℕ). least ≤ n) (sym same) fits) none
+            (subst (λ (n : ℕ). IsUnjoined context n left.front) (sym same) left.unjoined);
+        boundary = left.boundary;
       }

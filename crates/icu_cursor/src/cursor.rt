@@ -8,7 +8,7 @@ ghost use Rattle.icu_facts.specs.KeptFacts.{IsNumberDigit, IsPair, char_elements
 ghost use Rattle.icu_cursor.specs.Cursors.{cursor_gives, cursor_reading, gives_with, lone_gives};
 ghost use Rattle.icu_cursor.specs.inner.AllReady.{all_ready};
 ghost use Rattle.icu_cursor.specs.inner.Unread.{HasNothingReady, HasReadNothing};
-ghost use Rattle.icu_cursor.specs.inner.Standing.{Serves, StandsAnywhere, StandsBefore};
+ghost use Rattle.icu_cursor.specs.inner.Standing.{KeptServes, Serves, StandsAnywhere, StandsBefore};
 
 use crate::char_elements::CharElements;
 use crate::cursor_tables::CursorTables;
@@ -76,10 +76,10 @@ impl<'c, 'd, T: EncodedText, R: ReadyPlace> ElementCursor<'c, 'd, T, R> {
         ensures next { gives_with R.ready T.text self.old
             ≡ option_to_list result ++ gives_with R.ready T.text self.new }
     {
-        match self.text.split_first_ascii() {
-            Some((byte, rest)) => self.take_single(char::from(byte), rest),
-            None => self.take_other(),
+        if let Some((byte, rest)) = self.text.split_first_ascii() {
+            return self.take_single(char::from(byte), rest);
         }
+        self.take_other()
     }
 
     /// The element of a character that begins the text, where facts are kept of it and it has one, whatever follows.
@@ -115,7 +115,8 @@ impl<'c, 'd, T: EncodedText, R: ReadyPlace> ElementCursor<'c, 'd, T, R> {
         Some(elements[0])
     }
 
-    /// The first element of the next character, which isn't ASCII, where it is read by itself.
+    /// The first element of the next character, which isn't ASCII, where it is read by itself. What most letters take
+    /// comes first. Out of line, so that ASCII is read where it is asked for.
     #[inline(never)]
     fn take_other(&mut self) -> Option<CollationElement>
         requires { HasNothingReady R.ready self.old }
@@ -124,7 +125,25 @@ impl<'c, 'd, T: EncodedText, R: ReadyPlace> ElementCursor<'c, 'd, T, R> {
     {
         let (c, rest) = self.text.split_first_char()?;
         let tables = self.tables;
-        match tables.kept(c) {
+        let kept = tables.kept(c);
+        if let Kept::Facts(facts) = kept {
+            if facts.kind == FactsKind::Starters && facts.count == 1 {
+                return self.take_one(c, facts, rest);
+            }
+        }
+        self.take_kept(c, kept, rest)
+    }
+
+    /// The first element of a character of which this is kept, where it is read by itself.
+    #[inline(always)]
+    fn take_kept(&mut self, c: char, kept: Kept<'_>, rest: T) -> Option<CollationElement>
+        requires nothing { HasNothingReady R.ready self.old }
+        requires text { T.text self.old.text ≡ c ∷ T.text rest }
+        requires kept { KeptServes (cursor_reading self.old.tables.now) c kept }
+        ensures next { gives_with R.ready T.text self.old
+            ≡ option_to_list result ++ gives_with R.ready T.text self.new }
+    {
+        match kept {
             Kept::Own => self.take_own(c, rest),
             Kept::Facts(facts) => self.take_char(c, facts, rest),
             Kept::Nothing => self.take_syllable(c, rest),

@@ -8,10 +8,10 @@ ghost use Rattle.icu_facts.specs.KeptFacts.{IsNumberDigit, IsPair};
 ghost use Rattle.icu_facts.specs.FactsTables.{AreFacts};
 ghost use Rattle.icu_facts.specs.BoundaryTables.{boundary_reading};
 ghost use Rattle.icu_cursor.specs.inner.Places.{MayBeCut};
-ghost use Rattle.icu_cursor.specs.inner.MarkRuns.{IsInRun};
+ghost use Rattle.icu_cursor.specs.inner.MarkRuns.{EndsRuns, IsInRun};
 ghost use Rattle.icu_cursor.specs.inner.Standing.{KeptServes, Serves, StandsBefore};
 
-use crate::{Boundaries, CharFacts, Kept, KeptFacts};
+use crate::{Boundaries, CharFacts, FactsKind, Kept, KeptFacts};
 use icu_elements::TextReading;
 use icu_entries::CollationElement;
 use icu_facts::{FewElements, own_element, own_elements};
@@ -152,8 +152,21 @@ impl<'d> CursorTables<'d> {
         }
     }
 
+    /// Whether a run of marks ends before a character. False says nothing.
+    #[inline(always)]
+    pub(crate) fn ends_runs(&self, c: char) -> bool
+        ensures { IsTrue result → EndsRuns c }
+    {
+        match self.kept(c) {
+            Kept::Own => true,
+            Kept::Facts(facts) => facts.begins_with_starter,
+            Kept::Nothing => false,
+        }
+    }
+
     /// The class of a character in a run of marks: 0 where its decomposition begins with a starter, which ends the run.
     /// `None` where it decomposes to several characters, the first of which is a mark.
+    #[inline(always)]
     #[tactic(auto, unfolding(crate::specs::Cursors::cursor_reading))]
     pub(crate) fn class_in_run(&self, c: char) -> Option<u8>
         ensures { IfSome result (λ class. IsInRun c class) }
@@ -161,12 +174,14 @@ impl<'d> CursorTables<'d> {
         match self.kept(c) {
             Kept::Own => Some(0),
             Kept::Facts(facts) if facts.begins_with_starter => Some(0),
+            Kept::Facts(facts) if facts.kind == FactsKind::Mark => Some(facts.class),
             _ => class_of_first(c),
         }
     }
 }
 
 /// The class of a character in a run of marks, by its decomposition.
+#[inline(never)]
 fn class_of_first(c: char) -> Option<u8>
     ensures { IfSome result (λ class. IsInRun c class) }
 {

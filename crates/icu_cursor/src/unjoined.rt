@@ -9,9 +9,11 @@ ghost use Rattle.icu_collation_data.specs.StoredData.{found_context};
 ghost use Rattle.icu_entries.specs.Elements.{Element};
 ghost use Rattle.icu_cursor.specs.Cursors.{cursor_reading};
 ghost use Rattle.icu_cursor.specs.inner.Standing.{StandsBefore};
-ghost use Rattle.icu_cursor.specs.inner.Unjoined.{BeginsContractions, BeginsNone, HeadsRun, IsUnjoined};
+ghost use Rattle.icu_elements.specs.TextElements.{Reading};
+ghost use Rattle.icu_cursor.specs.inner.Unjoined.{BeginsContractions, BeginsNone, IsFollower, IsUnjoinedBefore};
 
 use crate::cursor_tables::CursorTables;
+use crate::{FactsKind, Kept};
 use icu_collation_data::FoundContext;
 use icu_encodings::EncodedText;
 use icu_entries::EntryKind;
@@ -68,23 +70,49 @@ fn begins_none(context: FoundContext<'_>, d: char) -> bool
     }
 }
 
-/// The first character that a character decomposes to, where that is the only one, or a starter.
-fn head_in_run(c: char) -> Option<char>
-    ensures { IfSome result (λ d. HeadsRun c d) }
+/// A character that follows one that begins contractions.
+#[derive(Debug, Clone, Copy)]
+pub(crate) enum Follower {
+    /// One before which the text may be cut.
+    Boundary,
+    /// One that decomposes to this character of this class alone, or to this starter and others.
+    Head(char, u8),
+    /// Any other.
+    Other,
+}
+
+/// What a character is that follows one that begins contractions, by its decomposition.
+#[inline(never)]
+fn decomposed_follower(c: char) -> Follower
+    ensures { (reading : Reading) → IsFollower reading c result }
 {
     let mut room = [c; 3];
     match decomposition(c, Form::Nfd, &mut room) {
-        [first] => Some(*first),
-        [first, ..] if canonical_combining_class(*first) == 0 => Some(*first),
-        _ => None,
+        [first] => Follower::Head(*first, canonical_combining_class(*first)),
+        [first, ..] if canonical_combining_class(*first) == 0 => Follower::Head(*first, 0),
+        _ => Follower::Other,
     }
 }
 
-/// Whether the classes of the marks that a text begins with rise, and no mapping of a context begins with one of them,
-/// nor with the starter after them. False says nothing.
-fn joins_none<T: EncodedText>(context: FoundContext<'_>, text: T) -> bool
+/// What a character is that follows one that begins contractions.
+#[inline]
+fn read_follower(tables: &CursorTables<'_>, c: char) -> Follower
+    ensures { IsFollower (cursor_reading tables.now) c result }
+{
+    match tables.kept(c) {
+        Kept::Own => Follower::Boundary,
+        Kept::Facts(facts) if facts.has_boundary_before => Follower::Boundary,
+        Kept::Facts(facts) if facts.kind == FactsKind::Mark => Follower::Head(c, facts.class),
+        _ => decomposed_follower(c),
+    }
+}
+
+/// Whether the classes of the marks that a text begins with rise, no mapping of a context begins with one of them, and
+/// the text may be cut after them, or no mapping begins with the starter there. False says nothing.
+fn joins_none<T: EncodedText>(tables: &CursorTables<'_>, context: FoundContext<'_>, text: T) -> bool
     requires { IsTrue (has_ascending_mappings (found_context context)) }
-    ensures { IsTrue result → IsUnjoined (found_context context.entry) 0 (T.text text) }
+    ensures { IsTrue result → IsUnjoinedBefore (cursor_reading tables.now)
+        (found_context context.entry) 0 (T.text text) }
 {
     let mut last = 0u8;
     let mut rest = text;
@@ -92,13 +120,14 @@ fn joins_none<T: EncodedText>(context: FoundContext<'_>, text: T) -> bool
         let Some((c, after)) = rest.split_first_char() else {
             return true;
         };
-        let Some(d) = head_in_run(c) else {
-            return false;
+        let (d, class) = match read_follower(tables, c) {
+            Follower::Boundary => return true,
+            Follower::Head(d, class) => (d, class),
+            Follower::Other => return false,
         };
         if !begins_none(context, d) {
             return false;
         }
-        let class = canonical_combining_class(d);
         if class == 0 {
             return true;
         }
@@ -120,7 +149,7 @@ pub(crate) fn is_unjoined<T: EncodedText>(tables: &CursorTables<'_>, c: char, te
         → StandsBefore (cursor_reading tables.now) c es (T.text text) }
 {
     match mappings_of(tables, c) {
-        Some(context) => joins_none(context, text),
+        Some(context) => joins_none(tables, context, text),
         None => false,
     }
 }

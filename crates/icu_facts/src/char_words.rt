@@ -35,8 +35,6 @@ pub(crate) struct CharWords {
 }
 
 impl CharWords {
-    ghost use Rattle.icu_facts.specs.KeptChars.{KeptChar};
-    ghost use Rattle.icu_facts.specs.declared.char_facts.CharFacts.{CharFacts};
     ghost use Rattle.icu_facts.specs.CharWords.{AreWords, IsKept, word_of_code};
 
     /// The words of all characters, as texts are read whose boundaries these are.
@@ -80,23 +78,12 @@ impl CharWords {
     pub(crate) fn get(&self, c: char) -> Kept<'_>
         ensures { (reading : Reading) → AreWords reading self.now → IsKept reading c result }
     {
-        match self.word(c) {
-            0 => Kept::Own,
-            1 => Kept::Nothing,
-            word => self.facts_at(word as usize - 2),
-        }
-    }
-
-    /// The facts at an index, where there are some.
-    #[inline(always)]
-    fn facts_at(&self, index: usize) -> Kept<'_>
-        ensures { (reading : Reading) (c : ℕ)
-            → ((other : CharFacts) → index < length self.now.facts.items
-            → KeptChar reading c (slice_index_or self.now.facts.items index other))
-            → IsKept reading c result }
-    {
+        let word = self.word(c);
+        let index = (word as usize).wrapping_sub(2);
         if index < self.facts.len() {
             Kept::Facts(&self.facts[index])
+        } else if word == 0 {
+            Kept::Own
         } else {
             Kept::Nothing
         }

@@ -11,7 +11,7 @@ use crate::bases::facts_to_keep;
 use crate::boundaries::Boundaries;
 use crate::char_facts::CharFacts;
 use crate::char_words::{CharWords, Kept};
-use crate::joined_pairs::{KeptPair, kept_pairs};
+use crate::joined_pairs::{KeptPair, kept_pairs, pair_slots};
 use crate::read_char::{facts_of, own_facts};
 use crate::syllables::is_syllable;
 use icu_checks::CheckedTables;
@@ -26,8 +26,10 @@ pub struct KeptFacts {
     pub(crate) jamo: Vec<CharFacts>,
     words: CharWords,
     pub(crate) pairs: Vec<KeptPair>,
+    pub(crate) pair_slots: Vec<u16>,
     ghost latin_count: { length latin.items ≡ 0x380 },
     ghost jamo_count: { length jamo.items ≡ 0x100 },
+    ghost slot_count: { length pair_slots.items ≡ 0x800 },
 }
 
 impl KeptFacts {
@@ -48,11 +50,13 @@ impl KeptFacts {
         let jamo = facts_from(alloc, places, 0x1100, 0x100)?;
         let words = CharWords::new(alloc, tables, &places)?;
         let pairs = kept_pairs(alloc, &places)?;
+        let pair_slots = pair_slots(alloc, pairs.as_slice())?;
         Ok(KeptFacts {
             latin,
             jamo,
             words,
             pairs,
+            pair_slots,
         })
     }
 

@@ -37,6 +37,9 @@ const LIMIT: u32 = 0xF00;
 /// Where so many pairs are kept, no further character is looked at: tables may give each character many.
 const MANY_PAIRS: usize = 4096;
 
+/// How many slots there are for indices of pairs.
+const SLOT_COUNT: usize = 0x800;
+
 /// Two characters, with the elements that they give together wherever they stand.
 #[derive(Debug, Clone, Copy)]
 pub(crate) struct KeptPair {
@@ -216,20 +219,23 @@ pub(crate) fn kept_pairs(
     Ok(pairs)
 }
 
-/// The index of the first pair that doesn't come before these characters.
-fn place_of(pairs: &[KeptPair], c: char, x: char) -> usize {
-    let mut low = 0;
-    let mut high = pairs.len();
-    while low < high {
-        let middle = low + (high - low) / 2;
-        let pair = pairs[middle];
-        if pair.first < c || (pair.first == c && pair.second < x) {
-            low = middle + 1;
-        } else {
-            high = middle;
-        }
+/// The slot of a pair. In CLDR's root each pair of Thai and of Lao has one of its own.
+fn slot_of(c: char, x: char) -> usize
+    ensures { result < 0x800 }
+{
+    (c as usize % 8) * 256 + x as usize % 256
+}
+
+/// For each slot the index of the last pair that has it.
+pub(crate) fn pair_slots(alloc: Global, pairs: &[KeptPair]) -> Result<Vec<u16>, AllocError>
+    ensures { IfOk result (λ slots. length slots.items ≡ 0x800) }
+{
+    let mut slots = vec![in alloc; 0u16; SLOT_COUNT]?;
+    for index in 0..pairs.len().min(0xFFFF) {
+        let pair = &pairs[index];
+        slots[slot_of(pair.first, pair.second)] = index as u16;
     }
-    low
+    Ok(slots)
 }
 
 impl KeptFacts {
@@ -238,7 +244,7 @@ impl KeptFacts {
         ensures { (reading : Reading) → AreFacts reading self.now
             → IfSome result (λ few. IsPair reading c x (few_elements few)) }
     {
-        let index = place_of(&self.pairs, c, x);
+        let index = self.pair_slots[slot_of(c, x)] as usize;
         if index >= self.pairs.len() {
             return None;
         }

@@ -1,5 +1,6 @@
 -- Runs of marks in a text that isn't decomposed.
-use Rattle.std.specs.Prelude.{◌≡◌, ◌≢◌, ◌≤◌, ℕ, true, List, ◌∷◌, flat_map}
+use Rattle.std.specs.Prelude.{◌≡◌, ◌≢◌, ◌≤◌, ℕ, true, List, [], ◌∷◌, flat_map}
+use Rattle.ucd_normal.specs.CanonicalCombiningClass.{canonical_combining_class as class_of}
 use Rattle.ucd_normal.specs.declared.forms.Form.TheVariants.{Nfd}
 use Rattle.unicode_normalization.specs.Decompose.{decompose}
 use Rattle.icu_boundaries.specs.Alone.{rises_from}
@@ -16,3 +17,8 @@ EndsRuns c = (least : ℕ) (text : List ℕ) → Rises least (c ∷ text)
 pub record IsInRun (c class : ℕ) : Type 0 where
   pub ends : class ≡ 0 → EndsRuns c
   pub goes_on : class ≢ 0 → (least : ℕ) (text : List ℕ) → least ≤ class → Rises class text → Rises least (c ∷ text)
+
+-- a mark of this class that decomposes to itself
+pub record IsMarkItself (c k : ℕ) : Type 0 where
+  pub itself : decompose Nfd c ≡ c ∷ []
+  pub class : class_of c ≡ k

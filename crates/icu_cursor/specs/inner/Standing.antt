@@ -12,7 +12,7 @@ use Rattle.icu_facts.specs.KeptFacts.{char_elements, IsNumberDigit}
 use Rattle.icu_facts.specs.declared.char_words.Kept.{Kept}
 use Rattle.icu_facts.specs.declared.char_words.Kept.TheVariants.{Own, Facts, Nothing}
 use Rattle.icu_cursor.specs.inner.Places.{MayBeCut, BeginsAtBoundary}
-use Rattle.icu_cursor.specs.inner.MarkRuns.{Rises, EndsRuns}
+use Rattle.icu_cursor.specs.inner.MarkRuns.{Rises, EndsRuns, IsMarkItself}
 
 -- a character gives these elements before a text, whatever stands before, and the text gives what it gives after it
 abbrev pub StandsBefore : Reading → ℕ → List Element → List ℕ → Type 0
@@ -25,6 +25,7 @@ pub record Serves (reading : Reading) (c : ℕ) (l : CharFacts) : Type 0 where
   pub starters : l.kind ≡ Starters → (text : List ℕ) → StandsBefore reading c (char_elements l) text
   pub marked : l.kind ≡ Marked → (text : List ℕ) → Rises l.class text → StandsBefore reading c (char_elements l) text
   pub mark : l.kind ≡ Mark → (text : List ℕ) → Rises l.class text → StandsBefore reading c (char_elements l) text
+  pub lone : l.kind ≡ Mark → IsMarkItself c l.class
   pub base : l.kind ≡ Base → (text : List ℕ) → BeginsAtBoundary reading text → StandsBefore reading c (char_elements l) text
   pub digit : (d : ℕ) → l.digit ≡ Some d → IsNumberDigit reading c d
   pub begins : IsTrue l.begins_with_starter → EndsRuns c

@@ -1,8 +1,9 @@
 -- A character that begins contractions, before a text that goes on none of them.
-use Rattle.std.specs.Prelude.{◌≡◌, ℕ, List, [], ◌∷◌, true, false, None, ⊤}
+use Rattle.std.specs.Prelude.{◌≡◌, ℕ, List, [], ◌∷◌, ◌++◌, true, false, None, ⊤}
 use Rattle.ucd_normal.specs.declared.forms.Form.TheVariants.{Nfd}
 use Rattle.unicode_normalization.specs.Decompose.{decompose}
 use Rattle.unicode_normalization.specs.Forms.{nfd}
+use Rattle.ucd_normal.specs.CanonicalCombiningClass.{canonical_combining_class as class_of}
 use Rattle.unicode_normalization.specs.Order.{is_starter}
 use Rattle.icu_entries.specs.declared.entry.EntryKind.TheVariants.{Contraction}
 use Rattle.icu_entries.specs.Entries.{kind_of}
@@ -11,6 +12,9 @@ use Rattle.icu_provider.specs.Tables.{entry_of, diacritic_of}
 use Rattle.icu_matches.specs.MatchesAhead.{are_decided}
 use Rattle.icu_elements.specs.TextElements.{Reading}
 use Rattle.icu_cursor.specs.inner.MarkRuns.{Rises}
+use Rattle.icu_cursor.specs.inner.Places.{BeginsAtBoundary, MayBeCut}
+use Rattle.icu_cursor.specs.declared.unjoined.Follower.{Follower}
+use Rattle.icu_cursor.specs.declared.unjoined.Follower.TheVariants.{Boundary, Head, Other}
 
 -- no mapping of a context begins with the character
 pub record BeginsNone (context : Context) (d : ℕ) : Type 0 where
@@ -42,3 +46,22 @@ pub record HeadsRun (c d : ℕ) : Type 0 where
   pub more : List ℕ
   pub decomposes : decompose Nfd c ≡ d ∷ more
   pub alone : is_starter d ≡ false → more ≡ []
+
+-- so it is with a beginning of a text that ends or may be cut after it
+pub record IsUnjoinedBefore (reading : Reading) (context : Context) (least : ℕ) (text : List ℕ) : Type 0 where
+  pub front : List ℕ
+  pub rest : List ℕ
+  pub parts : text ≡ front ++ rest
+  pub unjoined : IsUnjoined context least front
+  pub boundary : BeginsAtBoundary reading rest
+
+-- a character decomposes to this one, of this class, alone, or to this starter and others
+pub record IsHead (c d k : ℕ) : Type 0 where
+  pub heads : HeadsRun c d
+  pub class : class_of d ≡ k
+
+-- what a character is that follows one that begins contractions
+abbrev pub IsFollower : Reading → ℕ → Follower → Type 0
+IsFollower reading c Boundary = MayBeCut reading c
+IsFollower reading c (Head d class) = IsHead c d class
+IsFollower reading c Other = ⊤

@@ -1,5 +1,5 @@
 use Rattle.icu_cursor.specs.inner.MarkRuns.{Rises}
-use Rattle.icu_cursor.proofs.stands.marks_rise.Given as goal
+use Rattle.icu_cursor.proofs.stands.more_marks_rise.Given as goal
 
 -- where the rest rises from the last class, so does the text from the first
 abbrev pub invariant-marks : goal.invariant-marks
