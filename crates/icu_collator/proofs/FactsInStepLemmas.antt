@@ -1,7 +1,6 @@
 -- Two texts of which characters are read, gone through in step, where no element is variable.
-use Rattle.std.proofs.Common.{◌≡◌, ℕ, List, [], ◌∷◌, map, Option, Some, None, IfSome, Ordering, Less, Equal, Greater, true, false, refl, sym, ap, ap₂, subst, ◌∙◌}
+use Rattle.std.proofs.Common.{◌≡◌, ℕ, List, [], ◌∷◌, map, Option, Some, None, IfSome, Ordering, Less, Equal, Greater, option_map, refl, sym, ap, ap₂, subst, ◌∙◌}
 use Rattle.std.specs.Ordering.{ordering_then}
-use Rattle.std.specs.Option.{is_some}
 use Rattle.unicode_normalization.specs.Forms.{nfd}
 use Rattle.icu_entries.specs.Elements.{Element}
 use Rattle.icu_levels.specs.ListOrder.{list_order}
@@ -20,11 +19,15 @@ use Rattle.icu_weighting.specs.declared.handled_element.Handled.{Handled}
 use Rattle.icu_weighting.specs.declared.handled_element.Handled.TheVariants.{Stayed}
 use Rattle.icu_text_order.specs.TextOrder.{handled_by, lists_by, reading_by, text_order}
 use Rattle.icu_collator.specs.declared.forward_levels.Level.{Level}
+use Rattle.icu_collator.specs.declared.forward_levels.Level.TheVariants.{Primary, Tertiary}
+use Rattle.icu_provider.specs.CollatorTables.{reorder_by}
+use Rattle.icu_provider.specs.StoredTables.{reordering_of}
+use Rattle.icu_provider.specs.declared.reordering.CollationReordering.{CollationReordering}
 use Rattle.icu_collator.specs.inner.ElementOrders.{ReadsElementsAlone, elements_order, leading_order}
-use Rattle.icu_collator.specs.inner.FactsInStep.{EndAlike, OrderFrom, StepsOn, WeighsOn, plain_left, weights_from}
-use Rattle.icu_collator.specs.inner.InStep.{from_first, order_from, order_on, three_order, three_levels, ThreeLevels, IsThreeLevel, StepBoth, DecidesOn}
-use Rattle.icu_collator.specs.inner.LevelWeights.{weight_in, level_weights}
-use Rattle.icu_collator.proofs.InStepLemmas.{tied_order, same_order, step_both, first_decides, second_decides, three_read, weights_of_first, no_weight_of_first}
+use Rattle.icu_collator.specs.inner.FactsInStep.{StepsOn, WeighsOn, plain_left, weights_from}
+use Rattle.icu_collator.specs.inner.InStep.{from_first, order_on, three_order, three_levels, ThreeLevels, IsThreeLevel, StepBoth, StepsBy, DecidesOn}
+use Rattle.icu_collator.specs.inner.LevelWeights.{read_as, weight_in, level_weights}
+use Rattle.icu_collator.proofs.InStepLemmas.{tied_order, same_order, steps_by, step_both, first_decides, second_decides, three_read, weights_of_first, no_weight_of_first}
 use Rattle.icu_collator.proofs.OrdersInTurn.{all_stay, order_in_two}
 
 -- ---- one element
@@ -38,142 +41,89 @@ steps_end text old new h = λ before. (before, ap (map stayed) (h before))
 
 -- ---- two texts
 
-some_given : (h : Option Handled) → is_some h ≡ true → (x : Handled) × (h ≡ Some x)
-some_given None e = cc
-some_given (Some x) e = (x, refl)
-
-none_given : (h : Option Handled) → is_some h ≡ false → h ≡ None
-none_given None e = refl
-none_given (Some x) e = cc
-
 pub same_found : (found : Option Ordering) (x y : Ordering) → x ≡ y → IfSome found (λ o. o ≡ x) → IfSome found (λ o. o ≡ y)
 same_found found x y e h = subst (λ (w : Ordering). IfSome found (λ o. o ≡ w)) e h
 
 -- elements that decide on the first level decide
-decided_on_first : (levels : ThreeLevels) (us vs : List HandledElement) (h k : Option Handled) (found : Option Ordering) → IfSome found (λ o. DecidesOn levels.first h k o)
-    → IfSome found (λ o. o ≡ three_order levels Equal (from_first h us) (from_first k vs))
-decided_on_first levels us vs h k None decides = tt
-decided_on_first levels us vs h k (Some o) decides =
+pub decided_on_first : (levels : ThreeLevels) (third : Ordering) (us vs : List HandledElement) (h k : Option Handled) (found : Option Ordering) → IfSome found (λ o. DecidesOn levels.first h k o)
+    → IfSome found (λ o. o ≡ three_order levels third (from_first h us) (from_first k vs))
+decided_on_first levels third us vs h k None decides = tt
+decided_on_first levels third us vs h k (Some o) decides =
     let d = decides us vs in
-    first_decides levels Equal (from_first h us) (from_first k vs) o d.0 d.1
+    first_decides levels third (from_first h us) (from_first k vs) o d.0 d.1
 
--- on each level, lists in an order that others have
-by_levels : (levels : ThreeLevels) (third : Ordering) (hs ks us vs : List HandledElement) → ((level : Level) → order_on level hs ks ≡ order_on level us vs)
-    → three_order levels third hs ks ≡ three_order levels third us vs
-by_levels levels third hs ks us vs same = rw (same levels.first, same levels.second, same levels.third) refl
+-- the same element in front of both changes nothing
+pub same_steps : (levels : ThreeLevels) (h : Handled) → StepsBy levels h h Equal
+same_steps levels h = record {
+  on_first = λ hs ks. tied_order levels.first (handled_as h) (handled_as h) hs ks refl;
+  on_second = λ hs ks. tied_order levels.second (handled_as h) (handled_as h) hs ks refl;
+  on_third = λ hs ks. tied_order levels.third (handled_as h) (handled_as h) hs ks refl;
+}
 
-pub all_tie : (levels : ThreeLevels) (third : Ordering) (hs ks : List HandledElement) → ((level : Level) → order_on level hs ks ≡ Equal) → three_order levels third hs ks ≡ third
-all_tie levels third hs ks ties = rw (ties levels.first, ties levels.second, ties levels.third) (then_equal third)
+-- nor do elements of the same primary and the same secondary, but for the third level
+pub alike_steps : (reordering : Option CollationReordering) (form : TertiaryForm) (x y : Element) (r : Option Ordering) → x.primary ≡ y.primary → x.secondary ≡ y.secondary
+    → IfSome r (λ o. (hs ks : List HandledElement) → order_on (Tertiary form) (stayed x ∷ hs) (stayed y ∷ ks) ≡ ordering_then o (order_on (Tertiary form) hs ks))
+    → IfSome r (λ o. StepsBy (three_levels (Primary reordering) form) (Stayed x) (Stayed y) o)
+alike_steps reordering form x y r e f h =
+    steps_by (three_levels (Primary reordering) form) (Stayed x) (Stayed y) r
+    (ap (λ (p : ℕ). read_as p (reorder_by (option_map reordering_of reordering) p)) e)
+    (ap (λ (s : ℕ). read_as s s) f)
+    h
+
+-- two elements that were given step both
+pub both_given : (levels : ThreeLevels) (h k : Option Handled) (x y : Handled) (found : Option Ordering) → h ≡ Some x → k ≡ Some y
+    → IfSome found (λ o. StepsBy levels x y o) → IfSome found (λ o. StepBoth levels h k o)
+both_given levels h k x y None e f steps = tt
+both_given levels h k x y (Some o) e f steps =
+    subst (λ (a : Option Handled). StepBoth levels a k o) (sym e) (subst (λ (b : Option Handled). StepBoth levels (Some x) b o) (sym f) steps)
+
+both_nothing : (levels : ThreeLevels) (third : Ordering) → three_order levels third [] [] ≡ third
+both_nothing levels third =
+    rw (same_order levels.first [] [] refl, same_order levels.second [] [] refl, same_order levels.third [] [] refl) (then_equal third)
 
 module _ {T U : Type 0} (text : T → List ℕ) (other_text : U → List ℕ) where
-  -- what is left orders on each level as the whole
-  abbrev pub OrderAlike : FactsCursor T → FactsCursor U → FactsCursor T → FactsCursor U → Type 0
-  OrderAlike left right one other =
+  -- what is left orders as the whole, after elements that have this order on the third level and tie on the others
+  abbrev pub LeavesOrder : ThreeLevels → FactsCursor T → FactsCursor U → Ordering → FactsCursor T → FactsCursor U → Type 0
+  LeavesOrder levels left right third one other =
       (b d : List ℕ) → (b' : List ℕ) × (d' : List ℕ)
-      × ((level : Level) → order_on level (plain_left text left b) (plain_left other_text right d) ≡ order_on level (plain_left text one b') (plain_left other_text other d'))
+      × (three_order levels Equal (plain_left text left b) (plain_left other_text right d)
+      ≡ three_order levels third (plain_left text one b') (plain_left other_text other d'))
 
-  pub nothing_passed : (left : FactsCursor T) (right : FactsCursor U) → OrderAlike left right left right
-  nothing_passed left right = λ b d. (b, d, λ level. refl)
+  pub nothing_compared : (levels : ThreeLevels) (left : FactsCursor T) (right : FactsCursor U) → LeavesOrder levels left right Equal left right
+  nothing_compared levels left right = λ b d. (b, d, refl)
 
-  module _ (left one one' : FactsCursor T) (right other other' : FactsCursor U) (h k : Option Handled)
-      (so_far : OrderAlike left right one other) (s : StepsOn text one h one') (t : StepsOn other_text other k other') where
-    -- elements that may differ
-    pub from_pair : OrderFrom text other_text left right h k one' other'
-    from_pair = λ b d.
+  module _ (levels : ThreeLevels) (left one one' : FactsCursor T) (right other other' : FactsCursor U) (third : Ordering) (h k : Option Handled)
+      (so_far : LeavesOrder levels left right third one other) (s : StepsOn text one h one') (t : StepsOn other_text other k other') where
+    from_pair : (b d : List ℕ) → (b' : List ℕ) × (d' : List ℕ)
+        × (three_order levels Equal (plain_left text left b) (plain_left other_text right d)
+        ≡ three_order levels third (from_first h (plain_left text one' b')) (from_first k (plain_left other_text other' d')))
+    from_pair b d =
         let at = so_far b d in
         let n = s at.0 in
         let m = t at.1 in
-        (n.0, m.0, λ level. at.2 level ∙ ap₂ (order_on level) n.1 m.1)
+        (n.0, m.0, at.2 ∙ ap₂ (three_order levels third) n.1 m.1)
 
-    -- the same element
-    pub same_passed : h ≡ k → is_some h ≡ true → OrderAlike left right one' other'
-    same_passed same some = λ b d.
-        let from = from_pair b d in
-        let x = (some_given h some).0 in
-        let is = (some_given h some).1 in (
-          from.0,
-          from.1,
-          λ level. from.2 level
-              ∙ ap₂ (λ (y z : Option Handled). order_from level y z (plain_left text one' from.0) (plain_left other_text other' from.1)) is (sym same ∙ is)
-              ∙ tied_order level (handled_as x) (handled_as x) (plain_left text one' from.0) (plain_left other_text other' from.1) refl,
-        )
+    -- both gave an element, and those are in step
+    pub both_step : (o : Ordering) → StepBoth levels h k o → LeavesOrder levels left right (ordering_then third o) one' other'
+    both_step o by = λ b d.
+        let at = from_pair b d in
+        let us = plain_left text one' at.0 in
+        let vs = plain_left other_text other' at.1 in
+        (at.0, at.1, at.2 ∙ step_both levels third (from_first h us) (from_first k vs) us vs h k o (λ level. refl) by)
 
-    -- both have ended
-    pub ended_alike : h ≡ k → is_some h ≡ false → EndAlike text other_text left right
-    ended_alike same nothing = λ b d level.
-        let from = from_pair b d in
-        let none = none_given h nothing in
-        from.2 level
-        ∙ ap₂ (λ (y z : Option Handled). order_from level y z (plain_left text one' from.0) (plain_left other_text other' from.1)) none (sym same ∙ none)
-        ∙ same_order level [] [] refl
-
-  -- the order of whole texts, from elements on at which they differ
-  module _ (levels : ThreeLevels) (left one : FactsCursor T) (right other : FactsCursor U) (h k : Option Handled) (from : OrderFrom text other_text left right h k one other)
-      (found : Option Ordering) where
-    whole : (b d : List ℕ) → (b' : List ℕ) × (d' : List ℕ)
-        × (three_order levels Equal (plain_left text left b) (plain_left other_text right d)
-        ≡ three_order levels Equal (from_first h (plain_left text one b')) (from_first k (plain_left other_text other d')))
-    whole b d =
-        let at = from b d in
-        (at.0, at.1, by_levels levels Equal (plain_left text left b) (plain_left other_text right d) (from_first h (plain_left text one at.0)) (from_first k (plain_left other_text other at.1)) at.2)
-
-    pub found_from : ((b d : List ℕ) → IfSome found (λ o. o ≡ three_order levels Equal (from_first h (plain_left text one b)) (from_first k (plain_left other_text other d))))
-        → (b d : List ℕ) → IfSome found (λ o. o ≡ three_order levels Equal (plain_left text left b) (plain_left other_text right d))
-    found_from later b d =
-        let at = whole b d in
-        same_found found _ _ (sym at.2) (later at.0 at.1)
-
-    pub pair_decides : IfSome found (λ o. DecidesOn levels.first h k o) → (b d : List ℕ) → IfSome found (λ o. o ≡ three_order levels Equal (plain_left text left b) (plain_left other_text right d))
-    pair_decides decides = found_from (λ b d. decided_on_first levels (plain_left text one b) (plain_left other_text other d) h k found decides)
-
-  -- ---- elements in step
-
-  -- from elements on, what is left orders as from others
-  abbrev pub LeavesOrder : ThreeLevels → FactsCursor T → FactsCursor U → Option Handled → Option Handled → Ordering → FactsCursor T → FactsCursor U → Option Handled → Option Handled → Type 0
-  LeavesOrder levels left right h k third one other h' k' =
-      (b d : List ℕ) → (b' : List ℕ) × (d' : List ℕ)
-      × (three_order levels Equal (from_first h (plain_left text left b)) (from_first k (plain_left other_text right d))
-      ≡ three_order levels third (from_first h' (plain_left text one b')) (from_first k' (plain_left other_text other d')))
-
-  pub nothing_compared : (levels : ThreeLevels) (left : FactsCursor T) (right : FactsCursor U) (h k : Option Handled) → LeavesOrder levels left right h k Equal left right h k
-  nothing_compared levels left right h k = λ b d. (b, d, refl)
-
-  module _ (levels : ThreeLevels) (left one : FactsCursor T) (right other : FactsCursor U) (h k h' k' : Option Handled) (third : Ordering)
-      (so_far : LeavesOrder levels left right h k third one other h' k') where
-    -- a step that both took
-    module _ (o : Ordering) (by : StepBoth levels h' k' o) where
-      stepped : (b d : List ℕ) → (b' : List ℕ) × (d' : List ℕ)
-          × (three_order levels Equal (from_first h (plain_left text left b)) (from_first k (plain_left other_text right d))
-          ≡ three_order levels (ordering_then third o) (plain_left text one b') (plain_left other_text other d'))
-      stepped b d =
-          let at = so_far b d in
-          let us = plain_left text one at.0 in
-          let vs = plain_left other_text other at.1 in
-          (at.0, at.1, at.2 ∙ step_both levels third (from_first h' us) (from_first k' vs) us vs h' k' o (λ level. refl) by)
-
-      pub both_step : (one' : FactsCursor T) (other' : FactsCursor U) (x y : Option Handled) → OrderFrom text other_text one other x y one' other'
-          → LeavesOrder levels left right h k (ordering_then third o) one' other' x y
-      both_step one' other' x y from = λ b d.
-          let at = stepped b d in
-          let n = from at.0 at.1 in (
-            n.0,
-            n.1,
-            at.2 ∙ by_levels levels (ordering_then third o) (plain_left text one at.0) (plain_left other_text other at.1)
-                (from_first x (plain_left text one' n.0)) (from_first y (plain_left other_text other' n.1)) n.2,
-          )
-
-      pub both_ended : EndAlike text other_text one other
-          → (b d : List ℕ) → ordering_then third o ≡ three_order levels Equal (from_first h (plain_left text left b)) (from_first k (plain_left other_text right d))
-      both_ended ended b d =
-          let at = stepped b d in
-          sym (at.2 ∙ all_tie levels (ordering_then third o) (plain_left text one at.0) (plain_left other_text other at.1) (λ level. ended at.0 at.1 level))
+    pub both_ended : h ≡ None → k ≡ None → (b d : List ℕ) → third ≡ three_order levels Equal (plain_left text left b) (plain_left other_text right d)
+    both_ended none none' b d =
+        let at = from_pair b d in
+        sym (at.2
+        ∙ ap₂ (λ (x y : Option Handled). three_order levels third (from_first x (plain_left text one' at.0)) (from_first y (plain_left other_text other' at.1))) none none'
+        ∙ both_nothing levels third)
 
     -- they go on out of step
-    pub out_of_step : (found : Option Ordering)
-        → ((b d : List ℕ) (t : Ordering) → IfSome found (λ o. o ≡ three_order levels t (from_first h' (plain_left text one b)) (from_first k' (plain_left other_text other d))))
-        → (b d : List ℕ) → IfSome found (λ o. o ≡ three_order levels Equal (from_first h (plain_left text left b)) (from_first k (plain_left other_text right d)))
-    out_of_step found by b d =
-        let at = so_far b d in
+    pub step_apart : (found : Option Ordering)
+        → ((b d : List ℕ) (t : Ordering) → IfSome found (λ o. o ≡ three_order levels t (from_first h (plain_left text one' b)) (from_first k (plain_left other_text other' d))))
+        → (b d : List ℕ) → IfSome found (λ o. o ≡ three_order levels Equal (plain_left text left b) (plain_left other_text right d))
+    step_apart found by b d =
+        let at = from_pair b d in
         same_found found _ _ (sym at.2) (by at.0 at.1 third)
 
 -- where the first level ties, these elements decide on the second one

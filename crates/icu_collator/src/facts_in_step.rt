@@ -1,23 +1,29 @@
 //! Two texts gone through in step by what is kept of their characters, where no element is variable: no text is read
 //! anew, and no cursor is made that may allocate.
 
-ghost use Rattle.std.specs.Prelude.{◌≡◌, ℕ, List, None, IfSome, MatchOption};
+ghost use Rattle.std.specs.Prelude.{◌≡◌, ℕ, List, Option, None, IfSome};
 ghost use Rattle.std.specs.declared.cmp.Ordering.TheVariants.{Equal};
 ghost use Rattle.icu_levels.specs.ListOrder.{list_order};
 ghost use Rattle.icu_collator.specs.inner.InStep.{from_first, order_from, three_order, three_levels, StepBoth, StepsBy};
-ghost use Rattle.icu_collator.specs.inner.FactsInStep.{StepsOn, WeighsOn, plain_left, weights_from, EndAlike, OrderFrom};
+ghost use Rattle.icu_collator.specs.inner.FactsInStep.{StepsOn, WeighsOn, plain_left, weights_from};
+ghost use Rattle.icu_provider.specs.declared.reordering.CollationReordering.{CollationReordering};
+ghost use Rattle.icu_weighting.specs.declared.handled_element.Handled.TheVariants.{Stayed};
 ghost use Rattle.icu_collator.specs.declared.forward_levels.Level.TheVariants.{Primary};
 
 use crate::forward_levels::Level;
-use crate::in_step::{Pair, order_of_pair};
+use crate::in_step::Pair;
 use icu_cursor::FactsCursor;
 use icu_encodings::EncodedText;
+use icu_entries::CollationElement;
 use icu_levels::forms::TertiaryForm;
 use icu_provider::CollationReordering;
 use icu_weighting::Handled;
 use std::cmp::Ordering;
 
-/// How many elements of each text are gone through, at most, and how many are passed over to the next weight.
+/// How many elements of each text are gone through in step, at most.
+const ELEMENTS_IN_STEP: u32 = 256;
+
+/// How many weights are compared out of step, at most, and how many elements are passed over to the next weight.
 const ELEMENTS_AHEAD: u32 = 64;
 
 /// The next element of a text, as it is where none is variable: `Some(None)` after the last one. `None` says nothing.
@@ -31,45 +37,56 @@ fn next_stayed<T: EncodedText>(text: &mut FactsCursor<'_, '_, T>) -> Option<Opti
     }
 }
 
-/// The order on the tertiary level of the elements that two texts gave, if both gave one, and these tie on the first
-/// and the secondary level.
+/// The order of two elements on the tertiary level, where they have the same primary and the same secondary weight, and
+/// both have a tertiary weight, or neither has.
+#[inline(always)]
+fn order_of_elements(
+    form: TertiaryForm,
+    one: CollationElement,
+    other: CollationElement,
+) -> Option<Ordering>
+    ensures { (reordering : Option CollationReordering) → IfSome result (λ o.
+        StepsBy (three_levels (Primary reordering) form) (Stayed one) (Stayed other) o) }
+{
+    if one == other {
+        return Some(Ordering::Equal);
+    }
+    if one.primary() != other.primary() || one.secondary() != other.secondary() {
+        return None;
+    }
+    Level::Tertiary(form).order_of_weights(&Handled::Stayed(one), &Handled::Stayed(other))
+}
+
+/// The order of two handled elements as `order_of_elements` has it, where both stayed.
+#[inline(always)]
+fn order_of_both(form: TertiaryForm, one: Handled, other: Handled) -> Option<Ordering>
+    ensures { (reordering : Option CollationReordering) → IfSome result (λ o.
+        StepsBy (three_levels (Primary reordering) form) one other o) }
+{
+    match one {
+        Handled::Stayed(one) => match other {
+            Handled::Stayed(other) => order_of_elements(form, one, other),
+            Handled::Shifted(_) => None,
+        },
+        Handled::Shifted(_) => None,
+    }
+}
+
+/// The order on the tertiary level of the elements that two texts gave, if both gave one, and these have the same
+/// primary and the same secondary weight.
 #[inline(always)]
 fn order_of_step(
-    first: Level<'_>,
     form: TertiaryForm,
     one: &Option<Handled>,
     other: &Option<Handled>,
 ) -> Option<Ordering>
-    ensures { IfSome result (λ o. StepBoth (three_levels first.entry form) one.now other.now o) }
+    ensures { (reordering : Option CollationReordering) → IfSome result (λ o.
+        StepBoth (three_levels (Primary reordering) form) one.now other.now o) }
 {
     match (*one, *other) {
-        (Some(one), Some(other)) => order_of_pair(first, form, &one, &other),
+        (Some(one), Some(other)) => order_of_both(form, one, other),
         _ => None,
     }
-}
-
-/// Goes past the elements that both texts give, and returns the first that differ, or `Some(None)` where both have
-/// ended. `None` says nothing.
-#[inline(always)]
-fn first_unlike<L: EncodedText, R: EncodedText>(
-    left: &mut FactsCursor<'_, '_, L>,
-    right: &mut FactsCursor<'_, '_, R>,
-) -> Option<Option<Pair>>
-    ensures { IfSome result (λ found. MatchOption found
-        (EndAlike L.text R.text left.old right.old)
-        (λ p. OrderFrom L.text R.text left.old right.old p.0 p.1 left.new right.new)) }
-{
-    'pairs: for _ in 0..ELEMENTS_AHEAD {
-        let one = next_stayed(left)?;
-        let other = next_stayed(right)?;
-        if one != other {
-            return Some(Some((one, other)));
-        }
-        if one.is_none() {
-            return Some(None);
-        }
-    }
-    None
 }
 
 /// The order of two texts on three levels, as far as their elements are in step and both texts are known: where they
@@ -84,49 +101,47 @@ pub(crate) fn order_in_step<L: EncodedText, R: EncodedText>(
         o ≡ three_order (three_levels (Primary reordering.entry) form)
         Equal (plain_left L.text left.old b) (plain_left R.text right.old d)) }
 {
-    let Some(pair) = first_unlike(left, right)? else {
-        return Some(Ordering::Equal);
-    };
-    let decided = Level::Primary(reordering).decide(&pair.0, &pair.1);
-    if decided.is_some() {
-        return decided;
+    let mut third = Ordering::Equal;
+    'pairs: for _ in 0..ELEMENTS_IN_STEP {
+        let one = next_stayed(left)?;
+        let other = next_stayed(right)?;
+        if one.is_none() && other.is_none() {
+            return Some(third);
+        }
+        match order_of_step(form, &one, &other) {
+            Some(order) => third = third.then(order),
+            None => return order_apart(reordering, form, (one, other), left, right),
+        }
     }
-    order_from_unlike(reordering, form, pair, left, right)
+    None
 }
 
-/// The order from these elements on, which were read last, as far as elements are in step and both texts are known.
-#[inline(never)]
-fn order_from_unlike<L: EncodedText, R: EncodedText>(
+/// The order from these elements on, which were read last and aren't in step: by their primary weights, or by what
+/// follows.
+#[inline(always)]
+fn order_apart<L: EncodedText, R: EncodedText>(
     reordering: Option<CollationReordering<'_>>,
     form: TertiaryForm,
     pair: Pair,
     left: &mut FactsCursor<'_, '_, L>,
     right: &mut FactsCursor<'_, '_, R>,
 ) -> Option<Ordering>
-    ensures { (b d : List ℕ) → IfSome result (λ o.
-        o ≡ three_order (three_levels (Primary reordering.entry) form)
-        Equal (from_first pair.0 (plain_left L.text left.old b))
+    ensures { (b d : List ℕ) (third : Ordering) → IfSome result (λ o.
+        o ≡ three_order (three_levels (Primary reordering.entry) form) third
+        (from_first pair.0 (plain_left L.text left.old b))
         (from_first pair.1 (plain_left R.text right.old d))) }
 {
     let first = Level::Primary(reordering);
-    let mut pair = pair;
-    let mut third = Ordering::Equal;
-    'pairs: for _ in 0..ELEMENTS_AHEAD {
-        match order_of_step(first, form, &pair.0, &pair.1) {
-            Some(order) => third = third.then(order),
-            None => return order_out_of_step(first, form, pair, left, right),
-        }
-        match first_unlike(left, right)? {
-            Some(next) => pair = next,
-            None => return Some(third),
-        }
+    let decided = first.decide(&pair.0, &pair.1);
+    if decided.is_some() {
+        return decided;
     }
-    None
+    order_out_of_step(first, form, pair, left, right)
 }
 
 /// The order from elements on that aren't in step: the rest of the first level decides, or, where it ties, these
 /// elements on the secondary one.
-#[inline(always)]
+#[inline(never)]
 fn order_out_of_step<L: EncodedText, R: EncodedText>(
     first: Level<'_>,
     form: TertiaryForm,

@@ -195,6 +195,7 @@ impl<'d> Level<'d> {
     }
 
     /// The order on this level of lists that begin with these elements, or have ended, where these decide it.
+    #[inline(always)]
     pub(crate) fn decide(self, one: &Option<Handled>, other: &Option<Handled>) -> Option<Ordering>
         ensures { IfSome result (λ o. DecidesOn self.entry one.now other.now o) }
     {

@@ -72,8 +72,11 @@ impl<'a> CollatorBorrowed<'a> {
         let one = left.split_at(at)?;
         let other = right.split_at(at)?;
         let facts = self.first_facts(one);
+        if !facts.is_rest {
+            return None;
+        }
         let other_facts = self.first_facts(other);
-        if !facts.is_rest || !other_facts.is_rest {
+        if !other_facts.is_rest {
             return None;
         }
         common_beginnings_do_not_count();

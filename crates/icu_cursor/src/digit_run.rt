@@ -1,8 +1,8 @@
 //! Runs of digits that are read as numbers.
 
-ghost use Rattle.std.specs.Prelude.{◌≡◌, ◌<◌, ◌≤◌, ◌∷◌, [], ◌++◌, None, Some, All, IfSome, length, map};
+ghost use Rattle.std.specs.Prelude.{◌≡◌, ◌<◌, ◌≤◌, ◌∷◌, [], ◌++◌, ℕ, List, None, Some, All, IfSome, length, map};
 ghost use Rattle.icu_entries.specs.Elements.{of_primary};
-ghost use Rattle.icu_levels.specs.Numbers.{without_first_zeros, longest_number};
+ghost use Rattle.icu_levels.specs.Numbers.{without_first_zeros, longest_number, value_of};
 ghost use Rattle.icu_steady_numbers.specs.SteadyNumbers.{weights_left};
 ghost use Rattle.icu_elements.specs.TextElements.{number_elements};
 ghost use Rattle.icu_facts.specs.KeptFacts.{IsNumberDigit};
@@ -26,6 +26,30 @@ fn take_digit<T: EncodedText>(tables: &CursorTables<'_>, text: &mut T) -> Option
     let digit = tables.digit(char::from(byte))?;
     *text = rest;
     Some(digit)
+}
+
+/// The least number that is more than one weight.
+const GREAT: u32 = 1042490;
+
+/// The value of the number that a digit of this value begins and the digits that a text begins with go on, and what
+/// follows them. `None` where the number is more than one weight.
+#[inline]
+fn take_few<T: EncodedText>(tables: &CursorTables<'_>, first: u8, text: T) -> Option<(u32, T)>
+    requires { first < 10 }
+    ensures run { IfSome result (λ p. (ds : List ℕ) × IsDigitRun (cursor_reading tables.now)
+        (T.text text) (T.text p.1) (first ∷ []) ds × (value_of ds ≡ p.0)) }
+    ensures few { IfSome result (λ p. p.0 < 1042490) }
+    ensures rest { IfSome result (λ p. length (T.text p.1) ≤ length (T.text text)) }
+{
+    let mut value = u32::from(first);
+    let mut rest = text;
+    'digits: while let Some(digit) = take_digit(tables, &mut rest) {
+        value = 10 * value + u32::from(digit);
+        if value >= GREAT {
+            return None;
+        }
+    }
+    Some((value, rest))
 }
 
 /// Appends the digits that a text begins with, and returns what follows them. `None` where there are more than are
@@ -69,6 +93,30 @@ fn number_of(lead: u8, digits: &FewDigits) -> SteadyNumber
     SteadyNumber::new(lead, kept)
 }
 
+/// Reads the number that a digit with this value begins, where it is more than one weight, and what follows it. Out of
+/// line: a function clears its locals each time that it is called.
+#[inline(never)]
+fn read_many<T: EncodedText>(
+    tables: &CursorTables<'_>,
+    lead: u8,
+    c: char,
+    first: u8,
+    text: T,
+) -> Option<(SteadyNumber, T)>
+    requires numeric { (cursor_reading tables.now).numeric ≡ Some lead }
+    requires digit { IsNumberDigit (cursor_reading tables.now) c first }
+    ensures piece { IfSome result (λ p. IsNumberPiece (cursor_reading tables.now)
+        (c ∷ T.text text) (T.text p.1) (map of_primary (weights_left p.0))) }
+    ensures rest { IfSome result (λ p. length (T.text p.1) ≤ length (T.text text)) }
+{
+    let mut digits = FewDigits::new(first);
+    let after = push_run(tables, &mut digits, text)?;
+    if !begins_at_boundary(tables, after) {
+        return None;
+    }
+    Some((number_of(lead, &digits), after))
+}
+
 /// Reads the number that a digit with this value begins, and what follows it. `None` where it has more digits than are
 /// kept, and where what follows is no place where texts may be cut.
 pub(crate) fn read_number<T: EncodedText>(
@@ -84,10 +132,11 @@ pub(crate) fn read_number<T: EncodedText>(
         (c ∷ T.text text) (T.text p.1) (map of_primary (weights_left p.0))) }
     ensures rest { IfSome result (λ p. length (T.text p.1) ≤ length (T.text text)) }
 {
-    let mut digits = FewDigits::new(first);
-    let rest = push_run(tables, &mut digits, text)?;
-    if !begins_at_boundary(tables, rest) {
+    let Some(few) = take_few(tables, first, text) else {
+        return read_many(tables, lead, c, first, text);
+    };
+    if !begins_at_boundary(tables, few.1) {
         return None;
     }
-    Some((number_of(lead, &digits), rest))
+    Some((SteadyNumber::of_few(lead, few.0), few.1))
 }

@@ -36,7 +36,7 @@ fn value_of_few(digits: &[u8]) -> Option<u32>
 }
 
 /// The bytes of a number below 1042490, which are three at most.
-fn few_bytes(value: u32) -> NumberRoom
+pub(crate) fn few_bytes(value: u32) -> NumberRoom
     requires { value < 1042490 }
     ensures { room_bytes result ≡ number_bytes value }
 {

@@ -4,7 +4,7 @@ ghost use Rattle.std.specs.Prelude.{◌≡◌, ◌<◌, ◌≤◌, ◌++◌, [],
 ghost use Rattle.icu_levels.specs.Numbers.{number_weights, value_of, without_first_zeros, longest_number};
 
 use crate::number_room::NumberRoom;
-use crate::spelled_number::spelled_number;
+use crate::spelled_number::{few_bytes, spelled_number};
 
 /// The primary weights of a number that are still to be given (UTS #35 part 5, "Setting Options" on numeric ordering).
 /// It holds the bytes of the number, 128 at most, and allocates nothing.
@@ -31,6 +31,19 @@ impl SteadyNumber {
         SteadyNumber {
             lead,
             room: spelled_number(digits),
+            next: 0,
+        }
+    }
+
+    /// All weights of a number below 1042490, by its value: it has one. `lead` is the numeric lead byte.
+    #[tactic(auto, unfolding(crate::specs::SteadyNumbers::weights_left))]
+    pub fn of_few(lead: u8, value: u32) -> SteadyNumber
+        requires { value < 1042490 }
+        ensures { weights_left result ≡ number_weights lead value }
+    {
+        SteadyNumber {
+            lead,
+            room: few_bytes(value),
             next: 0,
         }
     }

@@ -1,11 +1,10 @@
 -- Two texts of which characters are read, gone through in step, where no element is variable.
 use Rattle.std.specs.Prelude.{◌≡◌, ℕ, List, [], ◌∷◌, Option, Some, None, map}
-use Rattle.std.specs.declared.cmp.Ordering.TheVariants.{Equal}
 use Rattle.icu_cursor.specs.declared.facts_cursor.FactsCursor.{FactsCursor}
 use Rattle.icu_cursor.specs.FactsCursors.{facts_give}
 use Rattle.icu_weighting.specs.Handled.{HandledElement, stayed}
 use Rattle.icu_weighting.specs.declared.handled_element.Handled.{Handled}
-use Rattle.icu_collator.specs.inner.InStep.{from_first, order_from, order_on}
+use Rattle.icu_collator.specs.inner.InStep.{from_first}
 use Rattle.icu_collator.specs.inner.LevelWeights.{level_weights}
 use Rattle.icu_collator.specs.declared.forward_levels.Level.{Level}
 
@@ -16,19 +15,6 @@ plain_left text c before = map stayed (facts_give text c before)
 -- whatever stands before, this element comes first, if there is one, and then what the cursor gives later
 abbrev pub StepsOn : {T : Type 0} → (T → List ℕ) → FactsCursor T → Option Handled → FactsCursor T → Type 0
 StepsOn text old next new = (before : List ℕ) → (after : List ℕ) × (plain_left text old before ≡ from_first next (plain_left text new after))
-
--- whatever stands before, two texts tie on each level
-abbrev pub EndAlike : {T U : Type 0} → (T → List ℕ) → (U → List ℕ) → FactsCursor T → FactsCursor U → Type 0
-EndAlike text other_text left right =
-    (b d : List ℕ) (level : Level) → order_on level (plain_left text left b) (plain_left other_text right d) ≡ Equal
-
--- whatever stands before, the order of two texts on each level is that from these elements on, and then of what the
--- cursors give later
-abbrev pub OrderFrom : {T U : Type 0} → (T → List ℕ) → (U → List ℕ) → FactsCursor T → FactsCursor U → Option Handled → Option Handled → FactsCursor T → FactsCursor U → Type 0
-OrderFrom text other_text left right h k one other =
-    (b d : List ℕ) → (b' : List ℕ) × (d' : List ℕ)
-    × ((level : Level) → order_on level (plain_left text left b) (plain_left other_text right d)
-    ≡ order_from level h k (plain_left text one b') (plain_left other_text other d'))
 
 -- a weight, if there is one, and those after it: none where the list has ended
 abbrev pub weights_from : Option ℕ → List ℕ → List ℕ

@@ -1,22 +1,30 @@
--- The first elements that differ decide, or what follows them.
-use Rattle.std.proofs.Common.{Equal, sym}
+-- Both go on in step, or out of it.
+use Rattle.std.proofs.Common.{Ordering, sym, subst, rules}
 use Rattle.icu_collator.specs.declared.forward_levels.Level.TheVariants.{Primary}
 use Rattle.icu_collator.specs.inner.InStep.{three_levels}
-use Rattle.icu_collator.specs.inner.FactsInStep.{plain_left}
-use Rattle.icu_collator.proofs.FactsInStepLemmas.{all_tie, found_from, pair_decides}
+use Rattle.icu_collator.proofs.FactsInStepLemmas.{LeavesOrder, nothing_compared, both_step, both_ended, step_apart}
 use Rattle.icu_collator.proofs.facts_in_step.order_in_step.Goals as goal
 
-pub returns-in_default : goal.returns-in_default
-returns-in_default g c = λ b d.
-    sym (all_tie (three_levels (Primary c.args.reordering) c.args.form) Equal (plain_left g.L.EncodedText.text c.args.left.now b) (plain_left g.R.EncodedText.text c.args.right.now d)
-    (λ level. (rw c.in_default.is at c.in_ok-pair.ensures) b d level))
+pub pairs-init : goal.pairs-init
+pairs-init g c = nothing_compared g.L.EncodedText.text g.R.EncodedText.text (three_levels (Primary c.args.reordering) c.args.form) c.args.left.now c.args.right.now
 
-pub returns-then-is_some : goal.returns-then-is_some
-returns-then-is_some g c =
-    pair_decides g.L.EncodedText.text g.R.EncodedText.text (three_levels (Primary c.args.reordering) c.args.form) c.args.left.now c.first_unlike.new.left c.args.right.now c.first_unlike.new.right
-    c.in-Some.pair.0 c.in-Some.pair.1 (rw c.in-Some.is at c.in_ok-pair.ensures) c.decide-decided.result c.decide-decided.ensures
+pub returns-then-is_none-2 : goal.returns-then-is_none-2
+returns-then-is_none-2 g c =
+    both_ended g.L.EncodedText.text g.R.EncodedText.text (three_levels (Primary c.args.reordering) c.args.form) c.args.left.now c.pairs.left c.next_stayed.new.text
+    c.args.right.now c.pairs.right c.next_stayed-in-pairs.new.text c.pairs.third c.in_ok-one.one c.in_ok-other.other
+    c.pairs.invariant c.in_ok-one.ensures c.in_ok-other.ensures (search rules) (search rules)
 
-pub returns : goal.returns
-returns g c =
-    found_from g.L.EncodedText.text g.R.EncodedText.text (three_levels (Primary c.args.reordering) c.args.form) c.args.left.now c.first_unlike.new.left c.args.right.now c.first_unlike.new.right
-    c.in-Some.pair.0 c.in-Some.pair.1 (rw c.in-Some.is at c.in_ok-pair.ensures) c.order_from_unlike.result c.order_from_unlike.ensures
+pub pairs-preserved : goal.pairs-preserved
+pairs-preserved g c =
+    let left = g.L.EncodedText.text in
+    let right = g.R.EncodedText.text in
+    let levels = three_levels (Primary c.args.reordering) c.args.form in
+    subst (λ (o : Ordering). LeavesOrder left right levels c.args.left.now c.args.right.now o c.next_stayed.new.text c.next_stayed-in-pairs.new.text) (sym c.then-third.ensures)
+    (both_step left right levels c.args.left.now c.pairs.left c.next_stayed.new.text c.args.right.now c.pairs.right c.next_stayed-in-pairs.new.text c.pairs.third
+    c.in_ok-one.one c.in_ok-other.other c.pairs.invariant c.in_ok-one.ensures c.in_ok-other.ensures c.in-Some.order (rw c.in-Some.is at c.order_of_step.ensures c.args.reordering))
+
+pub returns-in-None : goal.returns-in-None
+returns-in-None g c =
+    step_apart g.L.EncodedText.text g.R.EncodedText.text (three_levels (Primary c.args.reordering) c.args.form) c.args.left.now c.pairs.left c.next_stayed.new.text
+    c.args.right.now c.pairs.right c.next_stayed-in-pairs.new.text c.pairs.third c.in_ok-one.one c.in_ok-other.other
+    c.pairs.invariant c.in_ok-one.ensures c.in_ok-other.ensures c.order_apart.result c.order_apart.ensures
