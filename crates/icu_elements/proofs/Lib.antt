@@ -7,6 +7,8 @@ pub mod DecomposedLemmas
 pub mod ElementPartLemmas
 pub mod ElementSourceLemmas
 pub mod EnoughLemmas
+pub mod LoneStepLemmas
+pub mod MappingHeadLemmas
 pub mod MatchedAloneLemmas
 pub mod ReachableTextLemmas
 pub mod ReadableLemmas

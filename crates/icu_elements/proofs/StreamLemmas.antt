@@ -1,6 +1,7 @@
 -- Reading a text that comes from a source.
-use Rattle.std.proofs.Common.{◌≡◌, ◌⊎◌, ℕ, ◌-◌, ◌<◌, ◌≤◌, length-drop, List, [], ◌∷◌, ◌++◌, length, Option, None, unwrap_or, sym, ap, ap₂, subst, ◌∙◌, append_assoc, append-nil, arith, inl, inr}
+use Rattle.std.proofs.Common.{◌≡◌, ◌⊎◌, ℕ, ◌-◌, ◌<◌, ◌≤◌, length-drop, List, [], ◌∷◌, ◌++◌, length, Option, Some, None, is_some, true, false, unwrap_or, refl, sym, ap, ap₂, subst, ◌∙◌, append_assoc, arith, inl, inr}
 use Rattle.std.specs.Prelude.{option_to_list}
+use Rattle.std.proofs.lemmas.Bool.{false≢true, true≢false}
 use Rattle.std.proofs.Math.ListN.{drop_of_length-le}
 use Rattle.unicode_normalization.specs.declared.decompose.Decompositions.{Decompositions}
 use Rattle.icu_entries.specs.Elements.{Element, end_element}
@@ -12,8 +13,9 @@ use Rattle.icu_elements.specs.ReadAhead.{IsEnough, HasWholeStep}
 use Rattle.icu_elements.specs.TextElements.{Reading, step, consumed, last_two, elements_after, elements_of}
 use Rattle.icu_elements.specs.inner.Positions.{consumed_last, unread_at, IsStep}
 use Rattle.icu_elements.specs.Reading.{reading_of}
-use Rattle.icu_elements.specs.inner.ReadsAhead.{ReadsTo, IsBegun}
+use Rattle.icu_elements.specs.inner.Iterating.{StillReads}
 use Rattle.icu_elements.specs.inner.ReadyElements.{ready_elements}
+use Rattle.icu_elements.specs.inner.StepsTaken.{TakesChar, HasElementsAt, LooksAhead, TakesStepAt, StepsOrLooks}
 use Rattle.icu_elements.specs.inner.Streams.{elements_before, HasElements}
 use Rattle.icu_elements.proofs.EnoughLemmas.{IsEnough-ended, elements_after-ahead}
 use Rattle.icu_elements.proofs.CollationElementsLemmas.{first_given}
@@ -50,47 +52,66 @@ stepped reading before c text left whole es fs p is enough h =
     ∙ ap₂ (λ (l : List Element) (b : List ℕ). l ++ elements_after reading b (s.rest ++ left)) (sym h.elements) (sym h.recent)
     ∙ ap (λ (r : List ℕ). fs ++ elements_after reading (consumed_last p) (r ++ left)) (sym h.rest)
 
-module _ {I : Type 0} (steps : I → Option ℕ → I → Type 0) (reading : TextReading) (old mid new : Decompositions I) (at : Position) (text : List ℕ) where
-  -- a character came, so much more was read ahead, and a step was taken
-  pub HasElements-step : (c : ℕ) (middle longer : List ℕ) (es fs : List Element) (p : Position) → ReadsTo steps IsBegun old (unread_at at) mid text → text ≡ c ∷ middle
-      → ReadsTo steps (HasWholeStep (reading_of reading) (consumed_last at) c) mid middle new longer
-      → IsStep (step (reading_of reading) (consumed_last at) c longer) c (consumed_last at) es fs p
-      → (all : List Element) → HasElements steps reading old at es all → HasElements steps reading new p fs all
-  HasElements-step c middle longer es fs p came split ahead stepped_on all h =
-      let first = came.at h.left h.source in
-      let second = ahead.at first.0 first.2 in
-      let whole : unread_at at ++ h.left ≡ c ∷ (longer ++ second.0) =
-      ap (λ (l : List ℕ). unread_at at ++ l) first.1
-      ∙ sym (append_assoc (unread_at at) came.more first.0)
-      ∙ ap (λ (l : List ℕ). l ++ first.0) (sym came.grown)
-      ∙ ap (λ (l : List ℕ). l ++ first.0) split
-      ∙ ap (λ (l : List ℕ). c ∷ (middle ++ l)) second.1
-      ∙ ap (λ (l : List ℕ). c ∷ l) (sym (append_assoc middle ahead.more second.0))
-      ∙ ap (λ (l : List ℕ). c ∷ (l ++ second.0)) (sym ahead.grown) in
+module _ {I : Type 0} (steps : I → Option ℕ → I → Type 0) (reading : TextReading) (old new : Decompositions I) (at p : Position) (all : List Element) where
+  -- a character was taken off the text
+  pub taken_off : (c : ℕ) → TakesChar steps (Some c) old (unread_at at) new (unread_at p) → consumed_last p ≡ consumed_last at
+      → HasElements steps reading old at [] all → HasElementsAt steps reading new p c all
+  taken_off c took same h =
+      let t = took h.left h.source in
       record {
-        left = second.0;
-        source = second.2;
+        left = t.0;
+        source = t.1;
         elements =
             h.elements
-            ∙ stepped (reading_of reading) (consumed_last at) c longer second.0 (unread_at at ++ h.left) es fs p whole
-            (enough_or_ended (reading_of reading) (consumed_last at) c longer second.0 second.3) stepped_on;
+            ∙ ap (elements_after (reading_of reading) (consumed_last at)) t.2
+            ∙ ap (λ (b : List ℕ). elements_after (reading_of reading) b (c ∷ (unread_at p ++ t.0))) (sym same);
       }
 
-  nothing_left : (left : List ℕ) → text ≡ [] → IsBegun text ⊎ (left ≡ []) → left ≡ []
-  nothing_left left none (inl some) = let counted : length text ≡ 0 = ap length none in absurd (omega (arith, some, counted))
-  nothing_left left none (inr ended) = ended
+  -- none was there to be taken
+  pub none_came : TakesChar steps None old (unread_at at) new (unread_at p) → HasElements steps reading old at [] all → (all ≡ []) × HasElements steps reading new p [] []
+  none_came took h =
+      let t = took h.left h.source in
+      let nothing : unread_at p ++ t.0 ≡ [] = t.3 refl in (
+        h.elements
+            ∙ ap (elements_after (reading_of reading) (consumed_last at)) (t.2 ∙ nothing)
+            ∙ elements_after_nil (reading_of reading) (consumed_last at),
+        record {
+          left = t.0;
+          source = t.1;
+          elements = sym (ap (elements_after (reading_of reading) (consumed_last p)) nothing ∙ elements_after_nil (reading_of reading) (consumed_last p));
+        },
+      )
 
-  -- none came, so none is left
-  pub nothing_to_come : (es : List Element) → ReadsTo steps IsBegun old (unread_at at) new text → text ≡ [] → (all : List Element) → HasElements steps reading old at es all → all ≡ es
-  nothing_to_come es came none all h =
-      let first = came.at h.left h.source in
-      let ended : first.0 ≡ [] = nothing_left first.0 none first.3 in
-      let nothing : unread_at at ++ h.left ≡ [] =
-      ap (λ (l : List ℕ). unread_at at ++ l) first.1
-      ∙ sym (append_assoc (unread_at at) came.more first.0)
-      ∙ ap₂ (λ (a b : List ℕ). a ++ b) (sym came.grown ∙ none) ended in
-      h.elements ∙ ap (λ (l : List ℕ). es ++ elements_after (reading_of reading) (consumed_last at) l) nothing
-      ∙ ap (λ (l : List Element). es ++ l) (elements_after_nil (reading_of reading) (consumed_last at)) ∙ append-nil es
+  -- more was read
+  pub looked_on : (c : ℕ) → LooksAhead steps old at new p → HasElementsAt steps reading old at c all → HasElementsAt steps reading new p c all
+  looked_on c looks h =
+      let t = looks.ahead.at h.left h.source in
+      let same : unread_at at ++ h.left ≡ unread_at p ++ t.0 =
+      ap (λ (l : List ℕ). unread_at at ++ l) t.1
+      ∙ sym (append_assoc (unread_at at) looks.ahead.more t.0)
+      ∙ ap (λ (l : List ℕ). l ++ t.0) (sym looks.ahead.grown) in
+      record {
+        left = t.0;
+        source = t.2;
+        elements = h.elements ∙ ap₂ (λ (b l : List ℕ). elements_after (reading_of reading) b (c ∷ l)) (sym looks.before) same;
+      }
+
+  -- a step was taken
+  pub step_given : (c : ℕ) (es fs : List Element) → TakesStepAt steps (reading_of reading) c old at new p es fs → HasElementsAt steps reading old at c all → HasElements steps reading new p fs (es ++ all)
+  step_given c es fs s h =
+      let t = s.ahead.at h.left h.source in
+      let whole : c ∷ (unread_at at ++ h.left) ≡ c ∷ (s.text ++ t.0) =
+      ap (λ (l : List ℕ). c ∷ (unread_at at ++ l)) t.1
+      ∙ ap (λ (l : List ℕ). c ∷ l) (sym (append_assoc (unread_at at) s.ahead.more t.0))
+      ∙ ap (λ (l : List ℕ). c ∷ (l ++ t.0)) (sym s.ahead.grown) in
+      record {
+        left = t.0;
+        source = t.2;
+        elements =
+            ap (λ (l : List Element). es ++ l) h.elements
+            ∙ stepped (reading_of reading) (consumed_last at) c s.text t.0 (c ∷ (unread_at at ++ h.left)) es fs p whole
+            (enough_or_ended (reading_of reading) (consumed_last at) c s.text t.0 t.3) s.taken;
+      }
 
 -- ---- an element that stands ready
 
@@ -123,3 +144,87 @@ taken_ready steps es source r s o h split end same same_reading =
             ∙ ap₂ (λ (t : TextReading) (p : Position). ready_elements s ++ elements_before t p h.left) (sym same_reading) (sym same);
       },
     )
+
+-- where one that stood ready was taken, or none, it and the others come
+pub listed : {I : Type 0} (steps : I → Option ℕ → I → Type 0) (es : List Element) (source : Decompositions I) (r s : ElementReader) (o : Option Element)
+    → HasElements steps r.reading source r.position (ready_elements r) es → ready_elements r ≡ option_to_list o ++ ready_elements s → s.position ≡ r.position → s.reading ≡ r.reading
+    → HasElements steps s.reading source s.position (option_to_list o ++ ready_elements s) es
+listed steps es source r s o h same same_position same_reading = record {
+  left = h.left;
+  source = h.source;
+  elements =
+      h.elements
+      ∙ ap (λ (l : List Element). l ++ elements_before r.reading r.position h.left) same
+      ∙ ap₂ (λ (t : TextReading) (p : Position). (option_to_list o ++ ready_elements s) ++ elements_before t p h.left) (sym same_reading) (sym same_position);
+}
+
+-- where none was taken, none stands ready
+pub none_stands : (r s : ElementReader) (o : Option Element) → ready_elements r ≡ option_to_list o ++ ready_elements s → (o ≡ None → ready_elements r ≡ []) → o ≡ None → ready_elements s ≡ []
+none_stands r s (Some e) split end none = cc
+none_stands r s None split end none = sym split ∙ end refl
+
+-- an element that is given is the first, and the others are left
+pub first_came : {I : Type 0} (steps : I → Option ℕ → I → Type 0) (reading : TextReading) (source : Decompositions I) (p : Position) (o : Option Element) (ready es : List Element) → is_some o ≡ true
+    → HasElements steps reading source p (option_to_list o ++ ready) es → (unwrap_or o end_element ≡ first_of es) × HasElements steps reading source p ready (rest_of es)
+first_came steps reading source p (Some e) ready es some h = (
+  sym (ap first_of h.elements),
+  record { left = h.left; source = h.source; elements = ap rest_of h.elements },
+)
+first_came steps reading source p None ready es some h = absurd (false≢true some)
+
+-- where nothing is left, the end element is the first
+pub none_left_to_come : {I : Type 0} (steps : I → Option ℕ → I → Type 0) (reading : TextReading) (source : Decompositions I) (p : Position) (ready es : List Element) → ready ≡ [] → es ≡ []
+    → HasElements steps reading source p [] [] → (end_element ≡ first_of es) × HasElements steps reading source p ready (rest_of es)
+none_left_to_come steps reading source p ready es none ended h = (
+  sym (ap first_of ended),
+  subst (λ (l : List Element). HasElements steps reading source p l (rest_of es)) (sym none)
+      (subst (λ (l : List Element). HasElements steps reading source p [] l) (sym (ap rest_of ended)) h),
+)
+
+-- other elements that are the same come
+pub same_ready : {I : Type 0} (steps : I → Option ℕ → I → Type 0) (reading : TextReading) (source : Decompositions I) (p : Position) (ready others es : List Element) → ready ≡ others
+    → HasElements steps reading source p ready es → HasElements steps reading source p others es
+same_ready steps reading source p ready others es same h = subst (λ (l : List Element). HasElements steps reading source p l es) same h
+
+-- ---- a character that was taken off a text
+
+module _ {I : Type 0} (steps : I → Option ℕ → I → Type 0) (old new : Decompositions I) (text rest : List ℕ) (none : text ≡ []) (still : rest ≡ []) where
+  -- neither the text nor its source had one
+  pub none_taken_off : ((cs : List ℕ) → StillReads steps old cs → (cs ≡ []) × StillReads steps new []) → TakesChar steps None old text new rest
+  none_taken_off ended = λ cs h.
+      let end = ended cs h in (
+        [],
+        end.1,
+        ap₂ (λ (a b : List ℕ). a ++ b) none end.0 ∙ sym (ap (λ (l : List ℕ). l ++ []) still),
+        λ _. ap (λ (l : List ℕ). l ++ []) still,
+      )
+
+  -- its source had one
+  pub one_taken_off : (c : ℕ) → ((cs : List ℕ) → StillReads steps old cs → (left : List ℕ) × (cs ≡ c ∷ left) × StillReads steps new left) → TakesChar steps (Some c) old text new rest
+  one_taken_off c came = λ cs h.
+      let next = came cs h in (
+        next.0,
+        next.2,
+        ap₂ (λ (a b : List ℕ). a ++ b) none next.1 ∙ sym (ap (λ (l : List ℕ). c ∷ (l ++ next.0)) still),
+        λ other. cc,
+      )
+
+-- ---- a step without a list
+
+module _ {I : Type 0} (steps : I → Option ℕ → I → Type 0) (reading : TextReading) (old new : Decompositions I) (at p : Position) (c : ℕ) (es : List Element) where
+  -- one was taken, and nothing stands ready
+  pub lone_given : (o : Option Element) (ready : List Element) → is_some o ≡ true → ready ≡ [] → StepsOrLooks steps (reading_of reading) c old at new p o → HasElementsAt steps reading old at c es
+      → HasElements steps reading new p (option_to_list o ++ ready) es
+  lone_given (Some e) ready some none s h =
+      subst (λ (l : List Element). HasElements steps reading new p (e ∷ l) es) (sym none) (step_given steps reading old new at p es c [] (e ∷ []) s h)
+  lone_given None ready some none s h = absurd (false≢true some)
+
+  -- none was
+  pub only_looked : (o : Option Element) → is_some o ≡ false → StepsOrLooks steps (reading_of reading) c old at new p o → HasElementsAt steps reading old at c es → HasElementsAt steps reading new p c es
+  only_looked (Some e) none s h = absurd (true≢false none)
+  only_looked None none s h = looked_on steps reading old new at p es c s h
+
+  -- one was taken whose elements came to an empty list
+  pub listed_given : (list fs : List Element) → list ≡ [] → TakesStepAt steps (reading_of reading) c old at new p list fs → HasElementsAt steps reading old at c es → HasElements steps reading new p fs es
+  listed_given list fs empty s h =
+      subst (λ (l : List Element). HasElements steps reading new p fs (l ++ es)) empty (step_given steps reading old new at p es c list fs s h)

@@ -6,3 +6,4 @@ pub mod Positions
 pub mod TakenDigits
 pub mod ReadyElements
 pub mod Streams
+pub mod StepsTaken

@@ -1,6 +1,6 @@
 //! The elements of a text, one by one.
 
-ghost use Rattle.std.specs.Prelude.{◌≡◌, ℕ, List, [], unwrap_or, IsErr, IfOk, OnOk, OnErr};
+ghost use Rattle.std.specs.Prelude.{◌≡◌, ◌≤◌, ◌++◌, ℕ, List, [], None, option_to_list, unwrap_or, IsErr, IfOk, OnOk, OnErr};
 ghost use Rattle.std.specs.Iterator.{IsFinite};
 ghost use Rattle.icu_entries.specs.Elements.{Element, end_element};
 ghost use Rattle.unicode_normalization.specs.Decompositions.{CanDecompose};
@@ -8,7 +8,8 @@ ghost use Rattle.unicode_normalization.specs.Forms.{nfd};
 ghost use Rattle.unicode_normalization.specs.Iter.{Spells};
 
 use crate::element_reader::ElementReader;
-use crate::reader::stream::stream_step;
+use crate::reader::lone_step::lone_step;
+use crate::reader::stream::{stream_step, take_char};
 use crate::text_reading::TextReading;
 use icu_entries::CollationElement;
 use std::alloc::AllocError;
@@ -37,6 +38,8 @@ impl<'d, I: Iterator<Item = char> + Drop> CollationElements<'d, I> {
     ghost use Rattle.icu_elements.specs.CollationElements.{StillGives, CanGive, IsRefused, HasSource};
     ghost use Rattle.icu_elements.specs.CollationElements.{first_of, rest_of};
     ghost use Rattle.icu_elements.specs.inner.ReadyElements.{ready_elements};
+    ghost use Rattle.icu_elements.specs.inner.StepsTaken.{HasElementsAt};
+    ghost use Rattle.icu_elements.specs.inner.Streams.{HasElements, chars_ahead};
 
     /// Reads the text that `delegate` spells. Does not allocate.
     pub fn new(delegate: I, reading: TextReading<'d>) -> CollationElements<'d, I>
@@ -85,36 +88,76 @@ impl<'d, I: Iterator<Item = char> + Drop> CollationElements<'d, I> {
     {
         match self.progress {
             Progress::Refused => Err(AllocError),
-            Progress::Reading => {
-                self.fill()?;
-                Ok(self.reader.take_ready())
-            }
+            Progress::Reading => self.take_next(),
         }
     }
 
-    /// Reads on, step by step, until an element stands ready, or none is left.
-    fn fill(&mut self) -> Result<(), AllocError>
+    /// The next element, one that stands ready, or else the first of the next step that gives any.
+    fn take_next(&mut self) -> Result<Option<CollationElement>, AllocError>
         requires { CanDecompose I.can_next I.remaining self.old.source }
         ensures ready { OnOk result (CanDecompose I.can_next I.remaining self.new.source) }
         ensures gives { (es : List Element) → HasSource I.next_gives self.old es
-            → OnOk result (HasSource I.next_gives self.new es) }
-        ensures filled { (es : List Element) → HasSource I.next_gives self.old es
-            → OnOk result (ready_elements self.new.reader ≡ [] → es ≡ []) }
+            → IfOk result (λ next. (unwrap_or next end_element ≡ first_of es)
+            × HasSource I.next_gives self.new (rest_of es)) }
         ensures progress { OnOk result (self.new.progress ≡ self.old.progress) }
     {
-        'steps: while self.reader.next >= self.reader.ready.elements.len() {
-            self.reader.next = 0;
-            self.reader.ready.elements.clear();
-            let reader = &mut self.reader;
-            if !stream_step(
-                reader.reading,
-                &mut self.source,
-                &mut reader.position,
-                &mut reader.ready,
-            )? {
-                return Ok(());
+        let ready = self.reader.take_ready();
+        if ready.is_some() {
+            return Ok(ready);
+        }
+        self.read_on()
+    }
+
+    /// Takes a step at a character that was taken off the text, and gives the first of its elements.
+    fn step_at(&mut self, c: char) -> Result<Option<CollationElement>, AllocError>
+        requires can { CanDecompose I.can_next I.remaining self.old.source }
+        requires none_ready { ready_elements self.old.reader ≡ [] }
+        ensures ready { OnOk result (CanDecompose I.can_next I.remaining self.new.source) }
+        ensures gives { (es : List Element)
+            → HasElementsAt I.next_gives self.old.reader.reading self.old.source
+            self.old.reader.position c es
+            → IfOk result (λ next. HasElements I.next_gives self.new.reader.reading
+            self.new.source self.new.reader.position
+            (option_to_list next ++ ready_elements self.new.reader) es) }
+        ensures none { IfOk result (λ next. next ≡ None → ready_elements self.new.reader ≡ []) }
+        ensures progress { OnOk result (self.new.progress ≡ self.old.progress) }
+        ensures size { OnOk result
+            (chars_ahead I.remaining self.new.source self.new.reader.position
+            ≤ chars_ahead I.remaining self.old.source self.old.reader.position) }
+    {
+        let reader = &mut self.reader;
+        let lone = lone_step(reader.reading, &mut self.source, &mut reader.position, c)?;
+        if lone.is_some() {
+            return Ok(lone);
+        }
+        reader.next = 0;
+        reader.ready.elements.clear();
+        stream_step(
+            reader.reading,
+            &mut self.source,
+            &mut reader.position,
+            c,
+            &mut reader.ready,
+        )?;
+        Ok(self.reader.take_ready())
+    }
+
+    /// Reads on, step by step, until an element comes.
+    fn read_on(&mut self) -> Result<Option<CollationElement>, AllocError>
+        requires can { CanDecompose I.can_next I.remaining self.old.source }
+        requires none_ready { ready_elements self.old.reader ≡ [] }
+        ensures ready { OnOk result (CanDecompose I.can_next I.remaining self.new.source) }
+        ensures gives { (es : List Element) → HasSource I.next_gives self.old es
+            → IfOk result (λ next. (unwrap_or next end_element ≡ first_of es)
+            × HasSource I.next_gives self.new (rest_of es)) }
+        ensures progress { OnOk result (self.new.progress ≡ self.old.progress) }
+    {
+        'steps: while let Some(c) = take_char(&mut self.source, &mut self.reader.position.text)? {
+            let next = self.step_at(c)?;
+            if next.is_some() {
+                return Ok(next);
             }
         }
-        Ok(())
+        Ok(None)
     }
 }

@@ -8,6 +8,7 @@ ghost use Rattle.icu_elements.specs.Reading.{reading_of};
 
 pub(crate) mod ahead;
 mod entry_step;
+pub(crate) mod lone_step;
 pub(crate) mod position;
 pub(crate) mod recent;
 pub(crate) mod step;

@@ -117,7 +117,7 @@ fn read_run<I: Iterator<Item = char> + Drop>(
 }
 
 /// Reads on until a starter stands behind so many characters.
-fn read_starter<I: Iterator<Item = char> + Drop>(
+pub(crate) fn read_starter<I: Iterator<Item = char> + Drop>(
     from: usize,
     source: &mut Decompositions<I>,
     text: &mut ClassedText,

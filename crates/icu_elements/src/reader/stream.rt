@@ -1,45 +1,62 @@
-//! Steps of reading a text that comes from a source of decomposed characters, which is read no further than each step
-//! looks.
+//! A text that comes from a source of decomposed characters, which is read no further than each step looks.
 
-ghost use Rattle.std.specs.Prelude.{◌≡◌, ◌<◌, [], List, IfOk, OnOk, IsTrue, IsFalse};
-ghost use Rattle.icu_entries.specs.Elements.{Element};
-ghost use Rattle.unicode_normalization.specs.Decompositions.{CanDecompose};
-ghost use Rattle.icu_elements.specs.inner.Streams.{HasElements, chars_ahead};
+ghost use Rattle.std.specs.Prelude.{◌≡◌, ◌≤◌, ◌<◌, ◌+◌, length, is_some, true, IfOk, OnOk};
+ghost use Rattle.icu_elements.specs.Reading.{reading_of};
+ghost use Rattle.icu_elements.specs.inner.StepsTaken.{TakesChar, TakesStepAt};
+ghost use Rattle.icu_elements.specs.inner.Streams.{chars_ahead};
+ghost use Rattle.icu_matches.specs.Texts.{still_unread};
+ghost use Rattle.unicode_normalization.specs.Decompositions.{CanDecompose, decompositions_size};
 
 use crate::element_list::ElementList;
-use crate::reader::ahead::{read_ahead, read_first};
+use crate::reader::ahead::read_ahead;
 use crate::reader::position::Position;
 use crate::reader::step::read_char;
 use crate::text_reading::TextReading;
+use icu_matches::ClassedText;
 use std::alloc::AllocError;
 use unicode_normalization::Decompositions;
 
-/// Takes one step, which appends its elements. Returns whether a character was left.
+/// Takes the next character off the text, or, where none is still to be read, the next one of its source: `None` where
+/// none is left.
+pub(crate) fn take_char<I: Iterator<Item = char> + Drop>(
+    source: &mut Decompositions<I>,
+    text: &mut ClassedText,
+) -> Result<Option<char>, AllocError>
+    requires { CanDecompose I.can_next I.remaining source.old }
+    ensures ready { OnOk result (CanDecompose I.can_next I.remaining source.new) }
+    ensures text { IfOk result (λ found. TakesChar I.next_gives found
+        source.old (still_unread text.old) source.new (still_unread text.new)) }
+    ensures size { OnOk result
+        (decompositions_size I.remaining source.new + length (still_unread text.new)
+        ≤ decompositions_size I.remaining source.old + length (still_unread text.old)) }
+    ensures shorter { IfOk result (λ found. is_some found ≡ true
+        → decompositions_size I.remaining source.new + length (still_unread text.new)
+        < decompositions_size I.remaining source.old + length (still_unread text.old)) }
+{
+    if let Some(c) = text.take_first() {
+        return Ok(Some(c));
+    }
+    match source.next() {
+        None => Ok(None),
+        Some(item) => Ok(Some(item?)),
+    }
+}
+
+/// Takes a step at a character that was taken off the text, which appends its elements.
 pub(crate) fn stream_step<I: Iterator<Item = char> + Drop>(
     reading: TextReading<'_>,
     source: &mut Decompositions<I>,
     at: &mut Position,
+    c: char,
     list: &mut ElementList,
-) -> Result<bool, AllocError>
+) -> Result<(), AllocError>
     requires { CanDecompose I.can_next I.remaining source.old }
     ensures ready { OnOk result (CanDecompose I.can_next I.remaining source.new) }
-    ensures elements { (all : List Element)
-        → HasElements I.next_gives reading.entry source.old at.old list.old.elements.items all
-        → OnOk result
-        (HasElements I.next_gives reading.entry source.new at.new list.new.elements.items all) }
-    ensures ends { (all : List Element)
-        → HasElements I.next_gives reading.entry source.old at.old list.old.elements.items all
-        → IfOk result (λ more. IsFalse more → all ≡ list.new.elements.items) }
-    ensures shorter { IfOk result (λ more. IsTrue more → chars_ahead I.remaining source.new at.new
-        < chars_ahead I.remaining source.old at.old) }
+    ensures step { OnOk result (TakesStepAt I.next_gives (reading_of reading.entry) c
+        source.old at.old source.new at.new list.old.elements.items list.new.elements.items) }
+    ensures size { OnOk result (chars_ahead I.remaining source.new at.new
+        ≤ chars_ahead I.remaining source.old at.old) }
 {
-    read_first(source, &mut at.text)?;
-    match at.text.take_first() {
-        None => Ok(false),
-        Some(c) => {
-            read_ahead(reading, at.recent, c, source, &mut at.text)?;
-            read_char(reading, at, c, list)?;
-            Ok(true)
-        }
-    }
+    read_ahead(reading, at.recent, c, source, &mut at.text)?;
+    read_char(reading, at, c, list)
 }

@@ -1,0 +1,9 @@
+use Rattle.icu_collation_data.specs.StoredData.{data_of}
+use Rattle.icu_elements.proofs.LoneStepLemmas.{found_inside, found_fits}
+use Rattle.icu_elements.proofs.reader.lone_step.single_element.Goals as goal
+
+pub ce_from_offset_ce32-requires-clause-inside : goal.ce_from_offset_ce32-requires-clause-inside
+ce_from_offset_ce32-requires-clause-inside c = found_inside (data_of c.entry-entry.result.home) c.args.c c.entry-entry.result.ce32 c.entry-entry.ensures.well_formed
+
+pub ce_from_offset_ce32-requires-clause-fits : goal.ce_from_offset_ce32-requires-clause-fits
+ce_from_offset_ce32-requires-clause-fits c = found_fits (data_of c.entry-entry.result.home) c.args.c c.entry-entry.result.ce32 c.entry-entry.ensures.well_formed
