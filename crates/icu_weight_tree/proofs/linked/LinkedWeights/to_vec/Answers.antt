@@ -1,0 +1,6 @@
+-- What was walked and what is left of the walk are the order.
+use Rattle.std.proofs.Common.{◌≡◌, ◌∙◌, ap, sym, subst, suc, arith}
+use Rattle.icu_weight_tree.proofs.linked.LinkedWeights.to_vec.Goals as goal
+
+pub loop-left-preserved : goal.loop-left-preserved
+loop-left-preserved c = let a = c.loop-left in let b = c.in-Some in ?
