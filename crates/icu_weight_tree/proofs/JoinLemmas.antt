@@ -5,7 +5,7 @@ use Rattle.std.specs.Cmp.{unsigned_tied}
 use Rattle.std.specs.Ordering.{is_gt, nat_cmp}
 use Rattle.std.specs.declared.cmp.Ordering.{Ordering}
 use Rattle.std.specs.declared.cmp.Ordering.TheVariants.{Less, Equal, Greater}
-use Rattle.std.specs.declared.ops.bounds.Bound.TheVariants.{Excluded, Unbounded}
+use Rattle.std.specs.declared.ops.Bound.TheVariants.{Excluded, Unbounded}
 use Rattle.std.proofs.lemmas.Bool.{lt-ltb}
 use Rattle.std.proofs.lemmas.Cmp.{ranked}
 use Rattle.std.specs.BTreeMap.{BTreeMap, is_at}
@@ -293,3 +293,7 @@ pub may_push_rooted : (n : ℕ) (xs : List SymbolicWeight) (b : Bool) → b ≡ 
     → Ascends xs → OnTrue b ((stands (Rooted n) xs ≡ false) × Ascends (in_front End (weights.Rooted n) xs))
 may_push_rooted n xs false e fresh s = tt
 may_push_rooted n xs true e fresh s = (fresh, ascends_behind_all n xs fresh s (same_stop (rooted_above n xs) End (sym e)))
+
+pub pushed : (b : Bool) (xs ys : List SymbolicWeight) → b ≡ true → OnTrue b (xs ≡ ys) → xs ≡ ys
+pushed true xs ys e is = is
+pushed false xs ys e is = cc

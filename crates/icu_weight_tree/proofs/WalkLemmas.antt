@@ -16,6 +16,7 @@ value_or d None = d
 value_or d (Some v) = v
 
 inside : {v w : SymbolicWeight} → Some v ≡ Some w → v ≡ w
+unfolding value_or
 inside {v} {w} e = ap (value_or v) e
 
 one_less : (n : ℕ) → suc n - 1 ≡ n

@@ -170,3 +170,13 @@ pub(crate) fn first_tailored(weights: &[SymbolicWeight], common: SymbolicWeight)
     }
     common
 }
+
+/// The last weight of a row, or another one where there is none.
+pub(crate) fn last_in_row(weights: &[SymbolicWeight], other: SymbolicWeight) -> SymbolicWeight
+    ensures { result ≡ last_weight other weights.now }
+{
+    match weights.last() {
+        Some(w) => *w,
+        None => other,
+    }
+}

@@ -10,7 +10,9 @@ ghost use Rattle.icu_weight_tree.specs.BuiltTrees.{weights_in};
 
 use crate::change::Change;
 use crate::linked::{LinkedWeights, linked};
-use crate::listed::{before_in_row, behind, change_row, first_tailored, last_tailored};
+use crate::listed::{
+    before_in_row, behind, change_row, first_tailored, last_in_row, last_tailored,
+};
 use icu_tailoring::SymbolicWeight;
 use std::alloc::{AllocError, Global};
 
@@ -101,7 +103,7 @@ impl Siblings {
         ensures { result ≡ last_weight other (weights_in self.now) }
     {
         match self {
-            Siblings::Listed(weights) => weights.last().copied().unwrap_or(other),
+            Siblings::Listed(weights) => last_in_row(weights.as_slice(), other),
             Siblings::Linked(made) => made.last_or(other),
         }
     }

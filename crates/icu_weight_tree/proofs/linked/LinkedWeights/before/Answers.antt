@@ -13,4 +13,5 @@ returns-in-Some c =
     ∙ (before_found es c.self.invariant c.args.w ∙ ap (directly_before c.args.w) c.self.view_is))
 
 pub returns-in-None : goal.returns-in-None
-returns-in-None c = let a = c.in-None in ?
+returns-in-None c =
+    before_far c.self.inside.links.entries c.self.invariant c.args.w c.in-None.ensures.none ∙ ap (directly_before c.args.w) c.self.view_is

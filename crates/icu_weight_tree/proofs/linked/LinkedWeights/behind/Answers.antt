@@ -14,4 +14,6 @@ returns-in-Some c =
     ∙ (behind_found es c.self.invariant c.args.w ∙ ap (λ xs. first_weight (put_behind c.args.w xs)) c.self.view_is))
 
 pub returns-in-None : goal.returns-in-None
-returns-in-None c = let a = c.in-None in ?
+returns-in-None c =
+    behind_far c.self.inside.links.entries c.self.invariant c.args.w c.in-None.ensures.none
+    ∙ ap (λ xs. first_weight (put_behind c.args.w xs)) c.self.view_is
