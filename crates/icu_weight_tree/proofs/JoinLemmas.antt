@@ -76,10 +76,10 @@ joined es fs gs hs p new s w len n m =
     let l : Links = record { prev = p; next = s } in
     record {
       next = λ q. m.next q ∙ (n.next q
-        ∙ ap (λ t. if is_stop p q then new else t) (written next_or_end es fs new l w q));
+          ∙ ap (λ t. if is_stop p q then new else t) (written next_or_end es fs new l w q));
       prev = λ q. m.prev q ∙ ap (λ t. if is_stop s q then new else t) (n.prev q ∙ written prev_or_end es fs new l w q);
       stands = λ q. m.stands q ∙ (n.stands q ∙ (written (λ o. is_some o) es fs new l w q
-        ∙ (or_if (is_stop new q) (is_linked es q) ∙ ap (λ b. b || is_linked es q) (both_same new q))));
+          ∙ (or_if (is_stop new q) (is_linked es q) ∙ ap (λ b. b || is_linked es q) (both_same new q))));
       len = m.len ∙ (n.len ∙ len);
     }
 
@@ -102,15 +102,17 @@ pub chain_of : (es : LinkList) (xs : List SymbolicWeight) → AreLinked (next_in
     → ((v : SymbolicWeight) → stands (stop_at v) xs ≡ true → number_in v < 2 ^ 32) → length xs < length es
     → (order_of es ≡ xs) × IsChain es
 chain_of es xs linked apart ascends there small len =
-    let is : order_of es ≡ xs = walk_is (next_in es) (prev_in es) End xs (length es) linked (omega arith) in
-    (is, record {
-      linked = subst (AreLinked (next_in es) (prev_in es) End) (sym is) linked;
-      apart = subst AreApart (sym is) apart;
-      ascends = subst Ascends (sym is) ascends;
-      known = λ s. there s ∙ ap (stands s) (sym is);
-      small = subst (λ ys. (v : SymbolicWeight) → stands (stop_at v) ys ≡ true → number_in v < 2 ^ 32) (sym is) small;
-      len = subst (λ ys. length ys < length es) (sym is) len;
-    })
+    let is : order_of es ≡ xs = walk_is (next_in es) (prev_in es) End xs (length es) linked (omega arith) in (
+      is,
+      record {
+        linked = subst (AreLinked (next_in es) (prev_in es) End) (sym is) linked;
+        apart = subst AreApart (sym is) apart;
+        ascends = subst Ascends (sym is) ascends;
+        known = λ s. there s ∙ ap (stands s) (sym is);
+        small = subst (λ ys. (v : SymbolicWeight) → stands (stop_at v) ys ≡ true → number_in v < 2 ^ 32) (sym is) small;
+        len = subst (λ ys. length ys < length es) (sym is) len;
+      },
+    )
 
 -- one place alone, the end
 pub alone_chain : (es : LinkList) → es ≡ (End, record { prev = End; next = End }) ∷ [] → (order_of es ≡ []) × IsChain es

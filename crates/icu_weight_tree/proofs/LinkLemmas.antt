@@ -124,10 +124,11 @@ module _ (next prev next' prev' : Stop → Stop) (p s : Stop) (w : SymbolicWeigh
       (next_kept o (not_behind o End l.0 past) other ∙ l.0, prev_kept End past (not_end w) ∙ l.1)
   frame o (v ∷ xs) l other fresh past =
       let news = both_false (is_stop (stop_at w) (stop_at v)) (stands (stop_at w) xs) fresh in
-      let pasts = both_false (is_stop s (stop_at v)) (stands s xs) past in
-      (next_kept o (not_behind o (stop_at v) l.0 pasts.0) other ∙ l.0,
-      prev_kept (stop_at v) pasts.0 news.0 ∙ l.1,
-      frame (stop_at v) xs l.2 news.0 news.1 pasts.1)
+      let pasts = both_false (is_stop s (stop_at v)) (stands s xs) past in (
+        next_kept o (not_behind o (stop_at v) l.0 pasts.0) other ∙ l.0,
+        prev_kept (stop_at v) pasts.0 news.0 ∙ l.1,
+        frame (stop_at v) xs l.2 news.0 news.1 pasts.1,
+      )
 
   pub linked_in_front : (o : Stop) (xs : List SymbolicWeight) → AreLinked next prev o xs → AreApart xs → is_stop (stop_at w) o ≡ false
       → stands (stop_at w) xs ≡ false → stands s xs ≡ true → prev s ≡ p → AreLinked next' prev' o (in_front s w xs)
@@ -147,11 +148,21 @@ module _ (next prev next' prev' : Stop → Stop) (p s : Stop) (w : SymbolicWeigh
             let last : is_stop s (stop_at w) ≡ false =
             subst (λ q. is_stop q (stop_at w) ≡ false) (sym is) (other_way (stop_at w) (stop_at v) news.0) in
             let past : stands s xs ≡ false = subst (λ q. stands q xs ≡ false) (sym is) apart.0 in
-            rw e (next_put o first, prev_new last ∙ first, (next_new old ∙ is, prev_put (stop_at v) is,
-            frame (stop_at v) xs l.2 news.0 news.1 past))
+            rw e (
+              next_put o first,
+              prev_new last ∙ first,
+              (
+                next_new old ∙ is,
+                prev_put (stop_at v) is,
+                frame (stop_at v) xs l.2 news.0 news.1 past,
+              ),
+            )
         | inr e ↦
-            rw e (next_kept o (not_behind o (stop_at v) l.0 e) other ∙ l.0, prev_kept (stop_at v) e news.0 ∙ l.1,
-            linked_in_front (stop_at v) xs l.2 apart.1 news.0 news.1 (stands_rest s v xs e there) before)
+            rw e (
+              next_kept o (not_behind o (stop_at v) l.0 e) other ∙ l.0,
+              prev_kept (stop_at v) e news.0 ∙ l.1,
+              linked_in_front (stop_at v) xs l.2 apart.1 news.0 news.1 (stands_rest s v xs e there) before,
+            )
       ]
 
 -- ---- directly behind a weight

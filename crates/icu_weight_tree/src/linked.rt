@@ -12,6 +12,7 @@ ghost use Rattle.icu_weight_tree.specs.inner.SiblingPlaces.{number_in};
 ghost use Rattle.icu_weight_tree.specs.inner.LinkedOrders.{order_of, IsChain, Ascends};
 ghost use Rattle.icu_weight_tree.specs.inner.SiblingChanges.{changed};
 ghost use Rattle.icu_weight_tree.specs.inner.TailoredSiblings.{first_weight, first_of_tailored};
+
 use crate::change::Change;
 use crate::links::{LinkMap, Links, is_linked, join, next_in, prev_in};
 use crate::listed::{is_same, is_tailored};

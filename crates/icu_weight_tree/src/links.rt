@@ -65,12 +65,7 @@ fn set_prev(links: &mut LinkMap, at: Stop, prev: Stop)
 }
 
 /// Links a new place between two others. Out of memory, the links stay as they were.
-pub(crate) fn join(
-    links: &mut LinkMap,
-    prev: Stop,
-    new: Stop,
-    next: Stop,
-) -> Result<(), AllocError>
+pub(crate) fn join(links: &mut LinkMap, prev: Stop, new: Stop, next: Stop) -> Result<(), AllocError>
     requires new { is_linked links.old.entries new ≡ false }
     requires prev { is_linked links.old.entries prev ≡ true }
     requires next { is_linked links.old.entries next ≡ true }

@@ -121,10 +121,7 @@ pub(crate) fn change_row(
 }
 
 /// The weight directly before another in a row.
-pub(crate) fn before_in_row(
-    weights: &[SymbolicWeight],
-    w: SymbolicWeight,
-) -> Option<SymbolicWeight>
+pub(crate) fn before_in_row(weights: &[SymbolicWeight], w: SymbolicWeight) -> Option<SymbolicWeight>
     ensures { result ≡ directly_before w weights.now }
 {
     let place = search_first(weights, w);

@@ -36,10 +36,7 @@ pub(crate) fn common_weight(above: &[SymbolicWeight]) -> SymbolicWeight
 }
 
 /// The list that a tree has before any rule.
-fn first_weights(
-    alloc: Global,
-    above: &[SymbolicWeight],
-) -> Result<Vec<SymbolicWeight>, AllocError>
+fn first_weights(alloc: Global, above: &[SymbolicWeight]) -> Result<Vec<SymbolicWeight>, AllocError>
     requires { length above.now ≤ 3 }
     ensures { IfOk result (λ weights. weights.items ≡ first_tree above.now) }
 {

@@ -11,7 +11,11 @@ use crate::tree::WeightTreeBuilder;
 use icu_tailoring::SymbolicWeight;
 
 /// The last of what was tailored behind a weight of the root, or that weight.
-pub(crate) fn last_behind(tree: &WeightTreeBuilder, above: &[SymbolicWeight], w: u32) -> SymbolicWeight
+pub(crate) fn last_behind(
+    tree: &WeightTreeBuilder,
+    above: &[SymbolicWeight],
+    w: u32,
+) -> SymbolicWeight
     requires { length above.now ≤ 3 }
     ensures { result ≡ last_weight (Rooted w) (tailored_behind (tree_of tree.now) above.now (Rooted w)) }
 {

@@ -210,8 +210,19 @@ fn after_ideographs(
 fn many_resets_into_the_midst(rt: HostRuntime) -> Result<(), Fail> {
     let siblings = after_ideographs(&rt, "&\\u5032<x")?;
     assert_eq!(rt; siblings.len(), 201);
-    for (place, wanted) in [(1, 0), (51, 50), (52, 199), (151, 100), (152, 51), (200, 99)] {
-        assert_eq!(rt; siblings.get(place).copied(), Some(Tailored(wanted)), "{place}");
+    for (place, wanted) in [
+        (1, 0),
+        (51, 50),
+        (52, 199),
+        (151, 100),
+        (152, 51),
+        (200, 99),
+    ] {
+        assert_eq!(rt;
+            siblings.get(place).copied(),
+            Some(Tailored(wanted)),
+            "{place}"
+        );
     }
     Ok(())
 }
@@ -220,8 +231,19 @@ fn many_resets_into_the_midst(rt: HostRuntime) -> Result<(), Fail> {
 fn many_resets_before_one_place(rt: HostRuntime) -> Result<(), Fail> {
     let siblings = after_ideographs(&rt, "&[before 1]\\u5032<x")?;
     assert_eq!(rt; siblings.len(), 201);
-    for (place, wanted) in [(1, 0), (50, 49), (51, 100), (150, 199), (151, 50), (200, 99)] {
-        assert_eq!(rt; siblings.get(place).copied(), Some(Tailored(wanted)), "{place}");
+    for (place, wanted) in [
+        (1, 0),
+        (50, 49),
+        (51, 100),
+        (150, 199),
+        (151, 50),
+        (200, 99),
+    ] {
+        assert_eq!(rt;
+            siblings.get(place).copied(),
+            Some(Tailored(wanted)),
+            "{place}"
+        );
     }
     Ok(())
 }

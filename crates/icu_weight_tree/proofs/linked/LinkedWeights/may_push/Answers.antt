@@ -18,6 +18,7 @@ returns-in-Rooted c =
 pub returns-in-Tailored : goal.returns-in-Tailored
 returns-in-Tailored c =
     let xs = c.args.self.now in
-    subst (λ s. (stands s xs ≡ false) × Ascends (in_front End (weight_of s) xs)) (sym c.in-Tailored.is)
-    (ap (λ s. stands s xs) (sym c.in-Tailored.is) ∙ (sym c.has.ensures.value ∙ c.if-has.false),
-    ascends_tailored End c.in-Tailored.field-0 xs c.has.ensures.ascends)
+    subst (λ s. (stands s xs ≡ false) × Ascends (in_front End (weight_of s) xs)) (sym c.in-Tailored.is) (
+      ap (λ s. stands s xs) (sym c.in-Tailored.is) ∙ (sym c.has.ensures.value ∙ c.if-has.false),
+      ascends_tailored End c.in-Tailored.field-0 xs c.has.ensures.ascends,
+    )
