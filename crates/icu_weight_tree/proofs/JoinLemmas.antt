@@ -1,5 +1,5 @@
 -- Links in a map.
-use Rattle.std.proofs.Common.{◌≡◌, ℕ, zero, suc, ◌+◌, ◌<◌, ◌≤◌, ◌^◌, Bool, true, false, ◌||◌, ◌==◌, List, [], ◌∷◌, length, if◌then◌else◌, inl, inr, ◌⊎◌, take_while, unwrap_or, Option, Some, None, refl, ap, sym, ◌∙◌, subst, arith}
+use Rattle.std.proofs.Common.{◌≡◌, ℕ, suc, ◌+◌, ◌<◌, ◌≤◌, ◌^◌, Bool, true, false, ◌||◌, List, [], ◌∷◌, length, if◌then◌else◌, inl, inr, take_while, unwrap_or, Option, Some, None, refl, ap, sym, ◌∙◌, subst, arith}
 use Rattle.std.proofs.lemmas.Bool.{cases_Bool, both_ways}
 use Rattle.std.specs.Cmp.{unsigned_tied}
 use Rattle.std.specs.Ordering.{is_gt, nat_cmp}
@@ -25,8 +25,8 @@ use Rattle.icu_weight_tree.specs.declared.stop.Stop.{Stop}
 use Rattle.icu_weight_tree.specs.declared.stop.Stop.TheVariants.{End, Rooted, Tailored}
 use Rattle.icu_weight_tree.specs.declared.links.Links.{Links}
 use Rattle.icu_weight_tree.specs.inner.Stops.{stop_at, weight_at, weight_of, rooted_or_end, is_stop, stands, in_front, rooted_above}
-use Rattle.icu_weight_tree.specs.inner.LinkedOrders.{stop_order, LinkList, links_at, next_or_end, prev_or_end, next_in, prev_in, is_linked, walk, order_of, AreLinked, AreApart, Ascends, IsChain, SetsNext, SetsPrev, Joins}
-use Rattle.icu_weight_tree.proofs.StopLemmas.{same_stop, same_from, other_way, itself, not_end, stands_in_front, apart_in_front, length_in_front, both_false, either_true, weight_is, above_found, above_none, ascends_behind_all}
+use Rattle.icu_weight_tree.specs.inner.LinkedOrders.{stop_order, LinkList, links_at, next_or_end, prev_or_end, next_in, prev_in, is_linked, order_of, AreLinked, AreApart, Ascends, IsChain, SetsNext, SetsPrev, Joins}
+use Rattle.icu_weight_tree.proofs.StopLemmas.{same_stop, same_from, other_way, not_end, stands_in_front, apart_in_front, length_in_front, both_false, either_true, weight_is, above_found, above_none, ascends_behind_all}
 use Rattle.icu_weight_tree.proofs.LinkLemmas.{walk_is, next_of_prev, prev_of_next_at, next_stands, prev_stands, linked_in_front, behind_in_front, before_is, before_absent, behind_is, behind_absent, last_is, last_behind_is}
 
 -- ---- places in a map

@@ -1,5 +1,5 @@
 -- What edits of siblings leave, by the places of weights among them.
-use Rattle.std.proofs.Common.{◌≡◌, ℕ, zero, suc, ◌+◌, ◌<◌, ◌≤◌, Bool, true, false, List, [], ◌∷◌, ◌++◌, length, get_or, cond, if◌then◌else◌, inl, inr, Option, Some, None, refl, ap, sym, ◌∙◌, subst, arith}
+use Rattle.std.proofs.Common.{◌≡◌, ℕ, zero, suc, ◌+◌, ◌<◌, ◌≤◌, Bool, true, false, List, [], ◌∷◌, ◌++◌, length, get_or, cond, if◌then◌else◌, inl, inr, Option, Some, None, refl, ap, sym, ◌∙◌, arith}
 use Rattle.std.proofs.lemmas.Bool.{both_ways, cases_Bool, cases_order, eqb-true, eq-eqb, ne_eqb, lt-ltb, le-ltb, le-leb, lt-leb}
 use Rattle.std.proofs.lemmas.List.Recursion.{is_position_or_len}
 use Rattle.std.proofs.lemmas.List.Sums.{position_or_len_is}
@@ -8,7 +8,7 @@ use Rattle.icu_tailoring.specs.declared.symbolic.SymbolicWeight.{SymbolicWeight}
 use Rattle.icu_tailoring.specs.declared.symbolic.SymbolicWeight.TheVariants.{Rooted, Tailored}
 use Rattle.icu_tailoring.specs.SymbolicElements.{is_same_weight}
 use Rattle.icu_tailoring.specs.WeightTrees.{with_rooted, with_behind, directly_before, before_from}
-use Rattle.icu_tailoring.proofs.TreeLemmas.{same_weight_is, is_itself}
+use Rattle.icu_tailoring.proofs.TreeLemmas.{is_itself}
 use Rattle.icu_weight_tree.specs.inner.SiblingPlaces.{place_by, ends_search, place_among, first_place}
 
 -- ---- places

@@ -1,5 +1,5 @@
 -- Places, and weights that are put before them.
-use Rattle.std.proofs.Common.{◌≡◌, ℕ, zero, suc, ◌+◌, ◌<◌, ◌≤◌, Bool, true, false, ◌||◌, nat_lt, ◌==◌, List, [], ◌∷◌, ◌++◌, length, if◌then◌else◌, inl, inr, ◌⊎◌, refl, ap, sym, ◌∙◌, subst, arith}
+use Rattle.std.proofs.Common.{◌≡◌, ℕ, suc, ◌<◌, ◌≤◌, Bool, true, false, ◌||◌, nat_lt, ◌==◌, List, [], ◌∷◌, ◌++◌, length, inl, inr, ◌⊎◌, refl, ap, sym, ◌∙◌, subst, arith}
 use Rattle.std.proofs.lemmas.Bool.{both_ways, cases_Bool, eqb-true, eq-eqb, ne_eqb}
 use Rattle.std.proofs.lemmas.Bool.Decides.{nat_tests}
 use Rattle.icu_tailoring.specs.declared.symbolic.SymbolicWeight.{SymbolicWeight}
@@ -9,7 +9,7 @@ use Rattle.icu_tailoring.specs.WeightTrees.{with_rooted}
 use Rattle.icu_tailoring.proofs.TreeLemmas.{either}
 use Rattle.icu_weight_tree.specs.declared.stop.Stop.{Stop}
 use Rattle.icu_weight_tree.specs.declared.stop.Stop.TheVariants.{End, Rooted, Tailored}
-use Rattle.icu_weight_tree.specs.inner.Stops.{stop_at, weight_at, weight_of, is_stop, stands, in_front, rooted_above}
+use Rattle.icu_weight_tree.specs.inner.Stops.{stop_at, is_stop, stands, in_front, rooted_above}
 use Rattle.icu_weight_tree.specs.inner.LinkedOrders.{AreApart, Ascends}
 
 -- ---- the same place

@@ -1,5 +1,5 @@
 -- What is left of the walk decides.
-use Rattle.std.proofs.Common.{◌≡◌, ◌-◌, ◌∙◌, ap, sym, subst, arith}
+use Rattle.std.proofs.Common.{◌-◌, ◌∙◌, ap, sym}
 use Rattle.icu_weight_tree.specs.inner.LinkedOrders.{next_in, walk}
 use Rattle.icu_weight_tree.specs.inner.TailoredSiblings.{first_of_tailored}
 use Rattle.icu_weight_tree.proofs.WalkLemmas.{tailored_on, tailored_met, tailored_common, tailored_ended, tailored_done}

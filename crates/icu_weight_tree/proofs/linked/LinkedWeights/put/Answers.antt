@@ -1,8 +1,7 @@
 -- A weight that is linked between two places stands between them.
-use Rattle.std.proofs.Common.{◌≡◌, true, ◌∙◌, ap, sym, subst, ◌<◌, ◌^◌, List}
-use Rattle.icu_tailoring.specs.declared.symbolic.SymbolicWeight.{SymbolicWeight}
+use Rattle.std.proofs.Common.{◌≡◌, true, ◌∙◌, ap, sym, subst}
 use Rattle.icu_weight_tree.specs.inner.Stops.{stands, in_front, weight_of}
-use Rattle.icu_weight_tree.specs.inner.LinkedOrders.{is_linked, IsChain, Joins, Ascends, order_of}
+use Rattle.icu_weight_tree.specs.inner.LinkedOrders.{is_linked, IsChain, Joins, Ascends}
 use Rattle.icu_weight_tree.proofs.JoinLemmas.{joined_chain, prev_is_linked}
 use Rattle.icu_weight_tree.proofs.linked.LinkedWeights.put.Goals as goal
 

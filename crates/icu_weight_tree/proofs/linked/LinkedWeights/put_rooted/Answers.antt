@@ -1,7 +1,7 @@
 -- A weight of the root is put before the first greater one.
-use Rattle.std.proofs.Common.{◌≡◌, true, false, ◌∙◌, ap, sym, subst, OnOk}
+use Rattle.std.proofs.Common.{◌≡◌, true, ◌∙◌, ap, sym, subst, OnOk}
 use Rattle.icu_tailoring.specs.declared.symbolic.SymbolicWeight.TheVariants.{Rooted}
-use Rattle.icu_weight_tree.specs.inner.Stops.{stands, in_front, rooted_above}
+use Rattle.icu_weight_tree.specs.inner.Stops.{stands, in_front}
 use Rattle.icu_weight_tree.specs.inner.LinkedOrders.{Ascends}
 use Rattle.icu_weight_tree.proofs.StopLemmas.{rooted_put, rooted_stays, ascends_rooted, above_stands}
 use Rattle.icu_weight_tree.proofs.linked.LinkedWeights.put_rooted.Goals as goal

@@ -1,5 +1,5 @@
 -- Before the end is behind all others.
-use Rattle.std.proofs.Common.{◌≡◌, ◌<◌, ◌^◌, [], ◌∷◌, ◌++◌, ◌∙◌, ap, sym, subst}
+use Rattle.std.proofs.Common.{◌<◌, ◌^◌, [], ◌∷◌, ◌++◌, ◌∙◌, ap, sym, subst}
 use Rattle.icu_weight_tree.specs.inner.Stops.{weight_of}
 use Rattle.icu_weight_tree.specs.inner.SiblingPlaces.{number_in}
 use Rattle.icu_weight_tree.proofs.StopLemmas.{end_stands, in_front_of_end}
