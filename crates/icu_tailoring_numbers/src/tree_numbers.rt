@@ -112,7 +112,8 @@ impl TailoringNumbers {
         ensures between { IfOk result (λ t.
             KeepsNeighbours (R.root root.now) (tree_of tree.now) (numbering_of t)) }
     {
-        if ascend_below(alloc, root, &self, tree, begun)? {
+        let ascend = ascend_below(alloc, root, &self, tree, begun)?;
+        if ascend {
             Ok(self)
         } else {
             Err(NumberingError::Unordered)
