@@ -5,6 +5,7 @@ use icu_rules::Rules;
 use icu_tailoring::SymbolicWeight::{self, Rooted, Tailored};
 use std::alloc::{AllocError, Global};
 use std::fmt::Write;
+use std::process::Abort;
 use std::test::Fail;
 
 /// Rules, weights of the levels before, and the weights below them, ascending: those of the root in hexadecimal, and
