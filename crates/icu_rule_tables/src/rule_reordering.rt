@@ -87,7 +87,8 @@ fn reordered_groups(
         (owned_reordering made)) }
 {
     let starts = script_starts(alloc, root)?;
-    let own = primary_numbers(alloc, numbers, said.tree().siblings(&[]))?;
+    let siblings = said.tree().siblings(alloc, &[])?;
+    let own = primary_numbers(alloc, numbers, siblings.as_slice())?;
     let spans = script_spans(alloc, root, own.as_slice(), starts.as_slice())?;
     if !are_groups(starts.as_slice(), spans.as_slice()) {
         return Err(ReorderingError::NoLeads);

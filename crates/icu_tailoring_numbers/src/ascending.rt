@@ -1,5 +1,5 @@
 //! Whether numbers ascend, and stand between the same weights of the root as in the tree.
-ghost use Rattle.std.specs.Prelude.{◌≡◌, ◌&&◌, nat_lt};
+ghost use Rattle.std.specs.Prelude.{◌≡◌, ◌&&◌, nat_lt, IfOk};
 ghost use Rattle.std.specs.Bool.{OnTrue};
 ghost use Rattle.icu_weight_tree.specs.BuiltTrees.{parent_weights};
 ghost use Rattle.icu_weight_tree.specs.TreeBuilders.{tree_of};
@@ -9,6 +9,7 @@ use crate::level_runs::next_of_root;
 use crate::tailoring_numbers::TailoringNumbers;
 use icu_tailoring::SymbolicWeight;
 use icu_weight_tree::{Parents, RootWeights, WeightTreeBuilder};
+use std::alloc::{AllocError, Global};
 
 /// Whether a number is above the one before, and, if it is of a tailored weight, below the next weight of the root.
 fn follows(w: SymbolicWeight, number: u32, before: u32, next: Option<u32>) -> bool
@@ -89,18 +90,20 @@ fn ascend_among<R: RootWeights>(
 
 /// Whether numbers ascend below all of these parents.
 pub(crate) fn ascend_below<R: RootWeights>(
+    alloc: Global,
     root: &R,
     numbers: &TailoringNumbers,
     tree: &WeightTreeBuilder,
     begun: &[Parents],
-) -> bool
-    ensures { OnTrue result (AscendBelow (R.root root.now) numbers.now (tree_of tree.now)
-        begun.now) }
+) -> Result<bool, AllocError>
+    ensures { IfOk result (λ ascend. OnTrue ascend (AscendBelow (R.root root.now) numbers.now
+        (tree_of tree.now) begun.now)) }
 {
     for parents in begun {
-        if !ascend_among(root, *parents, numbers, tree.siblings_below(*parents)) {
-            return false;
+        let siblings = tree.siblings_below(alloc, *parents)?;
+        if !ascend_among(root, *parents, numbers, siblings.as_slice()) {
+            return Ok(false);
         }
     }
-    true
+    Ok(true)
 }

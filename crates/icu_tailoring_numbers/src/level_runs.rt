@@ -51,15 +51,31 @@ pub(crate) fn next_of_root<R: RootWeights>(root: &R, parents: Parents, w: u32) -
     }
 }
 
-/// Adds the runs below parents in which something is tailored.
+/// The weights below the parents of a level.
+pub(crate) fn level_siblings(
+    alloc: Global,
+    tree: &WeightTreeBuilder,
+    begun: &[Parents],
+    level: u8,
+) -> Result<Vec<(Parents, Vec<SymbolicWeight>)>, AllocError> {
+    let mut found = Vec::new(alloc);
+    for parents in begun {
+        if level_below(*parents) == level {
+            found.push((*parents, tree.siblings_below(alloc, *parents)?))?;
+        }
+    }
+    Ok(found)
+}
+
+/// Adds the runs of siblings in which something is tailored.
 fn push_runs<'t, R: RootWeights>(
     alloc: Global,
     root: &R,
-    tree: &'t WeightTreeBuilder,
     parents: Parents,
+    siblings: &'t [SymbolicWeight],
     runs: &mut Vec<SiblingRun<'t>>,
 ) -> Result<(), AllocError> {
-    let found = sibling_runs(alloc, are_alone(parents), tree.siblings_below(parents))?;
+    let found = sibling_runs(alloc, are_alone(parents), siblings)?;
     for run in &found {
         if !run.tailored.is_empty() {
             runs.push(run.limited_by(next_of_root(root, parents, run.rooted)))?;
@@ -72,15 +88,11 @@ fn push_runs<'t, R: RootWeights>(
 pub(crate) fn level_runs<'t, R: RootWeights>(
     alloc: Global,
     root: &R,
-    tree: &'t WeightTreeBuilder,
-    begun: &[Parents],
-    level: u8,
+    siblings: &'t [(Parents, Vec<SymbolicWeight>)],
 ) -> Result<Vec<SiblingRun<'t>>, AllocError> {
     let mut runs = Vec::new(alloc);
-    for parents in begun {
-        if level_below(*parents) == level {
-            push_runs(alloc, root, tree, *parents, &mut runs)?;
-        }
+    for (parents, weights) in siblings {
+        push_runs(alloc, root, *parents, weights.as_slice(), &mut runs)?;
     }
     Ok(runs)
 }

@@ -8,7 +8,7 @@ ghost use Rattle.icu_tailoring_numbers.specs.RootNeighbours.{KeepsNeighbours};
 
 use crate::ascending::ascend_below;
 use crate::error::NumberingError;
-use crate::level_runs::level_runs;
+use crate::level_runs::{level_runs, level_siblings};
 use crate::quaternary_numbers::number_quaternaries;
 use crate::root_levels::RootLevels;
 use crate::tailoring_numbers::TailoringNumbers;
@@ -91,16 +91,18 @@ impl TailoringNumbers {
         let begun = tree.begun_parents(alloc)?;
         let mut numbers = TailoringNumbers::unset(alloc, tree.made())?;
         for level in 1..5 {
-            let runs = level_runs(alloc, root, tree, begun.as_slice(), level)?;
+            let siblings = level_siblings(alloc, tree, begun.as_slice(), level)?;
+            let runs = level_runs(alloc, root, siblings.as_slice())?;
             numbers.number_level(alloc, levels, level, runs.as_slice())?;
         }
-        numbers.if_ascending(root, tree, begun.as_slice())
+        numbers.if_ascending(alloc, root, tree, begun.as_slice())
     }
 
     /// These numbers, if they ascend below the parents that rules put weights below.
     #[tactic(auto, using(crate::proofs::NumberingLemmas::numbers_tree))]
     fn if_ascending<R: RootWeights>(
         self,
+        alloc: Global,
         root: &R,
         tree: &WeightTreeBuilder,
         begun: &[Parents],
@@ -110,7 +112,8 @@ impl TailoringNumbers {
         ensures between { IfOk result (λ t.
             KeepsNeighbours (R.root root.now) (tree_of tree.now) (numbering_of t)) }
     {
-        if ascend_below(root, &self, tree, begun) {
+        let ascend = ascend_below(alloc, root, &self, tree, begun)?;
+        if ascend {
             Ok(self)
         } else {
             Err(NumberingError::Unordered)

@@ -6,4 +6,7 @@ mod CountingLemmas
 mod RuleStateLemmas
 mod PositionLemmas
 mod BegunParentLemmas
-mod WeightRowLemmas
+mod StopLemmas
+mod LinkLemmas
+mod JoinLemmas
+mod WalkLemmas

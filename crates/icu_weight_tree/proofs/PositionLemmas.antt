@@ -3,13 +3,14 @@ use Rattle.std.proofs.Common.{◌≡◌, ℕ, zero, suc, ◌-◌, ◌<◌, Bool,
 use Rattle.std.proofs.lemmas.Bool.{cases_Bool, lt-ltb, ne_eqb}
 use Rattle.std.proofs.lemmas.List.Sums.{take_while-cons}
 use Rattle.icu_tailoring.specs.declared.symbolic.SymbolicWeight.{SymbolicWeight}
-use Rattle.icu_tailoring.specs.SymbolicElements.{has_tailored_weight, is_same_weight}
-use Rattle.icu_tailoring.specs.WeightTrees.{put_behind}
+use Rattle.icu_tailoring.specs.declared.symbolic.SymbolicWeight.TheVariants.{Rooted, Tailored}
+use Rattle.icu_tailoring.specs.SymbolicElements.{has_tailored_weight, is_same_weight, common_below}
+use Rattle.icu_tailoring.specs.WeightTrees.{put_behind, first_tree}
 use Rattle.icu_tailoring.specs.TailoredRoots.{first_above}
 use Rattle.icu_tailoring.specs.RootPositions.{first_number, nonzero_weights, last_weight}
-use Rattle.icu_tailoring.proofs.TreeLemmas.{same_weight_is}
+use Rattle.icu_tailoring.proofs.TreeLemmas.{same_weight_is, is_itself, either}
 use Rattle.icu_weight_tree.specs.inner.SiblingPlaces.{first_place}
-use Rattle.icu_weight_tree.specs.inner.TailoredSiblings.{first_of_tailored}
+use Rattle.icu_weight_tree.specs.inner.TailoredSiblings.{first_weight, if_tailored, first_of_tailored}
 
 pub first_above_zero : (ws : List ℕ) → unwrap_or (first_above ws 0) 0 ≡ first_number (nonzero_weights ws)
 unfolding first_above
@@ -66,3 +67,24 @@ last_weight_is found (w ∷ []) d some = refl
 last_weight_is found (w ∷ v ∷ xs) d some =
     ap (λ n. get_or (w ∷ v ∷ xs) n d) (sub_one (length (v ∷ xs)))
     ∙ (sym (ap (λ n. get_or (v ∷ xs) n d) (sub_one (length xs))) ∙ last_weight_is w (v ∷ xs) d (omega arith))
+
+-- ---- before any rule
+
+pub tailored_first : (xs : List SymbolicWeight) → if_tailored (first_weight xs) ≡ first_weight (take_while has_tailored_weight xs)
+tailored_first [] = refl
+tailored_first (Rooted w ∷ xs) = ap first_weight (sym (take_while-cons has_tailored_weight (Rooted w) xs))
+tailored_first (Tailored k ∷ xs) = ap first_weight (sym (take_while-cons has_tailored_weight (Tailored k) xs))
+
+pub none_put_behind : (w : SymbolicWeight) (above : List SymbolicWeight) → put_behind w (first_tree above) ≡ []
+unfolding put_behind
+none_put_behind w [] = refl
+none_put_behind w (v ∷ vs) =
+    either (λ (ys : List SymbolicWeight). ys ≡ []) (is_same_weight (common_below (v ∷ vs)) w) [] [] (λ _. refl) (λ _. refl)
+
+pub none_tailored : (above : List SymbolicWeight) → common_below above ≡ first_of_tailored (common_below above) (first_tree above)
+none_tailored [] = refl
+none_tailored (v ∷ vs) = common_met (common_below (v ∷ vs)) (common_below (v ∷ vs)) [] (is_itself (common_below (v ∷ vs)))
+
+pub last_of_first : (above : List SymbolicWeight) → common_below above ≡ last_weight (common_below above) (first_tree above)
+last_of_first [] = refl
+last_of_first (v ∷ vs) = refl

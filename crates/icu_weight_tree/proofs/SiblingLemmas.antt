@@ -1,19 +1,15 @@
 -- What edits of siblings leave, by the places of weights among them.
-use Rattle.std.proofs.Common.{◌≡◌, ℕ, zero, suc, ◌+◌, ◌<◌, ◌≤◌, Bool, true, false, List, [], ◌∷◌, ◌++◌, length, take, drop, get_or, cond, if◌then◌else◌, inl, inr, Option, Some, None, refl, ap, sym, ◌∙◌, subst, arith}
+use Rattle.std.proofs.Common.{◌≡◌, ℕ, zero, suc, ◌+◌, ◌<◌, ◌≤◌, Bool, true, false, List, [], ◌∷◌, ◌++◌, length, get_or, cond, if◌then◌else◌, inl, inr, Option, Some, None, refl, ap, sym, ◌∙◌, arith}
 use Rattle.std.proofs.lemmas.Bool.{both_ways, cases_Bool, cases_order, eqb-true, eq-eqb, ne_eqb, lt-ltb, le-ltb, le-leb, lt-leb}
 use Rattle.std.proofs.lemmas.List.Recursion.{is_position_or_len}
 use Rattle.std.proofs.lemmas.List.Sums.{position_or_len_is}
-use Rattle.std.proofs.lemmas.List.{get_or_default}
-use Rattle.std.proofs.lemmas.List.Edits.{get_or-insert_at}
-use Rattle.std.proofs.lemmas.List.Elements.{All-cons, All-append, All-take, All-drop}
-use Rattle.std.specs.Bool.{OnTrue}
-use Rattle.std.specs.List.{insert, All}
+use Rattle.std.specs.List.{insert}
 use Rattle.icu_tailoring.specs.declared.symbolic.SymbolicWeight.{SymbolicWeight}
 use Rattle.icu_tailoring.specs.declared.symbolic.SymbolicWeight.TheVariants.{Rooted, Tailored}
 use Rattle.icu_tailoring.specs.SymbolicElements.{is_same_weight}
 use Rattle.icu_tailoring.specs.WeightTrees.{with_rooted, with_behind, directly_before, before_from}
-use Rattle.icu_tailoring.proofs.TreeLemmas.{same_weight_is, is_itself}
-use Rattle.icu_weight_tree.specs.inner.SiblingPlaces.{place_by, ends_search, place_among, first_place, IsFoundAt, AreUpTo, number_in}
+use Rattle.icu_tailoring.proofs.TreeLemmas.{is_itself}
+use Rattle.icu_weight_tree.specs.inner.SiblingPlaces.{place_by, ends_search, place_among, first_place}
 
 -- ---- places
 
@@ -202,48 +198,3 @@ pub nothing_before : (w : SymbolicWeight) (xs : List SymbolicWeight) → first_p
 unfolding before_from
 nothing_before w [] e = refl
 nothing_before w (v ∷ xs) e = before_first None w (v ∷ xs) e (omega arith)
-
--- ---- what is remembered
-
--- a weight that was put no later than where it belongs is found there
-pub found_inserted : (x : SymbolicWeight) (xs : List SymbolicWeight) (i : ℕ) → i ≤ place_among x xs
-    → IsFoundAt (insert xs i x) i
-found_inserted x xs i most small =
-    let room = place_le (ends_search x) xs in
-    rw (get_or-insert_at xs i x (Rooted 0) (omega arith)) (place_inserted (ends_search x) xs i x most (self_ends x))
-
--- a tailored weight whose number is greater than all isn't found
-pub fresh_place : (greatest k : ℕ) (xs : List SymbolicWeight) → AreUpTo greatest xs → greatest < k
-    → length xs ≤ place_among (Tailored k) xs
-fresh_place greatest k [] all less = omega arith
-fresh_place greatest k (v ∷ xs) all less =
-    let rest = fresh_place greatest k xs (λ j d small. all (suc j) d (omega arith)) less in
-    rw (other v (all 0 (Rooted 0) (omega arith))) (omega arith)
-  where
-    other : (w : SymbolicWeight) → number_in w ≤ greatest → ends_search (Tailored k) w ≡ false
-    other (Rooted n) most = refl
-    other (Tailored j) most = ne_eqb j k (λ e. omega arith)
-
-pub up_to_inserted : (greatest more : ℕ) (x : SymbolicWeight) (xs : List SymbolicWeight) (i : ℕ) → AreUpTo greatest xs
-    → greatest ≤ more → number_in x ≤ more → AreUpTo more (insert xs i x)
-up_to_inserted greatest more x xs i all grows most =
-    All-append P (take i xs) (x ∷ drop i xs) (All-take P i xs raised)
-    (All-cons P x (drop i xs) most (All-drop P i xs raised))
-  where
-    P : SymbolicWeight → Type 0
-    P w = number_in w ≤ more
-
-    raised : All P xs
-    raised j d small = let before = all j d small in omega arith
-
--- the weight that is remembered is found
-pub remembered : (xs : List SymbolicWeight) (last : ℕ) (w x : SymbolicWeight) (b : Bool) → IsFoundAt xs last
-    → last < length xs → x ≡ get_or xs last x → b ≡ is_same_weight x w
-    → OnTrue b ((last < length xs) × (place_among w xs ≡ last) × (first_place w xs ≡ last))
-remembered xs last w x false found small at e = tt
-remembered xs last w x true found small at e =
-    let there : get_or xs last (Rooted 0) ≡ w =
-    get_or_default xs last (Rooted 0) x small ∙ (sym at ∙ same_weight_is x w (sym e)) in
-    let place : place_among w xs ≡ last = subst (λ v. place_among v xs ≡ last) there (found small) in
-    let same : is_same_weight (get_or xs (place_among w xs) (Rooted 0)) w ≡ true = rw (place, there) (is_itself w) in
-    (small, place, first_at_place w xs (Rooted 0) (omega arith) same ∙ place)

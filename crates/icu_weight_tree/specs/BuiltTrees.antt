@@ -7,6 +7,7 @@ use Rattle.icu_tailoring.specs.WeightTrees.{WeightTree, first_tree}
 use Rattle.icu_weight_tree.specs.declared.parents.Parents.{Parents}
 use Rattle.icu_weight_tree.specs.declared.parents.Parents.TheVariants.{Nothing, Primary, Secondary, Tertiary}
 use Rattle.icu_weight_tree.specs.declared.siblings.Siblings.{Siblings}
+use Rattle.icu_weight_tree.specs.declared.siblings.Siblings.TheVariants.{Listed, Linked}
 
 -- weights one below another
 abbrev pub parent_weights : Parents → List SymbolicWeight
@@ -19,10 +20,15 @@ parent_weights (Tertiary p s t) = p ∷ s ∷ t ∷ []
 abbrev pub are_parents : List SymbolicWeight → Parents → Bool
 are_parents above parents = are_same_weights above (parent_weights parents)
 
+-- the weights of a list
+abbrev pub weights_in : Siblings → List SymbolicWeight
+weights_in (Listed weights) = weights.items
+weights_in (Linked weights) = weights
+
 -- the siblings of a list, if it was begun; else the common weight alone
 abbrev pub begun_siblings : List SymbolicWeight → Option Siblings → List SymbolicWeight
 begun_siblings above None = first_tree above
-begun_siblings above (Some siblings) = siblings.weights
+begun_siblings above (Some siblings) = weights_in siblings
 
 -- the tree that lists of siblings are of
 abbrev pub tree_in : List (Parents × Siblings) → WeightTree

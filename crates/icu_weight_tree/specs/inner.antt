@@ -1,3 +1,5 @@
 pub mod SiblingPlaces
 pub mod SiblingChanges
 pub mod TailoredSiblings
+pub mod Stops
+pub mod LinkedOrders

@@ -3,15 +3,18 @@
 
 mod change;
 pub mod counting_elements;
+mod linked;
+mod links;
+mod listed;
 mod lists;
 pub mod parents;
 pub mod positions;
 pub mod root_weights;
 pub mod rule_elements;
 mod siblings;
+mod stop;
 mod tailored_siblings;
 pub mod tree;
-mod weight_row;
 
 pub use counting_elements::{counting_at, last_or_ignorable};
 pub use parents::Parents;

@@ -1,9 +1,10 @@
 //! Lists of siblings by the weights below which they stand.
 ghost use Rattle.std.specs.Prelude.{◌≡◌, ◌≤◌, [], length, OnOk, IfOk};
+ghost use Rattle.std.specs.Option.{option_copied};
 ghost use Rattle.std.specs.BTreeMap.{keys};
 ghost use Rattle.icu_tailoring.specs.SymbolicElements.{common_below};
 ghost use Rattle.icu_tailoring.specs.WeightTrees.{first_tree, with_siblings, directly_before};
-ghost use Rattle.icu_weight_tree.specs.BuiltTrees.{tree_in, AreBegun};
+ghost use Rattle.icu_weight_tree.specs.BuiltTrees.{begun_siblings, tree_in, AreBegun};
 ghost use Rattle.icu_weight_tree.specs.inner.SiblingChanges.{changed};
 
 use crate::change::Change;
@@ -35,15 +36,15 @@ pub(crate) fn common_weight(above: &[SymbolicWeight]) -> SymbolicWeight
 }
 
 /// The list that a tree has before any rule.
-fn first_siblings(alloc: Global, above: &[SymbolicWeight]) -> Result<Siblings, AllocError>
+fn first_weights(alloc: Global, above: &[SymbolicWeight]) -> Result<Vec<SymbolicWeight>, AllocError>
     requires { length above.now ≤ 3 }
-    ensures { IfOk result (λ s. s.weights ≡ first_tree above.now) }
+    ensures { IfOk result (λ weights. weights.items ≡ first_tree above.now) }
 {
     let mut weights = Vec::new(alloc);
     if !above.is_empty() {
         weights.push(common_weight(above))?;
     }
-    Ok(Siblings::of(weights))
+    Ok(weights)
 }
 
 /// Changes the list below weights, and begins it first where there is none.
@@ -60,11 +61,12 @@ pub(crate) fn change_list(
 {
     let parents = parents_of(above);
     if let Some(siblings) = lists.get_mut(&parents) {
-        siblings.change(change)?;
+        siblings.change(alloc, change)?;
         return Ok(());
     }
-    let mut siblings = first_siblings(alloc, above)?;
-    siblings.change(change)?;
+    let weights = first_weights(alloc, above)?;
+    let mut siblings = Siblings::Listed(weights);
+    siblings.change(alloc, change)?;
     lists.insert(parents, siblings)?;
     Ok(())
 }
@@ -78,34 +80,32 @@ pub(crate) fn before_in(
     requires { length above.now ≤ 3 }
     ensures { result ≡ directly_before w (tree_in lists.now.entries above.now) }
 {
-    match lists.get(&parents_of(above)) {
+    match begun_list(lists, above) {
         Some(siblings) => siblings.before(w),
         None => None,
     }
 }
 
-/// The list that a tree has before any rule.
-fn first_list(above: &[SymbolicWeight]) -> &'static [SymbolicWeight]
+/// The list below weights, if it was begun.
+pub(crate) fn begun_list<'a>(lists: &'a Lists, above: &[SymbolicWeight]) -> Option<&'a Siblings>
     requires { length above.now ≤ 3 }
-    ensures { result.now ≡ first_tree above.now }
+    ensures { begun_siblings above.now (option_copied result) ≡ tree_in lists.now.entries above.now }
 {
-    if above.is_empty() {
-        return &[];
-    }
-    match common_weight(above) {
-        SymbolicWeight::Rooted(0) => &[SymbolicWeight::Rooted(0)],
-        _ => &[SymbolicWeight::Rooted(COMMON)],
-    }
+    lists.get(&parents_of(above))
 }
 
 /// The weights below others.
-pub(crate) fn siblings_in<'a>(lists: &'a Lists, above: &[SymbolicWeight]) -> &'a [SymbolicWeight]
+pub(crate) fn siblings_in(
+    alloc: Global,
+    lists: &Lists,
+    above: &[SymbolicWeight],
+) -> Result<Vec<SymbolicWeight>, AllocError>
     requires { length above.now ≤ 3 }
-    ensures { result.now ≡ tree_in lists.now.entries above.now }
+    ensures { IfOk result (λ siblings. siblings.items ≡ tree_in lists.now.entries above.now) }
 {
-    match lists.get(&parents_of(above)) {
-        Some(siblings) => siblings.as_slice(),
-        None => first_list(above),
+    match begun_list(lists, above) {
+        Some(siblings) => siblings.to_vec(alloc),
+        None => first_weights(alloc, above),
     }
 }
 

@@ -6,8 +6,9 @@ ghost use Rattle.icu_tailoring.specs.RootPositions.{first_ignored, first_number,
 ghost use Rattle.icu_weight_tree.specs.TreeBuilders.{tree_of};
 
 use crate::counting_elements::make_element;
+use crate::listed::is_tailored;
 use crate::root_weights::RootWeights;
-use crate::tailored_siblings::{first_behind, first_below, is_tailored, last_behind, last_below};
+use crate::tailored_siblings::{first_behind, first_below, last_behind, last_below};
 use crate::tree::WeightTreeBuilder;
 use icu_rules::LogicalPosition;
 use icu_tailoring::{SymbolicElement, SymbolicWeight};
@@ -122,7 +123,7 @@ fn last_secondary_ignorable<R: RootWeights>(root: &R, tree: &WeightTreeBuilder) 
     ensures { result ≡ position_element (R.root root.now) (tree_of tree.now)
         LogicalPosition.LastSecondaryIgnorable }
 {
-    let last = SymbolicWeight::Rooted(root.last_weight(&[0, 0]));
+    let last = root.last_weight(&[0, 0]);
     last_tertiary_element(tree, last_behind(tree, &[ZERO, ZERO], last))
 }
 
@@ -140,7 +141,7 @@ fn last_primary_ignorable<R: RootWeights>(root: &R, tree: &WeightTreeBuilder) ->
     ensures { result ≡ position_element (R.root root.now) (tree_of tree.now)
         LogicalPosition.LastPrimaryIgnorable }
 {
-    let last = SymbolicWeight::Rooted(root.last_weight(&[0]));
+    let last = root.last_weight(&[0]);
     last_secondary_element(tree, last_behind(tree, &[ZERO], last))
 }
 
@@ -148,7 +149,7 @@ fn last_primary_ignorable<R: RootWeights>(root: &R, tree: &WeightTreeBuilder) ->
 fn last_from_primary(tree: &WeightTreeBuilder, p: u32) -> SymbolicElement
     ensures { result ≡ element_with (last_from (tree_of tree.now) [] p) 1 }
 {
-    last_primary_element(tree, last_behind(tree, &[], SymbolicWeight::Rooted(p)))
+    last_primary_element(tree, last_behind(tree, &[], p))
 }
 
 /// The element of the first position of what is never variable.

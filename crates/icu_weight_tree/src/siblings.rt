@@ -1,219 +1,120 @@
 //! The weights that stand below the same weights.
-ghost use Rattle.std.specs.Prelude.{◌≡◌, ◌<◌, ◌≤◌, ◌++◌, ◌∷◌, [], length, slice_index_or, insert, OnOk, OnErr, IfOk};
-ghost use Rattle.std.specs.Bool.{OnTrue};
-ghost use Rattle.icu_tailoring.specs.SymbolicElements.{is_same_weight};
-ghost use Rattle.icu_tailoring.specs.WeightTrees.{with_rooted, with_behind, directly_before};
+ghost use Rattle.std.specs.Prelude.{◌≡◌, OnOk, IfOk, take_while};
+ghost use Rattle.icu_tailoring.specs.declared.symbolic.SymbolicWeight.TheVariants as symbolic;
+ghost use Rattle.icu_tailoring.specs.SymbolicElements.{has_tailored_weight};
+ghost use Rattle.icu_tailoring.specs.WeightTrees.{directly_before, put_behind};
+ghost use Rattle.icu_tailoring.specs.RootPositions.{last_weight};
 ghost use Rattle.icu_weight_tree.specs.inner.SiblingChanges.{changed};
-ghost use Rattle.icu_weight_tree.specs.inner.SiblingPlaces.{ends_search, place_among, first_place, IsFoundAt, AreUpTo, number_in};
+ghost use Rattle.icu_weight_tree.specs.inner.TailoredSiblings.{first_weight, first_of_tailored};
+ghost use Rattle.icu_weight_tree.specs.BuiltTrees.{weights_in};
 
 use crate::change::Change;
-use crate::weight_row::WeightRow;
+use crate::linked::{LinkedWeights, linked};
+use crate::listed::{
+    before_in_row, behind, change_row, first_tailored, last_in_row, last_tailored,
+};
 use icu_tailoring::SymbolicWeight;
-use std::alloc::AllocError;
+use std::alloc::{AllocError, Global};
 
 /// Weights below the same ones, ascending.
 #[derive(Debug, Drop)]
-pub(crate) struct Siblings {
-    weights: WeightRow,
-    // where a weight was put or looked for last; it is looked for there first
-    last: usize,
-    // no tailored weight has a greater number
-    greatest: usize,
-    ghost found: { IsFoundAt weights last },
-    ghost up_to: { AreUpTo greatest weights },
+pub(crate) enum Siblings {
+    /// Few ones, or such as can't be linked: one stands twice, or those of the root don't ascend. Rules make no such
+    /// ones.
+    Listed(Vec<SymbolicWeight>),
+    /// Linked ones.
+    Linked(LinkedWeights),
 }
 
-/// Whether two weights are the same.
-pub(crate) fn is_same(v: SymbolicWeight, w: SymbolicWeight) -> bool
-    ensures { result ≡ is_same_weight v w }
-{
-    v == w
-}
-
-/// Whether a weight of the root has its place before this one, or a tailored one is this one.
-fn ends(w: SymbolicWeight, v: SymbolicWeight) -> bool
-    ensures { result ≡ ends_search w v }
-{
-    match (w, v) {
-        (SymbolicWeight::Rooted(w), SymbolicWeight::Rooted(v)) => w <= v,
-        (SymbolicWeight::Rooted(_), SymbolicWeight::Tailored(_)) => false,
-        (SymbolicWeight::Tailored(_), _) => v == w,
-    }
-}
-
-/// How many tailored weights were made before it; 0 for one of the root.
-fn number(w: SymbolicWeight) -> usize
-    ensures { result ≡ number_in w }
-{
-    match w {
-        SymbolicWeight::Rooted(_) => 0,
-        SymbolicWeight::Tailored(k) => k,
-    }
-}
-
-/// Where a weight stands or would be put among siblings, by a search from the first.
-fn search_place(weights: &[SymbolicWeight], w: SymbolicWeight) -> usize
-    ensures { result ≡ place_among w weights.now }
-{
-    for (i, v) in weights.iter().enumerate() {
-        if ends(w, *v) {
-            return i;
-        }
-    }
-    weights.len()
-}
-
-/// Where a weight stands first among siblings, by a search from the first.
-pub(crate) fn search_first(weights: &[SymbolicWeight], w: SymbolicWeight) -> usize
-    ensures { result ≡ first_place w weights.now }
-{
-    for (i, v) in weights.iter().enumerate() {
-        if is_same(*v, w) {
-            return i;
-        }
-    }
-    weights.len()
-}
+/// How many weights are linked, if they can be; fewer stand in a row, where a search is short.
+const MANY: usize = 32;
 
 impl Siblings {
-    /// Whether a weight is the one that is remembered.
-    fn is_remembered(&self, w: SymbolicWeight) -> bool
-        ensures { OnTrue result ((self.now.last < length self.now.weights)
-            × (place_among w self.now.weights ≡ self.now.last)
-            × (first_place w self.now.weights ≡ self.now.last)) }
-    {
-        self.last < self.weights.len() && is_same(self.weights.at(self.last), w)
-    }
-
-    /// Where a weight stands, or would be put.
-    fn place(&self, w: SymbolicWeight) -> usize
-        ensures { result ≡ place_among w self.now.weights }
-    {
-        if self.is_remembered(w) {
-            return self.last;
-        }
-        search_place(self.weights.as_slice(), w)
-    }
-
-    /// Where a weight stands first.
-    fn first(&self, w: SymbolicWeight) -> usize
-        ensures { result ≡ first_place w self.now.weights }
-    {
-        if self.is_remembered(w) {
-            return self.last;
-        }
-        search_first(self.weights.as_slice(), w)
-    }
-
-    /// Weights of which none is searched for yet.
-    pub(crate) fn of(weights: Vec<SymbolicWeight>) -> Self
-        requires { AreUpTo 0 weights.items }
-        ensures { result.weights ≡ weights.items }
-    {
-        let last = weights.len();
-        Siblings {
-            weights: WeightRow::of(weights),
-            last,
-            greatest: 0,
-        }
-    }
-
-    /// Whether a weight of the root stands at a place.
-    fn stands_at(&self, place: usize, w: u32) -> bool
-        ensures { result ≡ is_same_weight
-            (slice_index_or self.now.weights place (SymbolicWeight.Tailored 0))
-            (SymbolicWeight.Rooted w) }
-    {
-        match self.weights.as_slice().get(place) {
-            Some(v) => is_same(*v, SymbolicWeight::Rooted(w)),
-            None => false,
-        }
-    }
-
-    /// Puts a weight of the root in its place, where it doesn't stand there.
-    fn put_rooted(&mut self, w: u32) -> Result<(), AllocError>
-        ensures ok { OnOk result (self.new.weights ≡ with_rooted w self.old.weights) }
-        ensures err { OnErr result (self.new.weights ≡ self.old.weights) }
-    {
-        let rooted = SymbolicWeight::Rooted(w);
-        let place = self.place(rooted);
-        if self.stands_at(place, w) {
-            self.last = place;
-            return Ok(());
-        }
-        self.weights.insert(place, rooted)?;
-        self.last = place;
-        Ok(())
-    }
-
-    /// Puts a new tailored weight directly behind another; both at the end where that one doesn't stand here.
-    fn put_behind(&mut self, w: SymbolicWeight, new: usize) -> Result<(), AllocError>
-        ensures ok { OnOk result (self.new.weights
-            ≡ with_behind w (SymbolicWeight.Tailored new) self.old.weights) }
-        ensures err { OnErr result (self.new.weights ≡ self.old.weights) }
-    {
-        let place = self.first(w);
-        if place < self.weights.len() {
-            return self.insert_new(place + 1, new);
-        }
-        self.push_both(w, new)
-    }
-
     /// Makes a change.
-    pub(crate) fn change(&mut self, change: Change) -> Result<(), AllocError>
-        ensures { OnOk result (self.new.weights ≡ changed change self.old.weights) }
+    pub(crate) fn change(&mut self, alloc: Global, change: Change) -> Result<(), AllocError>
+        ensures { OnOk result (weights_in self.new ≡ changed change (weights_in self.old)) }
     {
-        match change {
-            Change::PutRooted(w) => self.put_rooted(w),
-            Change::PutBehind(w, new) => self.put_behind(w, new),
+        match self {
+            Siblings::Listed(weights) => {
+                change_row(weights, change)?;
+                if MANY <= weights.len() {
+                    if let Some(made) = linked(alloc, weights.as_slice())? {
+                        *self = Siblings::Linked(made);
+                    }
+                }
+            }
+            Siblings::Linked(made) => {
+                if !made.try_change(change)? {
+                    let mut weights = made.to_vec(alloc)?;
+                    change_row(&mut weights, change)?;
+                    *self = Siblings::Listed(weights);
+                }
+            }
         }
-    }
-
-    /// Puts a new tailored weight at a place, which is remembered where its number is greater than all before.
-    fn insert_new(&mut self, place: usize, new: usize) -> Result<(), AllocError>
-        requires { place ≤ length self.old.weights }
-        ensures ok { OnOk result (self.new.weights
-            ≡ insert self.old.weights place (SymbolicWeight.Tailored new)) }
-        ensures err { OnErr result (self.new.weights ≡ self.old.weights) }
-    {
-        self.weights.insert(place, SymbolicWeight::Tailored(new))?;
-        self.last = if self.greatest < new {
-            place
-        } else {
-            self.weights.len()
-        };
-        self.greatest = self.greatest.max(new);
-        Ok(())
-    }
-
-    /// Puts two weights at the end.
-    fn push_both(&mut self, w: SymbolicWeight, new: usize) -> Result<(), AllocError>
-        ensures ok { OnOk result (self.new.weights
-            ≡ self.old.weights ++ w ∷ SymbolicWeight.Tailored new ∷ []) }
-        ensures err { OnErr result (self.new.weights ≡ self.old.weights) }
-    {
-        self.weights
-            .extend_from_slice(&[w, SymbolicWeight::Tailored(new)])?;
-        self.last = self.weights.len();
-        self.greatest = self.greatest.max(number(w)).max(new);
         Ok(())
     }
 
     /// The weight directly before another.
     pub(crate) fn before(&self, w: SymbolicWeight) -> Option<SymbolicWeight>
-        ensures { result ≡ directly_before w self.now.weights }
+        ensures { result ≡ directly_before w (weights_in self.now) }
     {
-        let place = self.first(w);
-        if place == 0 || self.weights.len() <= place {
-            return None;
+        match self {
+            Siblings::Listed(weights) => before_in_row(weights.as_slice(), w),
+            Siblings::Linked(made) => made.before(w),
         }
-        Some(self.weights.at(place - 1))
+    }
+
+    /// The weight directly behind another.
+    pub(crate) fn behind(&self, w: SymbolicWeight) -> Option<SymbolicWeight>
+        ensures { result ≡ first_weight (put_behind w (weights_in self.now)) }
+    {
+        match self {
+            Siblings::Listed(weights) => behind(weights.as_slice(), w).first().copied(),
+            Siblings::Linked(made) => made.behind(w),
+        }
+    }
+
+    /// The last of what was tailored behind a weight of the root, or that weight.
+    pub(crate) fn last_behind(&self, w: u32) -> SymbolicWeight
+        ensures { result ≡ last_weight (symbolic.Rooted w) (take_while has_tailored_weight
+            (put_behind (symbolic.Rooted w) (weights_in self.now))) }
+    {
+        match self {
+            Siblings::Listed(weights) => {
+                let rooted = SymbolicWeight::Rooted(w);
+                last_tailored(rooted, behind(weights.as_slice(), rooted))
+            }
+            Siblings::Linked(made) => made.last_behind(w),
+        }
+    }
+
+    /// The first tailored one before a weight, or that weight.
+    pub(crate) fn first_tailored(&self, common: SymbolicWeight) -> SymbolicWeight
+        ensures { result ≡ first_of_tailored common (weights_in self.now) }
+    {
+        match self {
+            Siblings::Listed(weights) => first_tailored(weights.as_slice(), common),
+            Siblings::Linked(made) => made.first_tailored(common),
+        }
+    }
+
+    /// The last one, or another weight where there is none.
+    pub(crate) fn last_or(&self, other: SymbolicWeight) -> SymbolicWeight
+        ensures { result ≡ last_weight other (weights_in self.now) }
+    {
+        match self {
+            Siblings::Listed(weights) => last_in_row(weights.as_slice(), other),
+            Siblings::Linked(made) => made.last_or(other),
+        }
     }
 
     /// The weights.
-    pub(crate) fn as_slice(&self) -> &[SymbolicWeight]
-        ensures { result.now ≡ self.now.weights }
+    pub(crate) fn to_vec(&self, alloc: Global) -> Result<Vec<SymbolicWeight>, AllocError>
+        ensures { IfOk result (λ weights. weights.items ≡ weights_in self.now) }
     {
-        self.weights.as_slice()
+        match self {
+            Siblings::Listed(weights) => Vec::from_slice(alloc, weights.as_slice()),
+            Siblings::Linked(made) => made.to_vec(alloc),
+        }
     }
 }

@@ -1,8 +1,9 @@
 //! The tree of weights while rules are read.
 use crate::change::Change;
-use crate::lists::{Lists, before_in, begun_in, change_list, siblings_in};
+use crate::lists::{Lists, before_in, begun_in, begun_list, change_list, siblings_in};
 use crate::parents::Parents;
 use crate::root_weights::RootWeights;
+use crate::siblings::Siblings;
 use icu_tailoring::SymbolicWeight;
 use std::alloc::{AllocError, Global};
 
@@ -20,7 +21,8 @@ impl WeightTreeBuilder {
     ghost use Rattle.std.specs.Prelude.{◌≡◌, ◌≤◌, suc, [], length, OnOk, IfOk};
     ghost use Rattle.icu_tailoring.specs.WeightTrees.{first_tree, directly_before, with_weight, with_weights, with_new_weight};
     ghost use Rattle.icu_tailoring.specs.Steps.{with_lesser};
-    ghost use Rattle.icu_weight_tree.specs.BuiltTrees.{parent_weights, AreBegun};
+    ghost use Rattle.std.specs.Option.{option_copied};
+    ghost use Rattle.icu_weight_tree.specs.BuiltTrees.{parent_weights, begun_siblings, AreBegun};
     ghost use Rattle.icu_weight_tree.specs.TreeBuilders.{tree_of, made_of, tree_before, weight_in_front};
 
     /// The tree before any rule.
@@ -43,23 +45,40 @@ impl WeightTreeBuilder {
     }
 
     /// The weights below those of the levels before, ascending.
-    pub fn siblings(&self, above: &[SymbolicWeight]) -> &[SymbolicWeight]
+    pub fn siblings(
+        &self,
+        alloc: Global,
+        above: &[SymbolicWeight],
+    ) -> Result<Vec<SymbolicWeight>, AllocError>
         requires { length above.now ≤ 3 }
-        ensures { result.now ≡ tree_of self.now above.now }
+        ensures { IfOk result (λ siblings. siblings.items ≡ tree_of self.now above.now) }
     {
-        siblings_in(&self.lists, above)
+        siblings_in(alloc, &self.lists, above)
     }
 
     /// The weights below parents, ascending.
-    pub fn siblings_below(&self, parents: Parents) -> &[SymbolicWeight]
-        ensures { result.now ≡ tree_of self.now (parent_weights parents) }
+    pub fn siblings_below(
+        &self,
+        alloc: Global,
+        parents: Parents,
+    ) -> Result<Vec<SymbolicWeight>, AllocError>
+        ensures { IfOk result (λ siblings. siblings.items
+            ≡ tree_of self.now (parent_weights parents)) }
     {
         match parents {
-            Parents::Nothing => self.siblings(&[]),
-            Parents::Primary(p) => self.siblings(&[p]),
-            Parents::Secondary(p, s) => self.siblings(&[p, s]),
-            Parents::Tertiary(p, s, t) => self.siblings(&[p, s, t]),
+            Parents::Nothing => self.siblings(alloc, &[]),
+            Parents::Primary(p) => self.siblings(alloc, &[p]),
+            Parents::Secondary(p, s) => self.siblings(alloc, &[p, s]),
+            Parents::Tertiary(p, s, t) => self.siblings(alloc, &[p, s, t]),
         }
+    }
+
+    /// The list below weights, if it was begun.
+    pub(crate) fn begun(&self, above: &[SymbolicWeight]) -> Option<&Siblings>
+        requires { length above.now ≤ 3 }
+        ensures { begun_siblings above.now (option_copied result) ≡ tree_of self.now above.now }
+    {
+        begun_list(&self.lists, above)
     }
 
     /// The parents below which rules put weights, ascending. Below all others stands what stands there before any rule.

@@ -167,8 +167,8 @@ fn expect_orders(
         let rules = Rules::parse(rt.alloc(), text)?;
         let said = SymbolicTailoring::of_rules(rt.alloc(), &root, &rules)?;
         if above.len() <= 3 {
-            let found = said.tree().siblings(above);
-            assert!(rt; found == *wanted, "{text}: {found:?}");
+            let found = said.tree().siblings(rt.alloc(), above)?;
+            assert!(rt; found.as_slice() == *wanted, "{text}: {found:?}");
         }
     }
     Ok(())

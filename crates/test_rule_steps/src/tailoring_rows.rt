@@ -5,6 +5,7 @@ use icu_rules::Rules;
 use icu_tailoring::SymbolicWeight::{self, Rooted, Tailored};
 use std::alloc::{AllocError, Global};
 use std::fmt::Write;
+use std::process::Abort;
 use std::test::Fail;
 
 /// Rules, weights of the levels before, and the weights below them, ascending: those of the root in hexadecimal, and
@@ -107,7 +108,8 @@ fn orders_of_weights(rt: HostRuntime) -> Result<(), Fail> {
         let said = SymbolicTailoring::of_rules(rt.alloc(), &root, &rules)?;
         let above = weights_of(rt.alloc(), above)?;
         assert!(rt; above.len() <= 3, "{text}");
-        let found = written(rt.alloc(), said.tree().siblings(above.as_slice()))?;
+        let siblings = said.tree().siblings(rt.alloc(), above.as_slice())?;
+        let found = written(rt.alloc(), siblings.as_slice())?;
         assert_eq!(rt; found.as_str(), wanted, "{text}");
     }
     Ok(())
@@ -171,7 +173,7 @@ fn many_relations(rt: HostRuntime) -> Result<(), Fail> {
     let rules = Rules::parse(rt.alloc(), "&[last regular]<*\\u5000-\\u57CF")?;
     let said = SymbolicTailoring::of_rules(rt.alloc(), &root, &rules)?;
     assert_eq!(rt; said.tree().made(), MANY);
-    assert_eq!(rt; said.tree().siblings(&[]).len(), MANY + 1);
+    assert_eq!(rt; said.tree().siblings(rt.alloc(), &[])?.len(), MANY + 1);
     Ok(())
 }
 
@@ -185,9 +187,64 @@ fn many_resets_to_one_place(rt: HostRuntime) -> Result<(), Fail> {
     let rules = Rules::parse(rt.alloc(), text.as_str())?;
     let said = SymbolicTailoring::of_rules(rt.alloc(), &root, &rules)?;
     assert_eq!(rt; said.tree().made(), 600);
-    assert_eq!(rt;
-        said.tree().siblings(&[]).get(1).copied(),
-        Some(Tailored(598))
-    );
+    let siblings = said.tree().siblings(rt.alloc(), &[])?;
+    assert_eq!(rt; siblings.get(1).copied(), Some(Tailored(598)));
+    Ok(())
+}
+
+/// The primary weights after 100 ideographs behind "a", and 100 rules more of one text.
+fn after_ideographs(
+    rt: &(impl Abort + AllocGlobal),
+    rule: &str,
+) -> Result<Vec<SymbolicWeight>, Fail> {
+    let root = LetterRoot;
+    let mut text = String::from_str(rt.alloc(), "&a<*\\u5000-\\u5063")?;
+    for _ in 0..100 {
+        text.push_str(rule)?;
+    }
+    let rules = Rules::parse(rt.alloc(), text.as_str())?;
+    let said = SymbolicTailoring::of_rules(rt.alloc(), &root, &rules)?;
+    Ok(said.tree().siblings(rt.alloc(), &[])?)
+}
+
+#[test]
+fn many_resets_into_the_midst(rt: HostRuntime) -> Result<(), Fail> {
+    let siblings = after_ideographs(&rt, "&\\u5032<x")?;
+    assert_eq!(rt; siblings.len(), 201);
+    for (place, wanted) in [
+        (1, 0),
+        (51, 50),
+        (52, 199),
+        (151, 100),
+        (152, 51),
+        (200, 99),
+    ] {
+        assert_eq!(rt;
+            siblings.get(place).copied(),
+            Some(Tailored(wanted)),
+            "{place}"
+        );
+    }
+    Ok(())
+}
+
+#[test]
+fn many_resets_before_one_place(rt: HostRuntime) -> Result<(), Fail> {
+    let siblings = after_ideographs(&rt, "&[before 1]\\u5032<x")?;
+    assert_eq!(rt; siblings.len(), 201);
+    for (place, wanted) in [
+        (1, 0),
+        (50, 49),
+        (51, 100),
+        (150, 199),
+        (151, 50),
+        (200, 99),
+    ] {
+        assert_eq!(rt;
+            siblings.get(place).copied(),
+            Some(Tailored(wanted)),
+            "{place}"
+        );
+    }
     Ok(())
 }

@@ -1,5 +1,5 @@
--- Places among siblings, and which of them may be remembered.
-use Rattle.std.specs.Prelude.{ℕ, zero, suc, ◌≡◌, ◌<◌, ◌≤◌, Bool, false, if◌then◌else◌, nat_le, List, [], ◌∷◌, length, slice_index_or, All}
+-- Places among siblings.
+use Rattle.std.specs.Prelude.{ℕ, zero, suc, Bool, false, if◌then◌else◌, nat_le, List, [], ◌∷◌}
 use Rattle.icu_tailoring.specs.declared.symbolic.SymbolicWeight.{SymbolicWeight}
 use Rattle.icu_tailoring.specs.declared.symbolic.SymbolicWeight.TheVariants.{Rooted, Tailored}
 use Rattle.icu_tailoring.specs.SymbolicElements.{is_same_weight}
@@ -23,16 +23,7 @@ place_among w siblings = place_by (ends_search w) siblings
 abbrev pub first_place : SymbolicWeight → List SymbolicWeight → ℕ
 first_place w siblings = place_by (λ v. is_same_weight v w) siblings
 
--- the weight that stands at a place is found there
-abbrev pub IsFoundAt : List SymbolicWeight → ℕ → Type 0
-IsFoundAt siblings place =
-    place < length siblings → place_among (slice_index_or siblings place (Rooted 0)) siblings ≡ place
-
 -- how many tailored weights were made before a weight
 abbrev pub number_in : SymbolicWeight → ℕ
 number_in (Rooted w) = 0
 number_in (Tailored k) = k
-
--- no tailored weight has a greater number
-abbrev pub AreUpTo : ℕ → List SymbolicWeight → Type 0
-AreUpTo greatest siblings = All (λ w. number_in w ≤ greatest) siblings

@@ -20,7 +20,7 @@ loop-parents-preserved g c =
     let p : Parents = get_or ps i Nothing in
     subst (AscendBelow root t tree) (sym (take_more ps i Nothing c.loop-parents-test.true))
     (below_more root t tree (take i ps) p c.loop-parents.invariant
-    (ap (ascend_all root (parent_weights p) t) (sym c.siblings_below.ensures) ∙ (sym c.ascend_among.ensures ∙ c.if-not-ascend_among.false)))
+    (ap (ascend_all root (parent_weights p) t) (sym (c.as_slice.ensures.value ∙ c.in_ok-siblings.ensures)) ∙ (sym c.ascend_among.ensures ∙ c.if-not-ascend_among.false)))
 
 pub returns : goal.returns
 returns g c =

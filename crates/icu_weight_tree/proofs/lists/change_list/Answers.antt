@@ -20,4 +20,4 @@ returns c =
     ∙ ap (λ es. insert_entry parents_order es c.parents_of-parents.result c.change-2.new.self) same)
     ∙ tree_begun c.args.lists.now.entries c.parents_of-parents.result c.args.above.now c.change-2.new.self
     (changed c.args.change) c.parents_of-parents.ensures (sym c.in_default.ensures.value)
-    (c.in_ok-change-2.ensures ∙ ap (changed c.args.change) c.in_ok-siblings.ensures)
+    (c.in_ok-change-2.ensures ∙ ap (changed c.args.change) c.in_ok-weights.ensures)
