@@ -13,7 +13,7 @@ use crate::cursor_tables::CursorTables;
 use crate::few_digits::FewDigits;
 use crate::stands::begins_at_boundary;
 use icu_encodings::EncodedText;
-use icu_steady_numbers::SteadyNumber;
+use icu_steady_numbers::{SteadyNumber, few_weight};
 
 /// Takes the next character of a text, where it is an ASCII digit that goes on a number, and gives its value.
 #[inline]
@@ -91,6 +91,29 @@ fn number_of(lead: u8, digits: &FewDigits) -> SteadyNumber
 {
     let kept = without_zeros(digits.as_slice());
     SteadyNumber::new(lead, kept)
+}
+
+/// The weight of the number that a digit with this value begins, where it has one, and what follows the number. `None`
+/// where that is no place where texts may be cut.
+#[inline]
+pub(crate) fn read_weight<T: EncodedText>(
+    tables: &CursorTables<'_>,
+    lead: u8,
+    c: char,
+    first: u8,
+    text: T,
+) -> Option<(u32, T)>
+    requires numeric { (cursor_reading tables.now).numeric ≡ Some lead }
+    requires digit { IsNumberDigit (cursor_reading tables.now) c first }
+    ensures { IfSome result (λ p. IsNumberPiece (cursor_reading tables.now)
+        (c ∷ T.text text) (T.text p.1) (of_primary p.0 ∷ [])) }
+{
+    let few = take_few(tables, first, text)?;
+    if begins_at_boundary(tables, few.1) {
+        Some((few_weight(lead, few.0), few.1))
+    } else {
+        None
+    }
 }
 
 /// Reads the number that a digit with this value begins, where it is more than one weight, and what follows it. Out of

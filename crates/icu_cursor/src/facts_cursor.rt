@@ -11,6 +11,7 @@ ghost use Rattle.icu_cursor.specs.inner.Standing.{Serves, StandsAnywhere};
 
 use crate::char_elements::CharElements;
 use crate::cursor_tables::CursorTables;
+use crate::digit_run::read_weight;
 use crate::ready_place::ReadyPlace;
 use crate::stands::stands_before;
 use crate::unjoined::is_unjoined;
@@ -165,13 +166,28 @@ impl<'c, 'd, T: EncodedText> FactsCursor<'c, 'd, T> {
         ensures { IfSome result (λ e. GoesOn T.text self.old e self.new) }
     {
         if facts.kind != FactsKind::Base {
-            return None;
+            return self.begin_number(c, facts, rest);
         }
         let (x, after) = rest.split_first_char()?;
         match self.tables.pair(c, x) {
             Some(few) => self.begin_pair((c, x), &few, rest, after),
             None => self.begin_unjoined(c, facts, rest),
         }
+    }
+
+    /// The element of a number of one weight that begins a text, where digits are read as numbers.
+    #[inline(always)]
+    fn begin_number(&mut self, c: char, facts: &CharFacts, rest: T) -> Option<CollationElement>
+        requires nothing { elements_ready self.old.ready ≡ [] }
+        requires text { T.text self.old.text ≡ c ∷ T.text rest }
+        requires facts { Serves (cursor_reading self.old.tables.now) c facts.now }
+        ensures { IfSome result (λ e. GoesOn T.text self.old e self.new) }
+    {
+        let digit = facts.digit?;
+        let lead = self.tables.reading().numeric_primary?;
+        let (weight, after) = read_weight(self.tables, lead, c, digit, rest)?;
+        self.text = after;
+        Some(CollationElement::new_from_primary(weight))
     }
 
     /// The first element of two characters that a contraction joins. The others are kept.

@@ -5,4 +5,4 @@ mod number_room;
 mod spelled_number;
 pub mod steady_number;
 
-pub use steady_number::SteadyNumber;
+pub use steady_number::{SteadyNumber, few_weight};

@@ -1,6 +1,6 @@
 //! The weights of a number, one by one.
 
-ghost use Rattle.std.specs.Prelude.{◌≡◌, ◌<◌, ◌≤◌, ◌++◌, [], None, length, All, option_to_list};
+ghost use Rattle.std.specs.Prelude.{◌≡◌, ◌<◌, ◌≤◌, ◌∷◌, ◌++◌, [], None, length, All, option_to_list};
 ghost use Rattle.icu_levels.specs.Numbers.{number_weights, value_of, without_first_zeros, longest_number};
 
 use crate::number_room::NumberRoom;
@@ -67,4 +67,27 @@ impl SteadyNumber {
         self.next += count;
         Some(u32::from_be_bytes(weight))
     }
+}
+
+/// The weight of a number below 1042490, which has one, by its value, before reordering. `lead` is the numeric lead
+/// byte.
+pub fn few_weight(lead: u8, value: u32) -> u32
+    requires { value < 1042490 }
+    ensures { number_weights lead value ≡ result ∷ [] }
+{
+    if value < 74 {
+        return u32::from_be_bytes([lead, 2 + value as u8, 0, 0]);
+    }
+    if value < 10234 {
+        let over = value - 74;
+        return u32::from_be_bytes([lead, 76 + (over / 254) as u8, 2 + (over % 254) as u8, 0]);
+    }
+    let over = value - 10234;
+    let first = 116 + (over / 254 / 254) as u8;
+    u32::from_be_bytes([
+        lead,
+        first,
+        2 + (over / 254 % 254) as u8,
+        2 + (over % 254) as u8,
+    ])
 }
