@@ -16,7 +16,7 @@ returns c =
     let numbers = c.args.numbers.now in
     let own = c.in_ok-own.own.items in
     let are_own : own ≡ map (number_of numbers) ((said_by c.args.said.now).tree []) =
-    c.in_ok-own.ensures ∙ ap (map (number_of numbers)) (c.siblings.ensures ∙ ap (λ (t : WeightTree). t []) c.tree.ensures) in
+    c.in_ok-own.ensures ∙ ap (map (number_of numbers)) (c.as_slice.ensures.value ∙ c.in_ok-siblings.ensures ∙ ap (λ (t : WeightTree). t []) c.tree.ensures) in
     let groups : are_groups starts spans ≡ true = search rules in
     let covered : covers_all spans own ≡ true = search rules in
     let ordered : OrdersScripts starts spans c.args.words.now c.in_ok-order.order.items = search rules in
