@@ -6,7 +6,7 @@ mod CountingLemmas
 mod RuleStateLemmas
 mod PositionLemmas
 mod BegunParentLemmas
-mod StopLemmas
+mod LinkStopLemmas
 mod LinkLemmas
-mod JoinLemmas
-mod WalkLemmas
+mod LinkingLemmas
+mod LinkWalkLemmas

@@ -10,10 +10,10 @@ use Rattle.icu_tailoring.specs.RootPositions.{last_weight}
 use Rattle.icu_tailoring.proofs.TreeLemmas.{same_weight_is}
 use Rattle.icu_weight_tree.specs.declared.stop.Stop.{Stop}
 use Rattle.icu_weight_tree.specs.declared.stop.Stop.TheVariants.{End, Rooted, Tailored}
-use Rattle.icu_weight_tree.specs.inner.Stops.{stop_at, weight_at, is_stop, stands, in_front, rooted_above}
-use Rattle.icu_weight_tree.specs.inner.LinkedOrders.{walk, AreLinked, AreApart, Ascends}
+use Rattle.icu_weight_tree.specs.inner.LinkStops.{stop_at, stop_weight, is_stop, stands, in_front, rooted_above}
+use Rattle.icu_weight_tree.specs.inner.LinkedOrders.{walk, AreLinked, StandOnce, RootedAscend}
 use Rattle.icu_weight_tree.specs.inner.TailoredSiblings.{first_weight}
-use Rattle.icu_weight_tree.proofs.StopLemmas.{same_stop, itself, same_from, other_way, weight_is, not_end, end_not, both_false, stands_first, stands_later, stands_rest, end_stands, less_test, most_test, above_met, above_passed}
+use Rattle.icu_weight_tree.proofs.LinkStopLemmas.{same_stop, itself, same_from, other_way, weight_is, not_end, end_not, both_false, stands_first, stands_later, stands_rest, end_stands, less_test, most_test, above_met, above_passed}
 
 -- the walk along links comes by the weights that are linked
 pub walk_is : (next prev : Stop → Stop) (o : Stop) (xs : List SymbolicWeight) (n : ℕ) → AreLinked next prev o xs
@@ -130,7 +130,7 @@ module _ (next prev next' prev' : Stop → Stop) (p s : Stop) (w : SymbolicWeigh
         frame (stop_at v) xs l.2 news.0 news.1 pasts.1,
       )
 
-  pub linked_in_front : (o : Stop) (xs : List SymbolicWeight) → AreLinked next prev o xs → AreApart xs → is_stop (stop_at w) o ≡ false
+  pub linked_in_front : (o : Stop) (xs : List SymbolicWeight) → AreLinked next prev o xs → StandOnce xs → is_stop (stop_at w) o ≡ false
       → stands (stop_at w) xs ≡ false → stands s xs ≡ true → prev s ≡ p → AreLinked next' prev' o (in_front s w xs)
   linked_in_front o [] l apart other fresh there before =
       let end : s ≡ End = same_stop s End there in
@@ -181,7 +181,7 @@ head_is_other next prev v (u ∷ xs) l apart =
 
 -- directly behind a weight is before the one behind it
 pub behind_in_front : (next prev : Stop → Stop) (o : Stop) (w new : SymbolicWeight) (xs : List SymbolicWeight)
-    → AreLinked next prev o xs → AreApart xs → prev (next (stop_at w)) ≡ stop_at w → is_stop (stop_at w) o ≡ false
+    → AreLinked next prev o xs → StandOnce xs → prev (next (stop_at w)) ≡ stop_at w → is_stop (stop_at w) o ≡ false
     → stands (stop_at w) xs ≡ true → in_front (next (stop_at w)) new xs ≡ with_behind w new xs
 unfolding with_behind
 behind_in_front next prev o w new [] l apart back other there = absurd (both_ways (is_stop (stop_at w) End) (not_end w) there)
@@ -208,18 +208,18 @@ behind_in_front next prev o w new (v ∷ xs) l apart back other there = elim (ca
 
 -- ---- neighbours
 
-weight_there : (u : SymbolicWeight) → weight_at (stop_at u) ≡ Some u
+weight_there : (u : SymbolicWeight) → stop_weight (stop_at u) ≡ Some u
 weight_there (weights.Rooted n) = refl
 weight_there (weights.Tailored k) = refl
 
 pub before_is : (next prev : Stop → Stop) (o : Stop) (w : SymbolicWeight) (xs : List SymbolicWeight) → AreLinked next prev o xs
-    → stands (stop_at w) xs ≡ true → weight_at (prev (stop_at w)) ≡ before_from (weight_at o) w xs
+    → stands (stop_at w) xs ≡ true → stop_weight (prev (stop_at w)) ≡ before_from (stop_weight o) w xs
 unfolding before_from
 before_is next prev o w [] l there = absurd (both_ways (is_stop (stop_at w) End) (not_end w) there)
 before_is next prev o w (v ∷ xs) l there = elim (cases_Bool (is_stop (stop_at w) (stop_at v))) [
   | inl e ↦
       let same : is_same_weight v w ≡ true = sym (weight_is w v) ∙ e in
-      rw same (ap weight_at (ap prev (same_stop (stop_at w) (stop_at v) e) ∙ l.1))
+      rw same (ap stop_weight (ap prev (same_stop (stop_at w) (stop_at v) e) ∙ l.1))
   | inr e ↦
       let same : is_same_weight v w ≡ false = sym (weight_is w v) ∙ e in
       rw same (before_is next prev (stop_at v) w xs l.2 (stands_rest (stop_at w) v xs e there)
@@ -235,17 +235,17 @@ before_absent last w (v ∷ xs) fresh =
     rw (sym (weight_is w v) ∙ parts.0) (before_absent (Some v) w xs parts.1)
 
 first_is : (next prev : Stop → Stop) (o : Stop) (xs : List SymbolicWeight) → AreLinked next prev o xs
-    → weight_at (next o) ≡ first_weight xs
-first_is next prev o [] l = ap weight_at l.0
-first_is next prev o (v ∷ xs) l = ap weight_at l.0 ∙ weight_there v
+    → stop_weight (next o) ≡ first_weight xs
+first_is next prev o [] l = ap stop_weight l.0
+first_is next prev o (v ∷ xs) l = ap stop_weight l.0 ∙ weight_there v
 
 pub behind_is : (next prev : Stop → Stop) (o : Stop) (w : SymbolicWeight) (xs : List SymbolicWeight) → AreLinked next prev o xs
-    → stands (stop_at w) xs ≡ true → weight_at (next (stop_at w)) ≡ first_weight (put_behind w xs)
+    → stands (stop_at w) xs ≡ true → stop_weight (next (stop_at w)) ≡ first_weight (put_behind w xs)
 unfolding put_behind
 behind_is next prev o w [] l there = absurd (both_ways (is_stop (stop_at w) End) (not_end w) there)
 behind_is next prev o w (v ∷ xs) l there = elim (cases_Bool (is_stop (stop_at w) (stop_at v))) [
   | inl e ↦
-      rw (sym (weight_is w v) ∙ e) (ap (λ q. weight_at (next q)) (same_stop (stop_at w) (stop_at v) e)
+      rw (sym (weight_is w v) ∙ e) (ap (λ q. stop_weight (next q)) (same_stop (stop_at w) (stop_at v) e)
       ∙ first_is next prev (stop_at v) xs l.2)
   | inr e ↦ rw (sym (weight_is w v) ∙ e) (behind_is next prev (stop_at v) w xs l.2 (stands_rest (stop_at w) v xs e there))
 ]
@@ -259,28 +259,28 @@ behind_absent w (v ∷ xs) fresh =
 
 -- the last weight
 pub last_is : (next prev : Stop → Stop) (v other : SymbolicWeight) (o : Stop) (xs : List SymbolicWeight) → AreLinked next prev o xs
-    → unwrap_or (weight_at o) other ≡ v → unwrap_or (weight_at (prev End)) other ≡ last_weight v xs
-last_is next prev v other o [] l at = ap (λ q. unwrap_or (weight_at q) other) l.1 ∙ at
+    → unwrap_or (stop_weight o) other ≡ v → unwrap_or (stop_weight (prev End)) other ≡ last_weight v xs
+last_is next prev v other o [] l at = ap (λ q. unwrap_or (stop_weight q) other) l.1 ∙ at
 last_is next prev v other o (u ∷ xs) l at =
     last_is next prev u other (stop_at u) xs l.2 (ap (λ q. unwrap_or q other) (weight_there u))
 
 -- the last of what was tailored directly behind, before the next greater weight of the root
 run_end : (next prev : Stop → Stop) (n : ℕ) (v other : SymbolicWeight) (xs : List SymbolicWeight) → AreLinked next prev (stop_at v) xs
     → ((u : ℕ) → stands (Rooted u) xs ≡ true → n < u)
-    → unwrap_or (weight_at (prev (rooted_above n xs))) other ≡ last_weight v (take_while has_tailored_weight xs)
-run_end next prev n v other [] l greater = ap (λ q. unwrap_or (weight_at q) other) l.1 ∙ ap (λ q. unwrap_or q other) (weight_there v)
+    → unwrap_or (stop_weight (prev (rooted_above n xs))) other ≡ last_weight v (take_while has_tailored_weight xs)
+run_end next prev n v other [] l greater = ap (λ q. unwrap_or (stop_weight q) other) l.1 ∙ ap (λ q. unwrap_or q other) (weight_there v)
 run_end next prev n v other (weights.Tailored k ∷ xs) l greater =
     run_end next prev n (weights.Tailored k) other xs l.2 (λ u a. greater u (stands_later (Rooted u) (weights.Tailored k) xs a))
     ∙ ap (last_weight v) (sym (take_while-cons has_tailored_weight (weights.Tailored k) xs))
 run_end next prev n v other (weights.Rooted u ∷ xs) l greater =
     let more : n < u = greater u (stands_first (Rooted u) (weights.Rooted u) xs (itself (Rooted u))) in
-    ap (λ q. unwrap_or (weight_at (prev q)) other) (above_met n u xs (less_test n u more))
-    ∙ (ap (λ q. unwrap_or (weight_at q) other) l.1 ∙ (ap (λ q. unwrap_or q other) (weight_there v)
+    ap (λ q. unwrap_or (stop_weight (prev q)) other) (above_met n u xs (less_test n u more))
+    ∙ (ap (λ q. unwrap_or (stop_weight q) other) l.1 ∙ (ap (λ q. unwrap_or q other) (weight_there v)
     ∙ ap (last_weight v) (sym (take_while-cons has_tailored_weight (weights.Rooted u) xs))))
 
 pub last_behind_is : (next prev : Stop → Stop) (o : Stop) (n : ℕ) (xs : List SymbolicWeight) → AreLinked next prev o xs
-    → Ascends xs → stands (Rooted n) xs ≡ true
-    → unwrap_or (weight_at (prev (rooted_above n xs))) (weights.Rooted n)
+    → RootedAscend xs → stands (Rooted n) xs ≡ true
+    → unwrap_or (stop_weight (prev (rooted_above n xs))) (weights.Rooted n)
     ≡ last_weight (weights.Rooted n) (take_while has_tailored_weight (put_behind (weights.Rooted n) xs))
 unfolding put_behind
 last_behind_is next prev o n [] l s there = cc
@@ -289,7 +289,7 @@ last_behind_is next prev o n (weights.Rooted v ∷ xs) l s there = elim (cases_B
   | inl e ↦
       let is : v ≡ n = eqb-true v n e in
       let rest : put_behind (weights.Rooted n) (weights.Rooted v ∷ xs) ≡ xs = rw e refl in
-      ap (λ q. unwrap_or (weight_at (prev q)) (weights.Rooted n)) (above_passed n v xs (most_test n v (omega arith)))
+      ap (λ q. unwrap_or (stop_weight (prev q)) (weights.Rooted n)) (above_passed n v xs (most_test n v (omega arith)))
       ∙ (run_end next prev n (weights.Rooted v) (weights.Rooted n) xs l.2 (λ u a. let more = s.0 u a in omega arith)
       ∙ (ap (λ u. last_weight (weights.Rooted u) (take_while has_tailored_weight xs)) is
       ∙ ap (λ ys. last_weight (weights.Rooted n) (take_while has_tailored_weight ys)) (sym rest)))
@@ -297,7 +297,7 @@ last_behind_is next prev o n (weights.Rooted v ∷ xs) l s there = elim (cases_B
       let further : stands (Rooted n) xs ≡ true = stands_rest (Rooted n) (weights.Rooted v) xs e there in
       let less : v < n = s.0 n further in
       let rest : put_behind (weights.Rooted n) (weights.Rooted v ∷ xs) ≡ put_behind (weights.Rooted n) xs = rw e refl in
-      ap (λ q. unwrap_or (weight_at (prev q)) (weights.Rooted n)) (above_passed n v xs (most_test n v (omega arith)))
+      ap (λ q. unwrap_or (stop_weight (prev q)) (weights.Rooted n)) (above_passed n v xs (most_test n v (omega arith)))
       ∙ (last_behind_is next prev (Rooted v) n xs l.2 s.1 further
       ∙ ap (λ ys. last_weight (weights.Rooted n) (take_while has_tailored_weight ys)) (sym rest))
 ]

@@ -13,7 +13,7 @@ use Rattle.icu_tailoring.specs.WeightTrees.{first_tree, with_siblings, directly_
 use Rattle.icu_tailoring.proofs.TreeLemmas.{are_themselves, either}
 use Rattle.icu_weight_tree.specs.declared.parents.Parents.{Parents}
 use Rattle.icu_weight_tree.specs.declared.siblings.Siblings.{Siblings}
-use Rattle.icu_weight_tree.specs.BuiltTrees.{parent_weights, are_parents, weights_in, begun_siblings, tree_in}
+use Rattle.icu_weight_tree.specs.BuiltTrees.{parent_weights, are_parents, sibling_weights, begun_siblings, tree_in}
 use Rattle.icu_weight_tree.proofs.ParentOrderLemmas.{parents_order, parents_tie, parents_tie_themselves, one_parent}
 
 -- ---- look-ups by another test
@@ -88,25 +88,25 @@ pub found_in_tree : (es : List (Parents × Siblings)) (key : Parents) (above : L
 found_in_tree es key above found is at = ap (begun_siblings above) (ap (λ test. lookup test es) (same_test key above is) ∙ at)
 
 begun_siblings_if : (b : Bool) (above : List SymbolicWeight) (s : Siblings) (o : Option Siblings)
-    → begun_siblings above (if b then Some s else o) ≡ (if b then weights_in s else begun_siblings above o)
+    → begun_siblings above (if b then Some s else o) ≡ (if b then sibling_weights s else begun_siblings above o)
 begun_siblings_if true above s o = refl
 begun_siblings_if false above s o = refl
 
 -- a tree where the list at parents is another one
 replaced : (es fs : List (Parents × Siblings)) (key : Parents) (above siblings : List SymbolicWeight) (s : Siblings)
-    → parent_weights key ≡ above → weights_in s ≡ siblings
+    → parent_weights key ≡ above → sibling_weights s ≡ siblings
     → ((other : List SymbolicWeight) → lookup (are_parents other) fs
     ≡ (if are_parents other key then Some s else lookup (are_parents other) es))
     → tree_in fs ≡ with_siblings (tree_in es) above siblings
 replaced es fs key above siblings s is items looks = fun_ext (λ other.
     ap (begun_siblings other) (looks other) ∙ (begun_siblings_if (are_parents other key) other s (lookup (are_parents other) es)
-    ∙ (ap (λ ws. if are_same_weights other ws then weights_in s else tree_in es other) is
+    ∙ (ap (λ ws. if are_same_weights other ws then sibling_weights s else tree_in es other) is
     ∙ ap (λ ws. if are_same_weights other above then ws else tree_in es other) items)))
 
 -- a list was written
 pub tree_written : (es : List (Parents × Siblings)) (key : Parents) (above : List SymbolicWeight) (s t : Siblings)
     (f : List SymbolicWeight → List SymbolicWeight) → parent_weights key ≡ above
-    → lookup (is_at (parents_order key)) es ≡ Some s → weights_in t ≡ f (weights_in s)
+    → lookup (is_at (parents_order key)) es ≡ Some s → sibling_weights t ≡ f (sibling_weights s)
     → tree_in (set_value (is_at (parents_order key)) es t) ≡ with_siblings (tree_in es) above (f (tree_in es above))
 tree_written es key above s t f is at items =
     replaced es (set_value (is_at (parents_order key)) es t) key above (f (tree_in es above)) t is
@@ -117,7 +117,7 @@ tree_written es key above s t f is at items =
 -- a list was begun
 pub tree_begun : (es : List (Parents × Siblings)) (key : Parents) (above : List SymbolicWeight) (t : Siblings)
     (f : List SymbolicWeight → List SymbolicWeight) → parent_weights key ≡ above
-    → lookup (is_at (parents_order key)) es ≡ None → weights_in t ≡ f (first_tree above)
+    → lookup (is_at (parents_order key)) es ≡ None → sibling_weights t ≡ f (first_tree above)
     → tree_in (insert_entry parents_order es key t) ≡ with_siblings (tree_in es) above (f (tree_in es above))
 tree_begun es key above t f is at items =
     replaced es (insert_entry parents_order es key t) key above (f (tree_in es above)) t is

@@ -21,14 +21,14 @@ abbrev pub are_parents : List SymbolicWeight → Parents → Bool
 are_parents above parents = are_same_weights above (parent_weights parents)
 
 -- the weights of a list
-abbrev pub weights_in : Siblings → List SymbolicWeight
-weights_in (Listed weights) = weights.items
-weights_in (Linked weights) = weights
+abbrev pub sibling_weights : Siblings → List SymbolicWeight
+sibling_weights (Listed weights) = weights.items
+sibling_weights (Linked weights) = weights
 
 -- the siblings of a list, if it was begun; else the common weight alone
 abbrev pub begun_siblings : List SymbolicWeight → Option Siblings → List SymbolicWeight
 begun_siblings above None = first_tree above
-begun_siblings above (Some siblings) = weights_in siblings
+begun_siblings above (Some siblings) = sibling_weights siblings
 
 -- the tree that lists of siblings are of
 abbrev pub tree_in : List (Parents × Siblings) → WeightTree

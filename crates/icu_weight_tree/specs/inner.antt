@@ -1,5 +1,5 @@
 pub mod SiblingPlaces
 pub mod SiblingChanges
 pub mod TailoredSiblings
-pub mod Stops
+pub mod LinkStops
 pub mod LinkedOrders

@@ -7,16 +7,16 @@ ghost use Rattle.icu_tailoring.specs.SymbolicElements.{has_tailored_weight};
 ghost use Rattle.icu_tailoring.specs.WeightTrees.{with_rooted, with_behind, directly_before, put_behind};
 ghost use Rattle.icu_tailoring.specs.RootPositions.{last_weight};
 ghost use Rattle.icu_weight_tree.specs.declared.stop.Stop.TheVariants as stops;
-ghost use Rattle.icu_weight_tree.specs.inner.Stops.{is_stop, weight_of, stands, in_front, rooted_above};
+ghost use Rattle.icu_weight_tree.specs.inner.LinkStops.{is_stop, standing_weight, stands, in_front, rooted_above};
 ghost use Rattle.icu_weight_tree.specs.inner.SiblingPlaces.{number_in};
-ghost use Rattle.icu_weight_tree.specs.inner.LinkedOrders.{order_of, IsChain, Ascends};
+ghost use Rattle.icu_weight_tree.specs.inner.LinkedOrders.{linked_weights, IsChain, RootedAscend};
 ghost use Rattle.icu_weight_tree.specs.inner.SiblingChanges.{changed};
 ghost use Rattle.icu_weight_tree.specs.inner.TailoredSiblings.{first_weight, first_of_tailored};
 
 use crate::change::Change;
 use crate::links::{LinkMap, Links, is_linked, join, next_in, prev_in};
 use crate::listed::{is_same, is_tailored};
-use crate::stop::{Stop, is_end, rooted_or_end, stop_at, weight_at};
+use crate::stop::{Stop, is_end, rooted_or_end, stop_at, stop_weight};
 use icu_tailoring::SymbolicWeight;
 use std::alloc::{AllocError, Global};
 use std::marker::Model;
@@ -32,7 +32,7 @@ pub(crate) struct LinkedWeights {
 impl Model for LinkedWeights {
     ghost Value = { List SymbolicWeight };
 
-    ghost view = { λ a. order_of a.links.entries };
+    ghost view = { λ a. linked_weights a.links.entries };
 
     ghost invariant = { λ a. IsChain a.links.entries };
 }
@@ -54,7 +54,7 @@ impl LinkedWeights {
     /// Whether a place is that of one of the weights, or the end.
     fn has(&self, stop: Stop) -> bool
         ensures value { result ≡ stands stop self.now }
-        ensures ascends { Ascends self.now }
+        ensures ascends { RootedAscend self.now }
     {
         is_linked(&self.links, stop)
     }
@@ -74,9 +74,9 @@ impl LinkedWeights {
     fn put(&mut self, next: Stop, new: Stop) -> Result<(), AllocError>
         requires next { stands next self.old ≡ true }
         requires new { stands new self.old ≡ false }
-        requires ascends { Ascends (in_front next (weight_of new) self.old) }
-        requires small { number_in (weight_of new) < 2 ^ 32 }
-        ensures { OnOk result (self.new ≡ in_front next (weight_of new) self.old) }
+        requires ascends { RootedAscend (in_front next (standing_weight new) self.old) }
+        requires small { number_in (standing_weight new) < 2 ^ 32 }
+        ensures { OnOk result (self.new ≡ in_front next (standing_weight new) self.old) }
     {
         let prev = prev_in(&self.links, next);
         join(&mut self.links, prev, new, next)?;
@@ -100,7 +100,7 @@ impl LinkedWeights {
     fn put_behind(&mut self, at: Stop, new: u32) -> Result<bool, AllocError>
         requires { is_stop at stops.End ≡ false }
         ensures { IfOk result (λ done. self.new ≡ (if done
-            then with_behind (weight_of at) (symbolic.Tailored new) self.old else self.old)) }
+            then with_behind (standing_weight at) (symbolic.Tailored new) self.old else self.old)) }
     {
         if !self.has(at) {
             return Ok(false);
@@ -145,7 +145,7 @@ impl LinkedWeights {
     /// Whether all weights can be linked if this one stands behind them.
     fn may_push(&self, stop: Stop) -> bool
         ensures { OnTrue result ((stands stop self.now ≡ false)
-            × Ascends (in_front stops.End (weight_of stop) self.now)) }
+            × RootedAscend (in_front stops.End (standing_weight stop) self.now)) }
     {
         if self.has(stop) {
             return false;
@@ -178,7 +178,7 @@ impl LinkedWeights {
         ensures { result ≡ directly_before w self.now }
     {
         match stop_at(w) {
-            Some(at) => weight_at(prev_in(&self.links, at)),
+            Some(at) => stop_weight(prev_in(&self.links, at)),
             None => None,
         }
     }
@@ -188,7 +188,7 @@ impl LinkedWeights {
         ensures { result ≡ first_weight (put_behind w self.now) }
     {
         match stop_at(w) {
-            Some(at) => weight_at(next_in(&self.links, at)),
+            Some(at) => stop_weight(next_in(&self.links, at)),
             None => None,
         }
     }
@@ -203,14 +203,14 @@ impl LinkedWeights {
             return rooted;
         }
         let next = self.rooted_above(w);
-        weight_at(prev_in(&self.links, next)).unwrap_or(rooted)
+        stop_weight(prev_in(&self.links, next)).unwrap_or(rooted)
     }
 
     /// The last weight, or another one where there is none.
     pub(crate) fn last_or(&self, other: SymbolicWeight) -> SymbolicWeight
         ensures { result ≡ last_weight other self.now }
     {
-        weight_at(prev_in(&self.links, Stop::End)).unwrap_or(other)
+        stop_weight(prev_in(&self.links, Stop::End)).unwrap_or(other)
     }
 
     /// The first tailored one before a weight, or that weight.
@@ -220,7 +220,7 @@ impl LinkedWeights {
         let mut at = next_in(&self.links, Stop::End);
         let mut left = self.links.len();
         while 0 < left {
-            match weight_at(at) {
+            match stop_weight(at) {
                 Some(w) => {
                     if is_tailored(w) || is_same(w, common) {
                         return w;
@@ -242,7 +242,7 @@ impl LinkedWeights {
         let mut at = next_in(&self.links, Stop::End);
         let mut left = self.links.len();
         while 0 < left {
-            match weight_at(at) {
+            match stop_weight(at) {
                 Some(w) => weights.push(w)?,
                 None => return Ok(weights),
             }

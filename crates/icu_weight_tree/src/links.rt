@@ -1,7 +1,7 @@
 //! Links between places.
 ghost use Rattle.std.specs.Prelude.{◌≡◌, true, false, OnOk, OnErr};
-ghost use Rattle.icu_weight_tree.specs.inner.Stops.{rooted_above};
-ghost use Rattle.icu_weight_tree.specs.inner.LinkedOrders.{next_in, prev_in, is_linked, SetsNext, SetsPrev, Joins};
+ghost use Rattle.icu_weight_tree.specs.inner.LinkStops.{rooted_above};
+ghost use Rattle.icu_weight_tree.specs.inner.LinkedOrders.{next_in, prev_in, is_linked, SetsNext, SetsPrev, LinksBetween};
 
 use crate::stop::Stop;
 use std::alloc::AllocError;
@@ -69,7 +69,7 @@ pub(crate) fn join(links: &mut LinkMap, prev: Stop, new: Stop, next: Stop) -> Re
     requires new { is_linked links.old.entries new ≡ false }
     requires prev { is_linked links.old.entries prev ≡ true }
     requires next { is_linked links.old.entries next ≡ true }
-    ensures ok { OnOk result (Joins links.old.entries links.new.entries prev new next) }
+    ensures ok { OnOk result (LinksBetween links.old.entries links.new.entries prev new next) }
     ensures err { OnErr result (links.new.entries ≡ links.old.entries) }
 {
     links.insert(new, Links { prev, next })?;

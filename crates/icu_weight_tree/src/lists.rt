@@ -89,7 +89,8 @@ pub(crate) fn before_in(
 /// The list below weights, if it was begun.
 pub(crate) fn begun_list<'a>(lists: &'a Lists, above: &[SymbolicWeight]) -> Option<&'a Siblings>
     requires { length above.now ≤ 3 }
-    ensures { begun_siblings above.now (option_copied result) ≡ tree_in lists.now.entries above.now }
+    ensures { begun_siblings above.now (option_copied result)
+        ≡ tree_in lists.now.entries above.now }
 {
     lists.get(&parents_of(above))
 }

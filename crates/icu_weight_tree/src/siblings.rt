@@ -6,7 +6,7 @@ ghost use Rattle.icu_tailoring.specs.WeightTrees.{directly_before, put_behind};
 ghost use Rattle.icu_tailoring.specs.RootPositions.{last_weight};
 ghost use Rattle.icu_weight_tree.specs.inner.SiblingChanges.{changed};
 ghost use Rattle.icu_weight_tree.specs.inner.TailoredSiblings.{first_weight, first_of_tailored};
-ghost use Rattle.icu_weight_tree.specs.BuiltTrees.{weights_in};
+ghost use Rattle.icu_weight_tree.specs.BuiltTrees.{sibling_weights};
 
 use crate::change::Change;
 use crate::linked::{LinkedWeights, linked};
@@ -32,7 +32,8 @@ const MANY: usize = 32;
 impl Siblings {
     /// Makes a change.
     pub(crate) fn change(&mut self, alloc: Global, change: Change) -> Result<(), AllocError>
-        ensures { OnOk result (weights_in self.new ≡ changed change (weights_in self.old)) }
+        ensures { OnOk result
+            (sibling_weights self.new ≡ changed change (sibling_weights self.old)) }
     {
         match self {
             Siblings::Listed(weights) => {
@@ -56,7 +57,7 @@ impl Siblings {
 
     /// The weight directly before another.
     pub(crate) fn before(&self, w: SymbolicWeight) -> Option<SymbolicWeight>
-        ensures { result ≡ directly_before w (weights_in self.now) }
+        ensures { result ≡ directly_before w (sibling_weights self.now) }
     {
         match self {
             Siblings::Listed(weights) => before_in_row(weights.as_slice(), w),
@@ -66,7 +67,7 @@ impl Siblings {
 
     /// The weight directly behind another.
     pub(crate) fn behind(&self, w: SymbolicWeight) -> Option<SymbolicWeight>
-        ensures { result ≡ first_weight (put_behind w (weights_in self.now)) }
+        ensures { result ≡ first_weight (put_behind w (sibling_weights self.now)) }
     {
         match self {
             Siblings::Listed(weights) => behind(weights.as_slice(), w).first().copied(),
@@ -77,7 +78,7 @@ impl Siblings {
     /// The last of what was tailored behind a weight of the root, or that weight.
     pub(crate) fn last_behind(&self, w: u32) -> SymbolicWeight
         ensures { result ≡ last_weight (symbolic.Rooted w) (take_while has_tailored_weight
-            (put_behind (symbolic.Rooted w) (weights_in self.now))) }
+            (put_behind (symbolic.Rooted w) (sibling_weights self.now))) }
     {
         match self {
             Siblings::Listed(weights) => {
@@ -90,7 +91,7 @@ impl Siblings {
 
     /// The first tailored one before a weight, or that weight.
     pub(crate) fn first_tailored(&self, common: SymbolicWeight) -> SymbolicWeight
-        ensures { result ≡ first_of_tailored common (weights_in self.now) }
+        ensures { result ≡ first_of_tailored common (sibling_weights self.now) }
     {
         match self {
             Siblings::Listed(weights) => first_tailored(weights.as_slice(), common),
@@ -100,7 +101,7 @@ impl Siblings {
 
     /// The last one, or another weight where there is none.
     pub(crate) fn last_or(&self, other: SymbolicWeight) -> SymbolicWeight
-        ensures { result ≡ last_weight other (weights_in self.now) }
+        ensures { result ≡ last_weight other (sibling_weights self.now) }
     {
         match self {
             Siblings::Listed(weights) => last_in_row(weights.as_slice(), other),
@@ -110,7 +111,7 @@ impl Siblings {
 
     /// The weights.
     pub(crate) fn to_vec(&self, alloc: Global) -> Result<Vec<SymbolicWeight>, AllocError>
-        ensures { IfOk result (λ weights. weights.items ≡ weights_in self.now) }
+        ensures { IfOk result (λ weights. weights.items ≡ sibling_weights self.now) }
     {
         match self {
             Siblings::Listed(weights) => Vec::from_slice(alloc, weights.as_slice()),

@@ -1,6 +1,6 @@
 //! Places of a linked list.
 ghost use Rattle.std.specs.Prelude.{◌≡◌, ◌<◌, ◌≤◌, ◌^◌, IfSome, IfNone};
-ghost use Rattle.icu_weight_tree.specs.inner.Stops.{stop_at, weight_at, is_stop, rooted_or_end};
+ghost use Rattle.icu_weight_tree.specs.inner.LinkStops.{stop_at, stop_weight, is_stop, rooted_or_end};
 ghost use Rattle.icu_weight_tree.specs.inner.SiblingPlaces.{number_in};
 ghost use Rattle.icu_weight_tree.specs.declared.stop.Stop.TheVariants as stops;
 
@@ -32,8 +32,8 @@ pub(crate) fn stop_at(w: SymbolicWeight) -> Option<Stop>
 }
 
 /// The weight of a place; the end has none.
-pub(crate) fn weight_at(stop: Stop) -> Option<SymbolicWeight>
-    ensures { result ≡ weight_at stop }
+pub(crate) fn stop_weight(stop: Stop) -> Option<SymbolicWeight>
+    ensures { result ≡ stop_weight stop }
 {
     match stop {
         Stop::End => None,

@@ -17,7 +17,8 @@ pub(crate) fn last_behind(
     w: u32,
 ) -> SymbolicWeight
     requires { length above.now ≤ 3 }
-    ensures { result ≡ last_weight (Rooted w) (tailored_behind (tree_of tree.now) above.now (Rooted w)) }
+    ensures { result
+        ≡ last_weight (Rooted w) (tailored_behind (tree_of tree.now) above.now (Rooted w)) }
 {
     match tree.begun(above) {
         Some(siblings) => siblings.last_behind(w),

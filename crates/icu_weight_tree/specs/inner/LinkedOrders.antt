@@ -9,7 +9,7 @@ use Rattle.icu_weight_tree.specs.declared.stop.Stop.{Stop}
 use Rattle.icu_weight_tree.specs.declared.stop.Stop.TheVariants.{End, Rooted, Tailored}
 use Rattle.icu_weight_tree.specs.contracts.stop.StopOrd.TheImpl as stop_ord
 use Rattle.icu_weight_tree.specs.declared.links.Links.{Links}
-use Rattle.icu_weight_tree.specs.inner.Stops.{stop_at, is_stop, stands}
+use Rattle.icu_weight_tree.specs.inner.LinkStops.{stop_at, is_stop, stands}
 use Rattle.icu_weight_tree.specs.inner.SiblingPlaces.{number_in}
 
 -- the order of places in a map
@@ -24,10 +24,12 @@ LinkList = List (Stop × Links)
 abbrev pub links_at : LinkList → Stop → Option Links
 links_at links s = lookup (is_at (stop_order s)) links
 
+-- the place that links lead on to, or else the end
 abbrev pub next_or_end : Option Links → Stop
 next_or_end None = End
 next_or_end (Some l) = l.next
 
+-- the place that links lead back to, or else the end
 abbrev pub prev_or_end : Option Links → Stop
 prev_or_end None = End
 prev_or_end (Some l) = l.prev
@@ -52,8 +54,8 @@ walk (suc n) next (Rooted w) = weights.Rooted w ∷ walk n next (next (Rooted w)
 walk (suc n) next (Tailored k) = weights.Tailored k ∷ walk n next (next (Tailored k))
 
 -- the weights in their order
-abbrev pub order_of : LinkList → List SymbolicWeight
-order_of links = walk (length links) (next_in links) (next_in links End)
+abbrev pub linked_weights : LinkList → List SymbolicWeight
+linked_weights links = walk (length links) (next_in links) (next_in links End)
 
 -- each of the weights is linked to the one before it and the one behind it, from behind a place to the end
 abbrev pub AreLinked : (Stop → Stop) → (Stop → Stop) → Stop → List SymbolicWeight → Type 0
@@ -62,25 +64,25 @@ AreLinked next prev s (v ∷ siblings) =
     (next s ≡ stop_at v) × (prev (stop_at v) ≡ s) × AreLinked next prev (stop_at v) siblings
 
 -- no weight stands twice
-abbrev pub AreApart : List SymbolicWeight → Type 0
-AreApart [] = Unit {0}
-AreApart (v ∷ siblings) = (stands (stop_at v) siblings ≡ false) × AreApart siblings
+abbrev pub StandOnce : List SymbolicWeight → Type 0
+StandOnce [] = Unit {0}
+StandOnce (v ∷ siblings) = (stands (stop_at v) siblings ≡ false) × StandOnce siblings
 
 -- the weights of the root ascend
-abbrev pub Ascends : List SymbolicWeight → Type 0
-Ascends [] = Unit {0}
-Ascends (weights.Tailored k ∷ siblings) = Ascends siblings
-Ascends (weights.Rooted v ∷ siblings) =
-    ((u : ℕ) → stands (Rooted u) siblings ≡ true → v < u) × Ascends siblings
+abbrev pub RootedAscend : List SymbolicWeight → Type 0
+RootedAscend [] = Unit {0}
+RootedAscend (weights.Tailored k ∷ siblings) = RootedAscend siblings
+RootedAscend (weights.Rooted v ∷ siblings) =
+    ((u : ℕ) → stands (Rooted u) siblings ≡ true → v < u) × RootedAscend siblings
 
 -- links are those of an order
 pub record IsChain (links : LinkList) : Type 0 where
-  pub linked : AreLinked (next_in links) (prev_in links) End (order_of links)
-  pub apart : AreApart (order_of links)
-  pub ascends : Ascends (order_of links)
-  pub known : (s : Stop) → is_linked links s ≡ stands s (order_of links)
-  pub small : (w : SymbolicWeight) → stands (stop_at w) (order_of links) ≡ true → number_in w < 2 ^ 32
-  pub len : length (order_of links) < length links
+  pub linked : AreLinked (next_in links) (prev_in links) End (linked_weights links)
+  pub apart : StandOnce (linked_weights links)
+  pub ascends : RootedAscend (linked_weights links)
+  pub known : (s : Stop) → is_linked links s ≡ stands s (linked_weights links)
+  pub small : (w : SymbolicWeight) → stands (stop_at w) (linked_weights links) ≡ true → number_in w < 2 ^ 32
+  pub len : length (linked_weights links) < length links
 
 -- links are others but for the place behind this one, which is that one
 pub record SetsNext (before after : LinkList) (s other : Stop) : Type 0 where
@@ -97,7 +99,7 @@ pub record SetsPrev (before after : LinkList) (s other : Stop) : Type 0 where
   pub len : length after ≡ length before
 
 -- a new place is linked between p and s
-pub record Joins (before after : LinkList) (p new s : Stop) : Type 0 where
+pub record LinksBetween (before after : LinkList) (p new s : Stop) : Type 0 where
   pub next : (q : Stop) → next_in after q ≡ (if is_stop p q then new else (if is_stop new q then s else next_in before q))
   pub prev : (q : Stop) → prev_in after q ≡ (if is_stop s q then new else (if is_stop new q then p else prev_in before q))
   pub stands : (q : Stop) → is_linked after q ≡ (is_stop q new || is_linked before q)

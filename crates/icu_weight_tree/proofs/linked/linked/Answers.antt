@@ -2,7 +2,7 @@
 use Rattle.std.proofs.Common.{[], ◌∷◌, ◌++◌, get_or, ◌∙◌, ap, sym}
 use Rattle.std.proofs.lemmas.List.{take_more, take_all}
 use Rattle.icu_tailoring.specs.declared.symbolic.SymbolicWeight.TheVariants.{Rooted}
-use Rattle.icu_weight_tree.proofs.JoinLemmas.{pushed}
+use Rattle.icu_weight_tree.proofs.LinkingLemmas.{pushed}
 use Rattle.icu_weight_tree.proofs.linked.linked.Goals as goal
 
 pub loop-w-preserved : goal.loop-w-preserved

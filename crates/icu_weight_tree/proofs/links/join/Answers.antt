@@ -1,7 +1,7 @@
 -- A new place, and the places before and behind it, are linked.
 use Rattle.std.proofs.Common.{ap, ◌∙◌}
 use Rattle.std.specs.Option.{is_some}
-use Rattle.icu_weight_tree.proofs.JoinLemmas.{joined, one_more}
+use Rattle.icu_weight_tree.proofs.LinkingLemmas.{joined, one_more}
 use Rattle.icu_weight_tree.proofs.links.join.Goals as goal
 
 pub returns-clause-ok : goal.returns-clause-ok

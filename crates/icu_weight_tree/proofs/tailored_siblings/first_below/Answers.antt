@@ -2,14 +2,14 @@
 use Rattle.std.proofs.Common.{ap, ◌∙◌}
 use Rattle.icu_tailoring.specs.SymbolicElements.{common_below}
 use Rattle.icu_weight_tree.specs.inner.TailoredSiblings.{first_of_tailored}
-use Rattle.icu_weight_tree.specs.BuiltTrees.{weights_in}
+use Rattle.icu_weight_tree.specs.BuiltTrees.{sibling_weights}
 use Rattle.icu_weight_tree.proofs.PositionLemmas.{none_tailored}
 use Rattle.icu_weight_tree.proofs.tailored_siblings.first_below.Goals as goal
 
 pub returns-in-Some : goal.returns-in-Some
 returns-in-Some c =
     c.first_tailored.ensures
-    ∙ (ap (λ w. first_of_tailored w (weights_in c.in-Some.siblings.now)) c.common_weight-common.ensures
+    ∙ (ap (λ w. first_of_tailored w (sibling_weights c.in-Some.siblings.now)) c.common_weight-common.ensures
     ∙ ap (first_of_tailored (common_below c.args.above.now)) c.in-Some.ensures)
 
 pub returns-in-None : goal.returns-in-None

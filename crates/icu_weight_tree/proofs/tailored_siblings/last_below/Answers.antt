@@ -2,14 +2,14 @@
 use Rattle.std.proofs.Common.{ap, ◌∙◌}
 use Rattle.icu_tailoring.specs.SymbolicElements.{common_below}
 use Rattle.icu_tailoring.specs.RootPositions.{last_weight}
-use Rattle.icu_weight_tree.specs.BuiltTrees.{weights_in}
+use Rattle.icu_weight_tree.specs.BuiltTrees.{sibling_weights}
 use Rattle.icu_weight_tree.proofs.PositionLemmas.{last_of_first}
 use Rattle.icu_weight_tree.proofs.tailored_siblings.last_below.Goals as goal
 
 pub returns-in-Some : goal.returns-in-Some
 returns-in-Some c =
     c.last_or.ensures
-    ∙ (ap (λ w. last_weight w (weights_in c.in-Some.siblings.now)) c.common_weight-common.ensures ∙ ap (last_weight (common_below c.args.above.now)) c.in-Some.ensures)
+    ∙ (ap (λ w. last_weight w (sibling_weights c.in-Some.siblings.now)) c.common_weight-common.ensures ∙ ap (last_weight (common_below c.args.above.now)) c.in-Some.ensures)
 
 pub returns-in-None : goal.returns-in-None
 returns-in-None c =

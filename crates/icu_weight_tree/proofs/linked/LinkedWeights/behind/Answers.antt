@@ -1,16 +1,16 @@
 -- The weight behind another is that of the place behind.
 use Rattle.std.proofs.Common.{◌∙◌, ap}
 use Rattle.icu_tailoring.specs.WeightTrees.{put_behind}
-use Rattle.icu_weight_tree.specs.inner.Stops.{weight_at}
+use Rattle.icu_weight_tree.specs.inner.LinkStops.{stop_weight}
 use Rattle.icu_weight_tree.specs.inner.LinkedOrders.{next_in}
 use Rattle.icu_weight_tree.specs.inner.TailoredSiblings.{first_weight}
-use Rattle.icu_weight_tree.proofs.JoinLemmas.{behind_found, behind_far}
+use Rattle.icu_weight_tree.proofs.LinkingLemmas.{behind_found, behind_far}
 use Rattle.icu_weight_tree.proofs.linked.LinkedWeights.behind.Goals as goal
 
 pub returns-in-Some : goal.returns-in-Some
 returns-in-Some c =
     let es = c.self.inside.links.entries in
-    c.weight_at.ensures ∙ (ap weight_at (c.next_in.ensures ∙ ap (next_in es) c.in-Some.ensures.some.0)
+    c.stop_weight.ensures ∙ (ap stop_weight (c.next_in.ensures ∙ ap (next_in es) c.in-Some.ensures.some.0)
     ∙ (behind_found es c.self.invariant c.args.w ∙ ap (λ xs. first_weight (put_behind c.args.w xs)) c.self.view_is))
 
 pub returns-in-None : goal.returns-in-None

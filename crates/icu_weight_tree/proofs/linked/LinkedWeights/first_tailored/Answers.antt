@@ -2,7 +2,7 @@
 use Rattle.std.proofs.Common.{◌-◌, ◌∙◌, ap, sym}
 use Rattle.icu_weight_tree.specs.inner.LinkedOrders.{next_in, walk}
 use Rattle.icu_weight_tree.specs.inner.TailoredSiblings.{first_of_tailored}
-use Rattle.icu_weight_tree.proofs.WalkLemmas.{tailored_on, tailored_met, tailored_common, tailored_ended, tailored_done}
+use Rattle.icu_weight_tree.proofs.LinkWalkLemmas.{tailored_on, tailored_met, tailored_common, tailored_ended, tailored_done}
 use Rattle.icu_weight_tree.proofs.linked.LinkedWeights.first_tailored.Goals as goal
 use Rattle.icu_weight_tree.proofs.linked.LinkedWeights.first_tailored.Goals.{then-is_tailored-via-then-is_tailored, then-is_tailored-via-else-is_tailored+then-is_same}
 

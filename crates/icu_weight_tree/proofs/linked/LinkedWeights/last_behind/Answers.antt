@@ -5,9 +5,9 @@ use Rattle.icu_weight_tree.specs.declared.stop.Stop.TheVariants as stops
 use Rattle.icu_tailoring.specs.SymbolicElements.{has_tailored_weight}
 use Rattle.icu_tailoring.specs.WeightTrees.{put_behind}
 use Rattle.icu_tailoring.specs.RootPositions.{last_weight}
-use Rattle.icu_weight_tree.specs.inner.Stops.{weight_at, stands, rooted_above}
+use Rattle.icu_weight_tree.specs.inner.LinkStops.{stop_weight, stands, rooted_above}
 use Rattle.icu_weight_tree.specs.inner.LinkedOrders.{prev_in}
-use Rattle.icu_weight_tree.proofs.JoinLemmas.{last_behind_found, none_behind}
+use Rattle.icu_weight_tree.proofs.LinkingLemmas.{last_behind_found, none_behind}
 use Rattle.icu_weight_tree.proofs.linked.LinkedWeights.last_behind.Goals as goal
 
 pub returns-then-not-has : goal.returns-then-not-has
@@ -18,7 +18,7 @@ returns c =
     let es = c.self.inside.links.entries in
     let n = c.args.w in
     c.unwrap_or.ensures
-    ∙ (ap (λ o. unwrap_or o (Rooted n)) (c.weight_at.ensures ∙ ap weight_at (c.prev_in.ensures ∙ ap (prev_in es) c.rooted_above-next.ensures))
-    ∙ subst (λ xs. unwrap_or (weight_at (prev_in es (rooted_above n xs))) (Rooted n)
+    ∙ (ap (λ o. unwrap_or o (Rooted n)) (c.stop_weight.ensures ∙ ap stop_weight (c.prev_in.ensures ∙ ap (prev_in es) c.rooted_above-next.ensures))
+    ∙ subst (λ xs. unwrap_or (stop_weight (prev_in es (rooted_above n xs))) (Rooted n)
     ≡ last_weight (Rooted n) (take_while has_tailored_weight (put_behind (Rooted n) xs))) c.self.view_is
     (last_behind_found es c.self.invariant n (ap (stands (stops.Rooted n)) c.self.view_is ∙ (sym c.has.ensures.value ∙ c.if-not-has.false))))

@@ -3,7 +3,7 @@ use Rattle.std.proofs.Common.{◌∙◌, ap}
 use Rattle.std.specs.BTreeMap.{insert_entry}
 use Rattle.icu_weight_tree.specs.declared.stop.Stop.TheVariants.{End}
 use Rattle.icu_weight_tree.specs.inner.LinkedOrders.{stop_order}
-use Rattle.icu_weight_tree.proofs.JoinLemmas.{alone_chain}
+use Rattle.icu_weight_tree.proofs.LinkingLemmas.{alone_chain}
 use Rattle.icu_weight_tree.proofs.linked.LinkedWeights.new.Goals as goal
 
 pub invariant_of-result : goal.invariant_of-result

@@ -1,8 +1,8 @@
 -- A weight that is linked between two places stands between them.
 use Rattle.std.proofs.Common.{◌≡◌, true, ◌∙◌, ap, sym, subst}
-use Rattle.icu_weight_tree.specs.inner.Stops.{stands, in_front, weight_of}
-use Rattle.icu_weight_tree.specs.inner.LinkedOrders.{is_linked, IsChain, Joins, Ascends}
-use Rattle.icu_weight_tree.proofs.JoinLemmas.{joined_chain, prev_is_linked}
+use Rattle.icu_weight_tree.specs.inner.LinkStops.{stands, in_front, standing_weight}
+use Rattle.icu_weight_tree.specs.inner.LinkedOrders.{is_linked, IsChain, LinksBetween, RootedAscend}
+use Rattle.icu_weight_tree.proofs.LinkingLemmas.{joined_chain, prev_is_linked}
 use Rattle.icu_weight_tree.proofs.linked.LinkedWeights.put.Goals as goal
 
 pub join-requires-clause-new : goal.join-requires-clause-new
@@ -26,8 +26,8 @@ invariant_of-self-2 c =
     let fs = c.join.new.links.entries in
     (joined_chain es fs c.args.new c.args.next c.self.invariant (ap (stands c.args.next) c.self.view_is ∙ c.requires.next)
     (ap (stands c.args.new) c.self.view_is ∙ c.requires.new)
-    (subst (λ xs. Ascends (in_front c.args.next (weight_of c.args.new) xs)) (sym c.self.view_is) c.requires.ascends) c.requires.small
-    (subst (λ p. Joins es fs p c.args.new c.args.next) c.prev_in-prev.ensures c.in_ok-join.ensures.ok)).1
+    (subst (λ xs. RootedAscend (in_front c.args.next (standing_weight c.args.new) xs)) (sym c.self.view_is) c.requires.ascends) c.requires.small
+    (subst (λ p. LinksBetween es fs p c.args.new c.args.next) c.prev_in-prev.ensures c.in_ok-join.ensures.ok)).1
 
 pub returns : goal.returns
 returns c =
@@ -35,6 +35,6 @@ returns c =
     let fs = c.join.new.links.entries in
     (joined_chain es fs c.args.new c.args.next c.self.invariant (ap (stands c.args.next) c.self.view_is ∙ c.requires.next)
     (ap (stands c.args.new) c.self.view_is ∙ c.requires.new)
-    (subst (λ xs. Ascends (in_front c.args.next (weight_of c.args.new) xs)) (sym c.self.view_is) c.requires.ascends) c.requires.small
-    (subst (λ p. Joins es fs p c.args.new c.args.next) c.prev_in-prev.ensures c.in_ok-join.ensures.ok)).0
-    ∙ ap (in_front c.args.next (weight_of c.args.new)) c.self.view_is
+    (subst (λ xs. RootedAscend (in_front c.args.next (standing_weight c.args.new) xs)) (sym c.self.view_is) c.requires.ascends) c.requires.small
+    (subst (λ p. LinksBetween es fs p c.args.new c.args.next) c.prev_in-prev.ensures c.in_ok-join.ensures.ok)).0
+    ∙ ap (in_front c.args.next (standing_weight c.args.new)) c.self.view_is

@@ -2,10 +2,10 @@
 use Rattle.std.proofs.Common.{◌≡◌, true, ◌∙◌, ap, sym, subst}
 use Rattle.icu_tailoring.specs.declared.symbolic.SymbolicWeight.TheVariants.{Tailored}
 use Rattle.icu_tailoring.specs.WeightTrees.{with_behind}
-use Rattle.icu_weight_tree.specs.inner.Stops.{stands, in_front, weight_of}
+use Rattle.icu_weight_tree.specs.inner.LinkStops.{stands, in_front, standing_weight}
 use Rattle.icu_weight_tree.specs.inner.LinkedOrders.{next_in}
-use Rattle.icu_weight_tree.proofs.StopLemmas.{ascends_tailored}
-use Rattle.icu_weight_tree.proofs.JoinLemmas.{put_behind_is, next_is_there}
+use Rattle.icu_weight_tree.proofs.LinkStopLemmas.{ascends_tailored}
+use Rattle.icu_weight_tree.proofs.LinkingLemmas.{put_behind_is, next_is_there}
 use Rattle.icu_weight_tree.proofs.linked.LinkedWeights.put_behind.Goals as goal
 
 pub put-requires-clause-next : goal.put-requires-clause-next
@@ -24,6 +24,6 @@ returns c =
     let es = c.self.inside.links.entries in
     c.in_ok-put.ensures
     ∙ (ap (λ q. in_front q (Tailored c.args.new) c.args.self.now) c.next_in-next.ensures
-    ∙ subst (λ xs. in_front (next_in es c.args.at) (Tailored c.args.new) xs ≡ with_behind (weight_of c.args.at) (Tailored c.args.new) xs) c.self.view_is
+    ∙ subst (λ xs. in_front (next_in es c.args.at) (Tailored c.args.new) xs ≡ with_behind (standing_weight c.args.at) (Tailored c.args.new) xs) c.self.view_is
     (put_behind_is es c.self.invariant c.args.at (Tailored c.args.new) c.requires
     (ap (stands c.args.at) c.self.view_is ∙ (sym c.has.ensures.value ∙ c.if-not-has.false))))

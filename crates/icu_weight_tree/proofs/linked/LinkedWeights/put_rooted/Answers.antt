@@ -1,9 +1,9 @@
 -- A weight of the root is put before the first greater one.
 use Rattle.std.proofs.Common.{◌≡◌, true, ◌∙◌, ap, sym, subst, OnOk}
 use Rattle.icu_tailoring.specs.declared.symbolic.SymbolicWeight.TheVariants.{Rooted}
-use Rattle.icu_weight_tree.specs.inner.Stops.{stands, in_front}
-use Rattle.icu_weight_tree.specs.inner.LinkedOrders.{Ascends}
-use Rattle.icu_weight_tree.proofs.StopLemmas.{rooted_put, rooted_stays, ascends_rooted, above_stands}
+use Rattle.icu_weight_tree.specs.inner.LinkStops.{stands, in_front}
+use Rattle.icu_weight_tree.specs.inner.LinkedOrders.{RootedAscend}
+use Rattle.icu_weight_tree.proofs.LinkStopLemmas.{rooted_put, rooted_stays, ascends_rooted, above_stands}
 use Rattle.icu_weight_tree.proofs.linked.LinkedWeights.put_rooted.Goals as goal
 
 pub returns-then-has : goal.returns-then-has
@@ -16,7 +16,7 @@ put-requires-clause-next c =
 
 pub put-requires-clause-ascends : goal.put-requires-clause-ascends
 put-requires-clause-ascends c =
-    subst (λ q. Ascends (in_front q (Rooted c.args.w) c.args.self.now)) (sym c.rooted_above-next.ensures)
+    subst (λ q. RootedAscend (in_front q (Rooted c.args.w) c.args.self.now)) (sym c.rooted_above-next.ensures)
     (ascends_rooted c.args.w c.args.self.now (sym c.has.ensures.value ∙ c.if-has.false) c.has.ensures.ascends)
 
 pub returns : goal.returns

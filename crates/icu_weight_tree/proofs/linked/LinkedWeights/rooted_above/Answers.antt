@@ -1,7 +1,7 @@
 -- The first greater weight of the root is that of the least greater place in the map.
 use Rattle.std.proofs.Common.{◌∙◌, ap}
-use Rattle.icu_weight_tree.specs.inner.Stops.{rooted_above}
-use Rattle.icu_weight_tree.proofs.JoinLemmas.{above_first_found, above_none_found}
+use Rattle.icu_weight_tree.specs.inner.LinkStops.{rooted_above}
+use Rattle.icu_weight_tree.proofs.LinkingLemmas.{above_first_found, above_none_found}
 use Rattle.icu_weight_tree.proofs.linked.LinkedWeights.rooted_above.Goals as goal
 
 pub returns-in-Some : goal.returns-in-Some

@@ -1,7 +1,7 @@
 -- What was walked and what is left of the walk are the order.
 use Rattle.std.proofs.Common.{◌-◌, [], ◌∷◌, ◌++◌, ◌∙◌, ap, sym}
 use Rattle.icu_weight_tree.specs.inner.LinkedOrders.{next_in, walk}
-use Rattle.icu_weight_tree.proofs.WalkLemmas.{list_on, list_ended, list_done}
+use Rattle.icu_weight_tree.proofs.LinkWalkLemmas.{list_on, list_ended, list_done}
 use Rattle.icu_weight_tree.proofs.linked.LinkedWeights.to_vec.Goals as goal
 
 pub loop-left-preserved : goal.loop-left-preserved

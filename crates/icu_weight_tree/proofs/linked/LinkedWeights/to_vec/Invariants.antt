@@ -1,10 +1,10 @@
 use Rattle.std.proofs.Common.{◌≡◌, ◌++◌}
-use Rattle.icu_weight_tree.specs.inner.LinkedOrders.{next_in, walk, order_of}
+use Rattle.icu_weight_tree.specs.inner.LinkedOrders.{next_in, walk, linked_weights}
 use Rattle.icu_weight_tree.proofs.linked.LinkedWeights.to_vec.Given as goal
 
 abbrev pub invariant-loop-left : goal.invariant-loop-left
 invariant-loop-left l =
-    l.weights.items ++ walk l.left (next_in l.self-inside.links.entries) l.at ≡ order_of l.self-inside.links.entries
+    l.weights.items ++ walk l.left (next_in l.self-inside.links.entries) l.at ≡ linked_weights l.self-inside.links.entries
 
 abbrev pub decreases-loop-left : goal.decreases-loop-left
 decreases-loop-left l = l.left

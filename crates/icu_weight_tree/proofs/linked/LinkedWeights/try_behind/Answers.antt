@@ -3,9 +3,9 @@ use Rattle.std.proofs.Common.{◌≡◌, false, ◌∙◌, ap, sym, subst, IfOk,
 use Rattle.icu_tailoring.specs.declared.symbolic.SymbolicWeight.TheVariants.{Tailored}
 use Rattle.icu_tailoring.specs.WeightTrees.{with_behind}
 use Rattle.icu_weight_tree.specs.declared.stop.Stop.TheVariants.{End}
-use Rattle.icu_weight_tree.specs.inner.Stops.{weight_of, is_stop}
-use Rattle.icu_weight_tree.proofs.JoinLemmas.{weight_of_stop}
-use Rattle.icu_weight_tree.proofs.StopLemmas.{not_end}
+use Rattle.icu_weight_tree.specs.inner.LinkStops.{standing_weight, is_stop}
+use Rattle.icu_weight_tree.proofs.LinkingLemmas.{weight_of_stop}
+use Rattle.icu_weight_tree.proofs.LinkStopLemmas.{not_end}
 use Rattle.icu_weight_tree.proofs.linked.LinkedWeights.try_behind.Goals as goal
 
 pub put_behind-requires : goal.put_behind-requires
@@ -15,7 +15,7 @@ pub returns-in-Ok : goal.returns-in-Ok
 returns-in-Ok c =
     subst (λ v. IfOk c.put_behind.result (λ done. c.put_behind.new.self
     ≡ (if done then with_behind v (Tailored c.args.new) c.args.self.now else c.args.self.now)))
-    (ap weight_of c.in-Some.ensures.some.0 ∙ weight_of_stop c.args.w)
+    (ap standing_weight c.in-Some.ensures.some.0 ∙ weight_of_stop c.args.w)
     (subst (λ k. IfOk c.put_behind.result (λ done. c.put_behind.new.self
-    ≡ (if done then with_behind (weight_of c.in-Some.at) (Tailored k) c.args.self.now else c.args.self.now)))
+    ≡ (if done then with_behind (standing_weight c.in-Some.at) (Tailored k) c.args.self.now else c.args.self.now)))
     c.in-Ok.ensures.1 c.put_behind.ensures)

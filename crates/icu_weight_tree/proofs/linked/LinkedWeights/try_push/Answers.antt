@@ -1,9 +1,9 @@
 -- Before the end is behind all others.
 use Rattle.std.proofs.Common.{◌<◌, ◌^◌, [], ◌∷◌, ◌++◌, ◌∙◌, ap, sym, subst}
-use Rattle.icu_weight_tree.specs.inner.Stops.{weight_of}
+use Rattle.icu_weight_tree.specs.inner.LinkStops.{standing_weight}
 use Rattle.icu_weight_tree.specs.inner.SiblingPlaces.{number_in}
-use Rattle.icu_weight_tree.proofs.StopLemmas.{end_stands, in_front_of_end}
-use Rattle.icu_weight_tree.proofs.JoinLemmas.{weight_of_stop}
+use Rattle.icu_weight_tree.proofs.LinkStopLemmas.{end_stands, in_front_of_end}
+use Rattle.icu_weight_tree.proofs.LinkingLemmas.{weight_of_stop}
 use Rattle.icu_weight_tree.proofs.linked.LinkedWeights.try_push.Goals as goal
 
 pub put-requires : goal.put-requires
@@ -12,11 +12,11 @@ put-requires c = record {
   new = c.if-not-may_push.ensures.0;
   ascends = c.if-not-may_push.ensures.1;
   small =
-      subst (λ v. number_in v < 2 ^ 32) (sym (ap weight_of c.in-Some.ensures.some.0 ∙ weight_of_stop c.args.w)) c.in-Some.ensures.some.1;
+      subst (λ v. number_in v < 2 ^ 32) (sym (ap standing_weight c.in-Some.ensures.some.0 ∙ weight_of_stop c.args.w)) c.in-Some.ensures.some.1;
 }
 
 pub returns-in_ok-put-in-Some : goal.returns-in_ok-put-in-Some
 returns-in_ok-put-in-Some c =
     c.in_ok-put-in-Some.ensures
-    ∙ (in_front_of_end (weight_of c.in-Some.stop) c.args.self.now
-    ∙ ap (λ v. c.args.self.now ++ v ∷ []) (ap weight_of c.in-Some.ensures.some.0 ∙ weight_of_stop c.args.w))
+    ∙ (in_front_of_end (standing_weight c.in-Some.stop) c.args.self.now
+    ∙ ap (λ v. c.args.self.now ++ v ∷ []) (ap standing_weight c.in-Some.ensures.some.0 ∙ weight_of_stop c.args.w))

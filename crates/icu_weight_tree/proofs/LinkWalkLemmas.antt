@@ -6,7 +6,7 @@ use Rattle.icu_tailoring.specs.declared.symbolic.SymbolicWeight.TheVariants as w
 use Rattle.icu_tailoring.specs.SymbolicElements.{has_tailored_weight, is_same_weight}
 use Rattle.icu_weight_tree.specs.declared.stop.Stop.{Stop}
 use Rattle.icu_weight_tree.specs.declared.stop.Stop.TheVariants.{End, Rooted, Tailored}
-use Rattle.icu_weight_tree.specs.inner.Stops.{weight_at}
+use Rattle.icu_weight_tree.specs.inner.LinkStops.{stop_weight}
 use Rattle.icu_weight_tree.specs.inner.LinkedOrders.{walk}
 use Rattle.icu_weight_tree.specs.inner.TailoredSiblings.{first_of_tailored}
 use Rattle.icu_weight_tree.proofs.PositionLemmas.{first_passed, first_met, common_met}
@@ -22,7 +22,7 @@ inside {v} {w} e = ap (value_or v) e
 one_less : (n : ℕ) → suc n - 1 ≡ n
 one_less n = omega arith
 
-walk_on : (n : ℕ) (next : Stop → Stop) (s : Stop) (w : SymbolicWeight) → 0 < n → weight_at s ≡ Some w
+walk_on : (n : ℕ) (next : Stop → Stop) (s : Stop) (w : SymbolicWeight) → 0 < n → stop_weight s ≡ Some w
     → walk n next s ≡ w ∷ walk (n - 1) next (next s)
 walk_on zero next s w some e = absurd (omega arith)
 walk_on (suc n) next End w some e = cc
@@ -35,7 +35,7 @@ walk_on (suc n) next (Tailored k) w some e = step e
     step : Some (weights.Tailored k) ≡ Some w → weights.Tailored k ∷ walk n next (next (Tailored k)) ≡ w ∷ walk (suc n - 1) next (next (Tailored k))
     step f = ap (λ m. weights.Tailored k ∷ walk m next (next (Tailored k))) (sym (one_less n)) ∙ ap (λ u. u ∷ walk (suc n - 1) next (next (Tailored k))) (inside f)
 
-walk_ended : (n : ℕ) (next : Stop → Stop) (s : Stop) → weight_at s ≡ None → walk n next s ≡ []
+walk_ended : (n : ℕ) (next : Stop → Stop) (s : Stop) → stop_weight s ≡ None → walk n next s ≡ []
 walk_ended zero next s e = refl
 walk_ended (suc n) next End e = refl
 walk_ended (suc n) next (Rooted v) e = cc
@@ -44,12 +44,12 @@ walk_ended (suc n) next (Tailored k) e = cc
 -- ---- the list of a walk
 
 pub list_on : (n : ℕ) (next : Stop → Stop) (s : Stop) (w : SymbolicWeight) (done order : List SymbolicWeight) → 0 < n
-    → weight_at s ≡ Some w → done ++ walk n next s ≡ order → (done ++ w ∷ []) ++ walk (n - 1) next (next s) ≡ order
+    → stop_weight s ≡ Some w → done ++ walk n next s ≡ order → (done ++ w ∷ []) ++ walk (n - 1) next (next s) ≡ order
 list_on n next s w done order some e is =
     append_assoc done (w ∷ []) (walk (n - 1) next (next s)) ∙ (ap (λ ys. done ++ ys) (sym (walk_on n next s w some e)) ∙ is)
 
 pub list_ended : (n : ℕ) (next : Stop → Stop) (s : Stop) (done order : List SymbolicWeight)
-    → weight_at s ≡ None → done ++ walk n next s ≡ order → done ≡ order
+    → stop_weight s ≡ None → done ++ walk n next s ≡ order → done ≡ order
 list_ended n next s done order e is = sym (append-nil done) ∙ (ap (λ ys. done ++ ys) (sym (walk_ended n next s e)) ∙ is)
 
 pub list_done : (n : ℕ) (next : Stop → Stop) (s : Stop) (done order : List SymbolicWeight)
@@ -59,25 +59,25 @@ list_done (suc n) next s done order e is = absurd (omega arith)
 
 -- ---- the first tailored weight of a walk
 
-pub tailored_on : (n : ℕ) (next : Stop → Stop) (s : Stop) (w common found : SymbolicWeight) → 0 < n → weight_at s ≡ Some w
+pub tailored_on : (n : ℕ) (next : Stop → Stop) (s : Stop) (w common found : SymbolicWeight) → 0 < n → stop_weight s ≡ Some w
     → has_tailored_weight w ≡ false → is_same_weight w common ≡ false → first_of_tailored common (walk n next s) ≡ found
     → first_of_tailored common (walk (n - 1) next (next s)) ≡ found
 tailored_on n next s w common found some e rooted other is =
     first_passed common w (walk (n - 1) next (next s)) rooted other
     ∙ (ap (first_of_tailored common) (sym (walk_on n next s w some e)) ∙ is)
 
-pub tailored_met : (n : ℕ) (next : Stop → Stop) (s : Stop) (w common found : SymbolicWeight) → 0 < n → weight_at s ≡ Some w
+pub tailored_met : (n : ℕ) (next : Stop → Stop) (s : Stop) (w common found : SymbolicWeight) → 0 < n → stop_weight s ≡ Some w
     → has_tailored_weight w ≡ true → first_of_tailored common (walk n next s) ≡ found → w ≡ found
 tailored_met n next s w common found some e tailored is =
     first_met common w (walk (n - 1) next (next s)) tailored ∙ (ap (first_of_tailored common) (sym (walk_on n next s w some e)) ∙ is)
 
-pub tailored_common : (n : ℕ) (next : Stop → Stop) (s : Stop) (w common found : SymbolicWeight) → 0 < n → weight_at s ≡ Some w
+pub tailored_common : (n : ℕ) (next : Stop → Stop) (s : Stop) (w common found : SymbolicWeight) → 0 < n → stop_weight s ≡ Some w
     → is_same_weight w common ≡ true → first_of_tailored common (walk n next s) ≡ found → w ≡ found
 tailored_common n next s w common found some e same is =
     common_met common w (walk (n - 1) next (next s)) same ∙ (ap (first_of_tailored common) (sym (walk_on n next s w some e)) ∙ is)
 
 pub tailored_ended : (n : ℕ) (next : Stop → Stop) (s : Stop) (common found : SymbolicWeight)
-    → weight_at s ≡ None → first_of_tailored common (walk n next s) ≡ found → common ≡ found
+    → stop_weight s ≡ None → first_of_tailored common (walk n next s) ≡ found → common ≡ found
 tailored_ended n next s common found e is = ap (first_of_tailored common) (sym (walk_ended n next s e)) ∙ is
 
 pub tailored_done : (n : ℕ) (next : Stop → Stop) (s : Stop) (common found : SymbolicWeight)

@@ -11,16 +11,16 @@ stop_at (weights.Rooted w) = Rooted w
 stop_at (weights.Tailored k) = Tailored k
 
 -- the weight of a place
-abbrev pub weight_at : Stop → Option SymbolicWeight
-weight_at End = None
-weight_at (Rooted w) = Some (weights.Rooted w)
-weight_at (Tailored k) = Some (weights.Tailored k)
+abbrev pub stop_weight : Stop → Option SymbolicWeight
+stop_weight End = None
+stop_weight (Rooted w) = Some (weights.Rooted w)
+stop_weight (Tailored k) = Some (weights.Tailored k)
 
 -- the weight of a place that isn't the end
-abbrev pub weight_of : Stop → SymbolicWeight
-weight_of End = weights.Rooted 0
-weight_of (Rooted w) = weights.Rooted w
-weight_of (Tailored k) = weights.Tailored k
+abbrev pub standing_weight : Stop → SymbolicWeight
+standing_weight End = weights.Rooted 0
+standing_weight (Rooted w) = weights.Rooted w
+standing_weight (Tailored k) = weights.Tailored k
 
 -- a place of a weight of the root, or else the end
 abbrev pub rooted_or_end : Stop → Stop

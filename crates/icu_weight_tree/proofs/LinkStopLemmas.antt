@@ -9,8 +9,8 @@ use Rattle.icu_tailoring.specs.WeightTrees.{with_rooted}
 use Rattle.icu_tailoring.proofs.TreeLemmas.{either}
 use Rattle.icu_weight_tree.specs.declared.stop.Stop.{Stop}
 use Rattle.icu_weight_tree.specs.declared.stop.Stop.TheVariants.{End, Rooted, Tailored}
-use Rattle.icu_weight_tree.specs.inner.Stops.{stop_at, is_stop, stands, in_front, rooted_above}
-use Rattle.icu_weight_tree.specs.inner.LinkedOrders.{AreApart, Ascends}
+use Rattle.icu_weight_tree.specs.inner.LinkStops.{stop_at, is_stop, stands, in_front, rooted_above}
+use Rattle.icu_weight_tree.specs.inner.LinkedOrders.{StandOnce, RootedAscend}
 
 -- ---- the same place
 
@@ -102,8 +102,8 @@ stands_in_front q s w (v ∷ xs) = elim (cases_Bool (is_stop s (stop_at v))) [
       ∙ or_swapped (is_stop q (stop_at v)) (is_stop q (stop_at w)) (stands q xs))
 ]
 
-pub apart_in_front : (s : Stop) (w : SymbolicWeight) (xs : List SymbolicWeight) → AreApart xs
-    → stands (stop_at w) xs ≡ false → AreApart (in_front s w xs)
+pub apart_in_front : (s : Stop) (w : SymbolicWeight) (xs : List SymbolicWeight) → StandOnce xs
+    → stands (stop_at w) xs ≡ false → StandOnce (in_front s w xs)
 apart_in_front s w [] a fresh = (not_end w, tt)
 apart_in_front s w (v ∷ xs) a fresh = elim (cases_Bool (is_stop s (stop_at v))) [
   | inl e ↦ rw e (fresh, a)
@@ -197,7 +197,7 @@ rooted_put n (weights.Rooted v ∷ xs) fresh =
     ]
 
 -- one that stands there stays
-pub rooted_stays : (n : ℕ) (xs : List SymbolicWeight) → Ascends xs → stands (Rooted n) xs ≡ true → xs ≡ with_rooted n xs
+pub rooted_stays : (n : ℕ) (xs : List SymbolicWeight) → RootedAscend xs → stands (Rooted n) xs ≡ true → xs ≡ with_rooted n xs
 unfolding with_rooted
 rooted_stays n [] s there = cc
 rooted_stays n (weights.Tailored k ∷ xs) s there = ap (λ ys. weights.Tailored k ∷ ys) (rooted_stays n xs s there)
@@ -211,8 +211,8 @@ rooted_stays n (weights.Rooted v ∷ xs) s there = elim (cases_Bool (n == v)) [
 ]
 
 -- weights of the root ascend with another one in its place
-pub ascends_rooted : (n : ℕ) (xs : List SymbolicWeight) → stands (Rooted n) xs ≡ false → Ascends xs
-    → Ascends (in_front (rooted_above n xs) (weights.Rooted n) xs)
+pub ascends_rooted : (n : ℕ) (xs : List SymbolicWeight) → stands (Rooted n) xs ≡ false → RootedAscend xs
+    → RootedAscend (in_front (rooted_above n xs) (weights.Rooted n) xs)
 ascends_rooted n [] fresh s = (λ u a. absurd (both_ways false refl a), tt)
 ascends_rooted n (weights.Tailored k ∷ xs) fresh s = rw (above_is_rooted n k xs) (ascends_rooted n xs fresh s)
 ascends_rooted n (weights.Rooted v ∷ xs) fresh s =
@@ -220,7 +220,7 @@ ascends_rooted n (weights.Rooted v ∷ xs) fresh s =
     elim (cases_Bool (nat_lt n v)) [
       | inl e ↦ rw (e, itself (Rooted v)) (λ u a. above_new (less_from n v e) u a, s)
       | inr e ↦
-          subst Ascends (sym (passed_above n v xs e))
+          subst RootedAscend (sym (passed_above n v xs e))
           (λ u a. above_old (less v (most_from n v e) parts.0) u a, ascends_rooted n xs parts.1 s.1)
     ]
   where
@@ -241,24 +241,24 @@ ascends_rooted n (weights.Rooted v ∷ xs) fresh s =
         ]
 
 -- and with a tailored one anywhere
-pub ascends_tailored : (s : Stop) (k : ℕ) (xs : List SymbolicWeight) → Ascends xs → Ascends (in_front s (weights.Tailored k) xs)
+pub ascends_tailored : (s : Stop) (k : ℕ) (xs : List SymbolicWeight) → RootedAscend xs → RootedAscend (in_front s (weights.Tailored k) xs)
 ascends_tailored s k [] a = tt
 ascends_tailored s k (weights.Tailored j ∷ xs) a =
-    either Ascends (is_stop s (Tailored j)) (weights.Tailored k ∷ weights.Tailored j ∷ xs) (weights.Tailored j ∷ in_front s (weights.Tailored k) xs)
+    either RootedAscend (is_stop s (Tailored j)) (weights.Tailored k ∷ weights.Tailored j ∷ xs) (weights.Tailored j ∷ in_front s (weights.Tailored k) xs)
     (λ _. a) (λ _. ascends_tailored s k xs a)
 ascends_tailored s k (weights.Rooted v ∷ xs) a =
-    either Ascends (is_stop s (Rooted v)) (weights.Tailored k ∷ weights.Rooted v ∷ xs) (weights.Rooted v ∷ in_front s (weights.Tailored k) xs)
+    either RootedAscend (is_stop s (Rooted v)) (weights.Tailored k ∷ weights.Rooted v ∷ xs) (weights.Rooted v ∷ in_front s (weights.Tailored k) xs)
     (λ _. a)
     (λ _. (λ u there. a.0 u (sym (stands_in_front (Rooted u) s (weights.Tailored k) xs) ∙ there), ascends_tailored s k xs a.1))
 
 -- and with one behind all where none is greater
-pub ascends_behind_all : (n : ℕ) (xs : List SymbolicWeight) → stands (Rooted n) xs ≡ false → Ascends xs
-    → rooted_above n xs ≡ End → Ascends (in_front End (weights.Rooted n) xs)
+pub ascends_behind_all : (n : ℕ) (xs : List SymbolicWeight) → stands (Rooted n) xs ≡ false → RootedAscend xs
+    → rooted_above n xs ≡ End → RootedAscend (in_front End (weights.Rooted n) xs)
 ascends_behind_all n xs fresh s end =
-    subst (λ q. Ascends (in_front q (weights.Rooted n) xs)) end (ascends_rooted n xs fresh s)
+    subst (λ q. RootedAscend (in_front q (weights.Rooted n) xs)) end (ascends_rooted n xs fresh s)
 
 -- the first greater one is the least of those that are greater
-pub above_found : (n v : ℕ) (xs : List SymbolicWeight) → Ascends xs → stands (Rooted v) xs ≡ true → n < v
+pub above_found : (n v : ℕ) (xs : List SymbolicWeight) → RootedAscend xs → stands (Rooted v) xs ≡ true → n < v
     → ((u : ℕ) → stands (Rooted u) xs ≡ true → n < u → v ≤ u) → Rooted v ≡ rooted_above n xs
 above_found n v [] s there more least = cc
 above_found n v (weights.Tailored k ∷ xs) s there more least = above_found n v xs s there more least

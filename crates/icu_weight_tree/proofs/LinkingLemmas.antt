@@ -24,9 +24,9 @@ use Rattle.icu_weight_tree.specs.inner.SiblingPlaces.{number_in}
 use Rattle.icu_weight_tree.specs.declared.stop.Stop.{Stop}
 use Rattle.icu_weight_tree.specs.declared.stop.Stop.TheVariants.{End, Rooted, Tailored}
 use Rattle.icu_weight_tree.specs.declared.links.Links.{Links}
-use Rattle.icu_weight_tree.specs.inner.Stops.{stop_at, weight_at, weight_of, rooted_or_end, is_stop, stands, in_front, rooted_above}
-use Rattle.icu_weight_tree.specs.inner.LinkedOrders.{stop_order, LinkList, links_at, next_or_end, prev_or_end, next_in, prev_in, is_linked, order_of, AreLinked, AreApart, Ascends, IsChain, SetsNext, SetsPrev, Joins}
-use Rattle.icu_weight_tree.proofs.StopLemmas.{same_stop, same_from, other_way, not_end, stands_in_front, apart_in_front, length_in_front, both_false, either_true, weight_is, above_found, above_none, ascends_behind_all}
+use Rattle.icu_weight_tree.specs.inner.LinkStops.{stop_at, stop_weight, standing_weight, rooted_or_end, is_stop, stands, in_front, rooted_above}
+use Rattle.icu_weight_tree.specs.inner.LinkedOrders.{stop_order, LinkList, links_at, next_or_end, prev_or_end, next_in, prev_in, is_linked, linked_weights, AreLinked, StandOnce, RootedAscend, IsChain, SetsNext, SetsPrev, LinksBetween}
+use Rattle.icu_weight_tree.proofs.LinkStopLemmas.{same_stop, same_from, other_way, not_end, stands_in_front, apart_in_front, length_in_front, both_false, either_true, weight_is, above_found, above_none, ascends_behind_all}
 use Rattle.icu_weight_tree.proofs.LinkLemmas.{walk_is, next_of_prev, prev_of_next_at, next_stands, prev_stands, linked_in_front, behind_in_front, before_is, before_absent, behind_is, behind_absent, last_is, last_behind_is}
 
 -- ---- places in a map
@@ -71,7 +71,7 @@ or_if false c = refl
 
 pub joined : (es fs gs hs : LinkList) (p new s : Stop)
     → ((q : Stop) → links_at fs q ≡ (if is_at (stop_order new) q then Some (record { prev = p; next = s }) else links_at es q))
-    → length fs ≡ suc (length es) → SetsNext fs gs p new → SetsPrev gs hs s new → Joins es hs p new s
+    → length fs ≡ suc (length es) → SetsNext fs gs p new → SetsPrev gs hs s new → LinksBetween es hs p new s
 joined es fs gs hs p new s w len n m =
     let l : Links = record { prev = p; next = s } in
     record {
@@ -97,17 +97,17 @@ linked_at es fs new q l w there =
 -- ---- chains
 
 -- links are those of an order, as the walk along them finds it
-pub chain_of : (es : LinkList) (xs : List SymbolicWeight) → AreLinked (next_in es) (prev_in es) End xs → AreApart xs
-    → Ascends xs → ((s : Stop) → is_linked es s ≡ stands s xs)
+pub chain_of : (es : LinkList) (xs : List SymbolicWeight) → AreLinked (next_in es) (prev_in es) End xs → StandOnce xs
+    → RootedAscend xs → ((s : Stop) → is_linked es s ≡ stands s xs)
     → ((v : SymbolicWeight) → stands (stop_at v) xs ≡ true → number_in v < 2 ^ 32) → length xs < length es
-    → (order_of es ≡ xs) × IsChain es
+    → (linked_weights es ≡ xs) × IsChain es
 chain_of es xs linked apart ascends there small len =
-    let is : order_of es ≡ xs = walk_is (next_in es) (prev_in es) End xs (length es) linked (omega arith) in (
+    let is : linked_weights es ≡ xs = walk_is (next_in es) (prev_in es) End xs (length es) linked (omega arith) in (
       is,
       record {
         linked = subst (AreLinked (next_in es) (prev_in es) End) (sym is) linked;
-        apart = subst AreApart (sym is) apart;
-        ascends = subst Ascends (sym is) ascends;
+        apart = subst StandOnce (sym is) apart;
+        ascends = subst RootedAscend (sym is) ascends;
         known = λ s. there s ∙ ap (stands s) (sym is);
         small = subst (λ ys. (v : SymbolicWeight) → stands (stop_at v) ys ≡ true → number_in v < 2 ^ 32) (sym is) small;
         len = subst (λ ys. length ys < length es) (sym is) len;
@@ -115,8 +115,8 @@ chain_of es xs linked apart ascends there small len =
     )
 
 -- one place alone, the end
-pub alone_chain : (es : LinkList) → es ≡ (End, record { prev = End; next = End }) ∷ [] → (order_of es ≡ []) × IsChain es
-alone_chain es is = subst (λ (fs : LinkList). (order_of fs ≡ []) × IsChain fs) (sym is)
+pub alone_chain : (es : LinkList) → es ≡ (End, record { prev = End; next = End }) ∷ [] → (linked_weights es ≡ []) × IsChain es
+alone_chain es is = subst (λ (fs : LinkList). (linked_weights fs ≡ []) × IsChain fs) (sym is)
     (chain_of ((End, record { prev = End; next = End }) ∷ []) [] (refl, refl) tt tt there none (omega arith))
   where
     there : (s : Stop) → is_linked ((End, record { prev = End; next = End }) ∷ []) s ≡ stands s []
@@ -127,11 +127,11 @@ alone_chain es is = subst (λ (fs : LinkList). (order_of fs ≡ []) × IsChain f
     none : (v : SymbolicWeight) → stands (stop_at v) [] ≡ true → number_in v < 2 ^ 32
     none v a = absurd (both_ways (is_stop (stop_at v) End) (not_end v) a)
 
-pub weight_of_stop : (w : SymbolicWeight) → weight_of (stop_at w) ≡ w
+pub weight_of_stop : (w : SymbolicWeight) → standing_weight (stop_at w) ≡ w
 weight_of_stop (weights.Rooted w) = refl
 weight_of_stop (weights.Tailored k) = refl
 
-pub weight_back : (new : Stop) → is_stop new End ≡ false → stop_at (weight_of new) ≡ new
+pub weight_back : (new : Stop) → is_stop new End ≡ false → stop_at (standing_weight new) ≡ new
 weight_back End e = cc
 weight_back (Rooted w) e = refl
 weight_back (Tailored k) e = refl
@@ -141,12 +141,12 @@ new_is_weight new [] e = e
 new_is_weight new (v ∷ xs) e = new_is_weight new xs (both_false (is_stop new (stop_at v)) (stands new xs) e).1
 
 -- one more weight directly before a place
-pub joined_chain : (es fs : LinkList) (new s : Stop) → IsChain es → stands s (order_of es) ≡ true
-    → stands new (order_of es) ≡ false → Ascends (in_front s (weight_of new) (order_of es)) → number_in (weight_of new) < 2 ^ 32 → Joins es fs (prev_in es s) new s
-    → (order_of fs ≡ in_front s (weight_of new) (order_of es)) × IsChain fs
+pub joined_chain : (es fs : LinkList) (new s : Stop) → IsChain es → stands s (linked_weights es) ≡ true
+    → stands new (linked_weights es) ≡ false → RootedAscend (in_front s (standing_weight new) (linked_weights es)) → number_in (standing_weight new) < 2 ^ 32 → LinksBetween es fs (prev_in es s) new s
+    → (linked_weights fs ≡ in_front s (standing_weight new) (linked_weights es)) × IsChain fs
 joined_chain es fs new s c there fresh ascends few j =
-    let xs = order_of es in
-    let w : SymbolicWeight = weight_of new in
+    let xs = linked_weights es in
+    let w : SymbolicWeight = standing_weight new in
     let p : Stop = prev_in es s in
     let not_last : is_stop new End ≡ false = new_is_weight new xs fresh in
     let is : stop_at w ≡ new = weight_back new not_last in
@@ -179,64 +179,64 @@ no_next None e = refl
 no_next (Some l) e = cc
 
 module _ (es : LinkList) (c : IsChain es) where
-  pub before_found : (w : SymbolicWeight) → weight_at (prev_in es (stop_at w)) ≡ directly_before w (order_of es)
-  before_found w = elim (cases_Bool (stands (stop_at w) (order_of es))) [
-    | inl e ↦ before_is (next_in es) (prev_in es) End w (order_of es) c.linked e
+  pub before_found : (w : SymbolicWeight) → stop_weight (prev_in es (stop_at w)) ≡ directly_before w (linked_weights es)
+  before_found w = elim (cases_Bool (stands (stop_at w) (linked_weights es))) [
+    | inl e ↦ before_is (next_in es) (prev_in es) End w (linked_weights es) c.linked e
     | inr e ↦
-        ap weight_at (no_prev (links_at es (stop_at w)) (c.known (stop_at w) ∙ e)) ∙ sym (before_absent None w (order_of es) e)
+        ap stop_weight (no_prev (links_at es (stop_at w)) (c.known (stop_at w) ∙ e)) ∙ sym (before_absent None w (linked_weights es) e)
   ]
 
   -- a weight whose number is too great isn't there
-  far : (w : SymbolicWeight) → 2 ^ 32 ≤ number_in w → stands (stop_at w) (order_of es) ≡ false
-  far w most = elim (cases_Bool (stands (stop_at w) (order_of es))) [
+  far : (w : SymbolicWeight) → 2 ^ 32 ≤ number_in w → stands (stop_at w) (linked_weights es) ≡ false
+  far w most = elim (cases_Bool (stands (stop_at w) (linked_weights es))) [
     | inl e ↦ (let small = c.small w e in absurd (omega arith))
     | inr e ↦ e
   ]
 
-  pub before_far : (w : SymbolicWeight) → 2 ^ 32 ≤ number_in w → None ≡ directly_before w (order_of es)
-  before_far w most = sym (before_absent None w (order_of es) (far w most))
+  pub before_far : (w : SymbolicWeight) → 2 ^ 32 ≤ number_in w → None ≡ directly_before w (linked_weights es)
+  before_far w most = sym (before_absent None w (linked_weights es) (far w most))
 
-  pub behind_found : (w : SymbolicWeight) → weight_at (next_in es (stop_at w)) ≡ first_weight (put_behind w (order_of es))
-  behind_found w = elim (cases_Bool (stands (stop_at w) (order_of es))) [
-    | inl e ↦ behind_is (next_in es) (prev_in es) End w (order_of es) c.linked e
+  pub behind_found : (w : SymbolicWeight) → stop_weight (next_in es (stop_at w)) ≡ first_weight (put_behind w (linked_weights es))
+  behind_found w = elim (cases_Bool (stands (stop_at w) (linked_weights es))) [
+    | inl e ↦ behind_is (next_in es) (prev_in es) End w (linked_weights es) c.linked e
     | inr e ↦
-        ap weight_at (no_next (links_at es (stop_at w)) (c.known (stop_at w) ∙ e))
-        ∙ ap first_weight (sym (behind_absent w (order_of es) e))
+        ap stop_weight (no_next (links_at es (stop_at w)) (c.known (stop_at w) ∙ e))
+        ∙ ap first_weight (sym (behind_absent w (linked_weights es) e))
   ]
 
-  pub behind_far : (w : SymbolicWeight) → 2 ^ 32 ≤ number_in w → None ≡ first_weight (put_behind w (order_of es))
-  behind_far w most = ap first_weight (sym (behind_absent w (order_of es) (far w most)))
+  pub behind_far : (w : SymbolicWeight) → 2 ^ 32 ≤ number_in w → None ≡ first_weight (put_behind w (linked_weights es))
+  behind_far w most = ap first_weight (sym (behind_absent w (linked_weights es) (far w most)))
 
-  pub last_found : (other : SymbolicWeight) → unwrap_or (weight_at (prev_in es End)) other ≡ last_weight other (order_of es)
-  last_found other = last_is (next_in es) (prev_in es) other other End (order_of es) c.linked refl
+  pub last_found : (other : SymbolicWeight) → unwrap_or (stop_weight (prev_in es End)) other ≡ last_weight other (linked_weights es)
+  last_found other = last_is (next_in es) (prev_in es) other other End (linked_weights es) c.linked refl
 
-  pub last_behind_found : (n : ℕ) → stands (Rooted n) (order_of es) ≡ true
-      → unwrap_or (weight_at (prev_in es (rooted_above n (order_of es)))) (weights.Rooted n)
-      ≡ last_weight (weights.Rooted n) (take_while has_tailored_weight (put_behind (weights.Rooted n) (order_of es)))
-  last_behind_found n there = last_behind_is (next_in es) (prev_in es) End n (order_of es) c.linked c.ascends there
+  pub last_behind_found : (n : ℕ) → stands (Rooted n) (linked_weights es) ≡ true
+      → unwrap_or (stop_weight (prev_in es (rooted_above n (linked_weights es)))) (weights.Rooted n)
+      ≡ last_weight (weights.Rooted n) (take_while has_tailored_weight (put_behind (weights.Rooted n) (linked_weights es)))
+  last_behind_found n there = last_behind_is (next_in es) (prev_in es) End n (linked_weights es) c.linked c.ascends there
 
   -- directly behind a weight is before the one behind it
-  pub put_behind_is : (at : Stop) (new : SymbolicWeight) → is_stop at End ≡ false → stands at (order_of es) ≡ true
-      → in_front (next_in es at) new (order_of es) ≡ with_behind (weight_of at) new (order_of es)
+  pub put_behind_is : (at : Stop) (new : SymbolicWeight) → is_stop at End ≡ false → stands at (linked_weights es) ≡ true
+      → in_front (next_in es at) new (linked_weights es) ≡ with_behind (standing_weight at) new (linked_weights es)
   put_behind_is at new other there =
-      let w : SymbolicWeight = weight_of at in
+      let w : SymbolicWeight = standing_weight at in
       let is : stop_at w ≡ at = weight_back at other in
-      let here : stands (stop_at w) (order_of es) ≡ true = ap (λ q. stands q (order_of es)) is ∙ there in
+      let here : stands (stop_at w) (linked_weights es) ≡ true = ap (λ q. stands q (linked_weights es)) is ∙ there in
       let back : prev_in es (next_in es (stop_at w)) ≡ stop_at w =
-      prev_of_next_at (next_in es) (prev_in es) End w (order_of es) c.linked here in
-      ap (λ q. in_front (next_in es q) new (order_of es)) (sym is)
-      ∙ behind_in_front (next_in es) (prev_in es) End w new (order_of es) c.linked c.apart back (not_end w) here
+      prev_of_next_at (next_in es) (prev_in es) End w (linked_weights es) c.linked here in
+      ap (λ q. in_front (next_in es q) new (linked_weights es)) (sym is)
+      ∙ behind_in_front (next_in es) (prev_in es) End w new (linked_weights es) c.linked c.apart back (not_end w) here
 
-  pub next_is_there : (at : Stop) → is_stop at End ≡ false → stands at (order_of es) ≡ true → stands (next_in es at) (order_of es) ≡ true
+  pub next_is_there : (at : Stop) → is_stop at End ≡ false → stands at (linked_weights es) ≡ true → stands (next_in es at) (linked_weights es) ≡ true
   next_is_there at other there =
-      let w : SymbolicWeight = weight_of at in
+      let w : SymbolicWeight = standing_weight at in
       let is : stop_at w ≡ at = weight_back at other in
-      subst (λ q. stands (next_in es q) (order_of es) ≡ true) is
-      (next_stands (next_in es) (prev_in es) End w (order_of es) c.linked (ap (λ q. stands q (order_of es)) is ∙ there))
+      subst (λ q. stands (next_in es q) (linked_weights es) ≡ true) is
+      (next_stands (next_in es) (prev_in es) End w (linked_weights es) c.linked (ap (λ q. stands q (linked_weights es)) is ∙ there))
 
-  pub prev_is_linked : (s : Stop) → stands s (order_of es) ≡ true → is_linked es (prev_in es s) ≡ true
+  pub prev_is_linked : (s : Stop) → stands s (linked_weights es) ≡ true → is_linked es (prev_in es s) ≡ true
   prev_is_linked s there =
-      c.known (prev_in es s) ∙ prev_stands (next_in es) (prev_in es) s (order_of es) c.linked there
+      c.known (prev_in es s) ∙ prev_stands (next_in es) (prev_in es) s (linked_weights es) c.linked there
 
 pub none_behind : (n : ℕ) (xs : List SymbolicWeight) → stands (Rooted n) xs ≡ false
     → weights.Rooted n ≡ last_weight (weights.Rooted n) (take_while has_tailored_weight (put_behind (weights.Rooted n) xs))
@@ -265,13 +265,13 @@ not_none (Some l) e f = cc
 
 module _ (m : BTreeMap Stop Links) (c : IsChain m.entries) (n : ℕ) (r : List (Stop × Links))
     (in_range : IsRangeOf stop_order (Excluded (Rooted n)) Unbounded m r) where
-  pub above_none_found : r ≡ [] → End ≡ rooted_above n (order_of m.entries)
-  above_none_found is = above_none n (order_of m.entries) (λ u there more.
+  pub above_none_found : r ≡ [] → End ≡ rooted_above n (linked_weights m.entries)
+  above_none_found is = above_none n (linked_weights m.entries) (λ u there more.
       not_none (links_at m.entries (Rooted u)) (c.known (Rooted u) ∙ there)
       (in_range.5 is (Rooted u) (less_cmp n u more, tt)))
 
   pub above_first_found : (s : Stop) (l : Links) (rest : List (Stop × Links)) → r ≡ (s, l) ∷ rest
-      → rooted_or_end s ≡ rooted_above n (order_of m.entries)
+      → rooted_or_end s ≡ rooted_above n (linked_weights m.entries)
   above_first_found s l rest is =
       by_stop s
       (subst (λ (es : List (Stop × Links)). IfSome (slice_get es 0) (IsEntryInRange stop_order (Excluded (Rooted n)) Unbounded m)) is in_range.1)
@@ -279,20 +279,20 @@ module _ (m : BTreeMap Stop Links) (c : IsChain m.entries) (n : ℕ) (r : List (
     where
       by_stop : (t : Stop) → IsEntryInRange stop_order (Excluded (Rooted n)) Unbounded m (t, l)
           → ((q : Stop) → IsInRange stop_order (Excluded (Rooted n)) Unbounded q → IsSome (links_at m.entries q) → IsLeBy stop_order t q)
-          → rooted_or_end t ≡ rooted_above n (order_of m.entries)
+          → rooted_or_end t ≡ rooted_above n (linked_weights m.entries)
       by_stop End first least = cc first.0.0
       by_stop (Rooted v) first least =
-          above_found n v (order_of m.entries) c.ascends (sym (c.known (Rooted v)) ∙ ap (λ o. is_some o) first.1)
+          above_found n v (linked_weights m.entries) c.ascends (sym (c.known (Rooted v)) ∙ ap (λ o. is_some o) first.1)
           (less_than n v first.0.0)
           (λ u there more. at_most v u (least (Rooted u) (less_cmp n u more, tt)
           (c.known (Rooted u) ∙ there)))
-      by_stop (Tailored k) first least = above_none n (order_of m.entries) (λ u there more.
+      by_stop (Tailored k) first least = above_none n (linked_weights m.entries) (λ u there more.
           cc (least (Rooted u) (less_cmp n u more, tt) (c.known (Rooted u) ∙ there)))
 
 -- ---- a weight behind all others
 
 pub may_push_rooted : (n : ℕ) (xs : List SymbolicWeight) (b : Bool) → b ≡ is_stop (rooted_above n xs) End → stands (Rooted n) xs ≡ false
-    → Ascends xs → OnTrue b ((stands (Rooted n) xs ≡ false) × Ascends (in_front End (weights.Rooted n) xs))
+    → RootedAscend xs → OnTrue b ((stands (Rooted n) xs ≡ false) × RootedAscend (in_front End (weights.Rooted n) xs))
 may_push_rooted n xs false e fresh s = tt
 may_push_rooted n xs true e fresh s = (fresh, ascends_behind_all n xs fresh s (same_stop (rooted_above n xs) End (sym e)))
 
