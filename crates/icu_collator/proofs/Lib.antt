@@ -3,6 +3,7 @@ pub mod LevelLemmas
 pub mod OrdersInTurn
 pub mod SegmentLemmas
 pub mod InStepLemmas
+mod KeyCharacterLemmas
 mod FirstPrimaryLemmas
 mod TieLemmas
 pub mod OtherSettings

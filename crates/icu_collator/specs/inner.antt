@@ -6,3 +6,4 @@ pub mod FirstPrimaries
 pub mod InStep
 pub mod FactsInStep
 pub mod KeyElements
+pub mod KeyCharacters

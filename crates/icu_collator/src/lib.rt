@@ -17,6 +17,7 @@ mod forward_levels;
 pub mod handled;
 mod identical_level;
 mod in_step;
+mod key_characters;
 mod key_text;
 mod rests;
 mod segments;

@@ -13,7 +13,8 @@ ghost use Rattle.icu_weighting.specs.HandledSources.{HasCase};
 ghost use Rattle.unicode_normalization.specs.Forms.{nfd};
 
 use crate::collator::CollatorBorrowed;
-use crate::texts::{decomposed, str_text};
+use crate::key_characters::decomposed;
+use crate::texts::str_text;
 use icu_decomposed_text::CountedText;
 use icu_encodings::{EncodedText, Utf8Text, Utf16Text};
 use icu_keys::{CollationKeySink, SortKeyError};

@@ -1,0 +1,10 @@
+use Rattle.std.specs.Prelude.{◌≡◌, ◌++◌, length}
+use Rattle.unicode_normalization.specs.Forms.{nfd}
+use Rattle.icu_collator.proofs.key_characters.push_decomposed.Given as goal
+
+-- what is in the list and what is left are the whole
+abbrev pub invariant-chars : goal.invariant-chars
+invariant-chars g l = l.list.items ++ l.left ≡ l.fn.list.items ++ nfd (g.T.EncodedText.text l.fn.text)
+
+abbrev pub decreases-chars : goal.decreases-chars
+decreases-chars g l = length l.left
