@@ -20,6 +20,8 @@ use Rattle.icu_matches.specs.MatchesAhead.{are_decided}
 use Rattle.icu_matches.proofs.ChoiceLemmas.{either, digit_by}
 use Rattle.icu_matches.proofs.ReadAheadLemmas.{longest_from-decided, match_of-contraction}
 use Rattle.icu_elements.specs.TextElements.{Reading, Step, entry_step, matched_step, step, consumed, last_two, elements_after}
+use Rattle.icu_elements.specs.inner.StepsTaken.{NoneBeginsWith}
+use Rattle.icu_elements.proofs.MappingHeadLemmas.{none_by_head, decided_by_head}
 use Rattle.icu_elements.proofs.StepLemmas.{elements_after_cons, elements_after_nil}
 use Rattle.icu_boundaries.specs.Alone.{context_after, stays_first, all_stay}
 use Rattle.icu_boundaries.proofs.NfdLemmas.{nfd-starters, nfd-nil, nfd-begins, nfd-stay, stays_first-rises}
@@ -81,6 +83,10 @@ none_of_nothing (mapping ∷ mappings) d h =
       | inl is ↦ absurd (still_some mapping mappings (d ∷ []) (rw (begins_too mapping.chars d is) at h))
       | inr other ↦ rw other (none_of_nothing mappings d (others mapping mappings d h))
     ]
+
+-- where no mapping begins with a character, nothing that follows decides otherwise
+pub apart_none : (context : Context) (d : ℕ) → NoneBeginsWith context.mappings d → BeginsNone context d
+apart_none context d h = record { none = none_by_head context.mappings d [] h; decided = decided_by_head context.mappings d [] h }
 
 -- ---- the match
 

@@ -10,6 +10,7 @@ ghost use Rattle.icu_entries.specs.Elements.{Element};
 ghost use Rattle.icu_cursor.specs.Cursors.{cursor_reading};
 ghost use Rattle.icu_cursor.specs.inner.Standing.{StandsBefore};
 ghost use Rattle.icu_elements.specs.TextElements.{Reading};
+ghost use Rattle.icu_elements.specs.inner.StepsTaken.{FirstIsEarlier, FirstIsLater, NoneBeginsWith};
 ghost use Rattle.icu_cursor.specs.inner.Unjoined.{BeginsContractions, BeginsNone, IsFollower, IsUnjoinedBefore};
 
 use crate::cursor_tables::CursorTables;
@@ -58,8 +59,48 @@ fn mappings_of<'d>(tables: &CursorTables<'d>, c: char) -> Option<FoundContext<'d
     }
 }
 
-/// Whether no mapping of a context begins with a character.
-fn begins_none(context: FoundContext<'_>, d: char) -> bool
+/// Whether characters begin with a later one.
+#[inline(always)]
+fn begins_above(chars: &[char], d: char) -> bool
+    ensures { IsTrue result → FirstIsLater d chars.now }
+{
+    match chars.first().copied() {
+        Some(first) => d < first,
+        None => false,
+    }
+}
+
+/// Whether characters begin with an earlier one.
+#[inline(always)]
+fn begins_below(chars: &[char], d: char) -> bool
+    ensures { IsTrue result → FirstIsEarlier d chars.now }
+{
+    match chars.first().copied() {
+        Some(first) => first < d,
+        None => false,
+    }
+}
+
+/// Whether all mappings of a context begin with later characters than this one, or all with earlier ones. False says
+/// nothing.
+#[inline(always)]
+fn stands_apart(context: FoundContext<'_>, d: char) -> bool
+    requires { IsTrue (has_ascending_mappings (found_context context)) }
+    ensures { IsTrue result → NoneBeginsWith (found_context context.entry).mappings d }
+{
+    let count = context.len();
+    if count == 0 {
+        return true;
+    }
+    if begins_above(context.mapping(0).chars, d) {
+        return true;
+    }
+    begins_below(context.mapping(count - 1).chars, d)
+}
+
+/// Whether no mapping of a context begins with a character, by what a bisection finds.
+#[inline(never)]
+fn finds_none(context: FoundContext<'_>, d: char) -> bool
     requires { IsTrue (has_ascending_mappings (found_context context)) }
     ensures { IsTrue result → BeginsNone (found_context context.entry) d }
 {
@@ -68,6 +109,16 @@ fn begins_none(context: FoundContext<'_>, d: char) -> bool
         Some(_) => false,
         None => !mapping_goes_on(context, &text),
     }
+}
+
+/// Whether no mapping of a context begins with a character. Mostly the first and the last one say so.
+#[inline(always)]
+#[tactic(auto, using(crate::proofs::UnjoinedLemmas::apart_none))]
+fn begins_none(context: FoundContext<'_>, d: char) -> bool
+    requires { IsTrue (has_ascending_mappings (found_context context)) }
+    ensures { IsTrue result → BeginsNone (found_context context.entry) d }
+{
+    stands_apart(context, d) || finds_none(context, d)
 }
 
 /// A character that follows one that begins contractions.
