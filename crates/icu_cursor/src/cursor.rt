@@ -8,7 +8,7 @@ ghost use Rattle.icu_facts.specs.KeptFacts.{IsNumberDigit, IsPair, char_elements
 ghost use Rattle.icu_cursor.specs.Cursors.{cursor_gives, cursor_reading, gives_with, lone_gives};
 ghost use Rattle.icu_cursor.specs.inner.AllReady.{all_ready};
 ghost use Rattle.icu_cursor.specs.inner.Unread.{HasNothingReady, HasReadNothing};
-ghost use Rattle.icu_cursor.specs.inner.Standing.{Serves, StandsAnywhere, StandsBefore};
+ghost use Rattle.icu_cursor.specs.inner.Standing.{KeptServes, Serves, StandsAnywhere, StandsBefore};
 
 use crate::char_elements::CharElements;
 use crate::cursor_tables::CursorTables;
@@ -116,31 +116,42 @@ impl<'c, 'd, T: EncodedText, R: ReadyPlace> ElementCursor<'c, 'd, T, R> {
     }
 
     /// The first element of the next character, which isn't ASCII, where it is read by itself. What most letters take
-    /// stands here, and all else is out of line, so that little is saved and restored for them. Out of line itself, so
-    /// that ASCII is read where it is asked for.
+    /// comes first. Out of line, so that ASCII is read where it is asked for.
     #[inline(never)]
     fn take_other(&mut self) -> Option<CollationElement>
         requires { HasNothingReady R.ready self.old }
         ensures next { gives_with R.ready T.text self.old
             ≡ option_to_list result ++ gives_with R.ready T.text self.new }
     {
-        if self.text.unit_count() == 0 {
-            return None;
-        }
         let (c, rest) = self.text.split_first_char()?;
         let tables = self.tables;
-        match tables.kept(c) {
-            Kept::Facts(facts) if facts.kind == FactsKind::Starters && facts.count == 1 => {
-                self.take_one(c, facts, rest)
+        let kept = tables.kept(c);
+        if let Kept::Facts(facts) = kept {
+            if facts.kind == FactsKind::Starters && facts.count == 1 {
+                return self.take_one(c, facts, rest);
             }
-            Kept::Facts(facts) => self.take_char(c, facts, rest),
+        }
+        self.take_kept(c, kept, rest)
+    }
+
+    /// The first element of a character of which this is kept, where it is read by itself.
+    #[inline(always)]
+    fn take_kept(&mut self, c: char, kept: Kept<'_>, rest: T) -> Option<CollationElement>
+        requires nothing { HasNothingReady R.ready self.old }
+        requires text { T.text self.old.text ≡ c ∷ T.text rest }
+        requires kept { KeptServes (cursor_reading self.old.tables.now) c kept }
+        ensures next { gives_with R.ready T.text self.old
+            ≡ option_to_list result ++ gives_with R.ready T.text self.new }
+    {
+        match kept {
             Kept::Own => self.take_own(c, rest),
+            Kept::Facts(facts) => self.take_char(c, facts, rest),
             Kept::Nothing => self.take_syllable(c, rest),
         }
     }
 
     /// The element of a character that gives the elements of its entry wherever it stands, where that is one.
-    #[inline(never)]
+    #[inline(always)]
     fn take_own(&mut self, c: char, rest: T) -> Option<CollationElement>
         requires nothing { HasNothingReady R.ready self.old }
         requires text { T.text self.old.text ≡ c ∷ T.text rest }
@@ -155,7 +166,7 @@ impl<'c, 'd, T: EncodedText, R: ReadyPlace> ElementCursor<'c, 'd, T, R> {
     }
 
     /// The first element of a character of which this is known, where it is read by itself. The others are kept.
-    #[inline(never)]
+    #[inline(always)]
     fn take_char(&mut self, c: char, facts: &CharFacts, rest: T) -> Option<CollationElement>
         requires nothing { HasNothingReady R.ready self.old }
         requires text { T.text self.old.text ≡ c ∷ T.text rest }
@@ -232,7 +243,7 @@ impl<'c, 'd, T: EncodedText, R: ReadyPlace> ElementCursor<'c, 'd, T, R> {
     }
 
     /// The first element of a Hangul syllable, by its jamo. The others are kept.
-    #[inline(never)]
+    #[inline(always)]
     fn take_syllable(&mut self, c: char, rest: T) -> Option<CollationElement>
         requires nothing { HasNothingReady R.ready self.old }
         requires text { T.text self.old.text ≡ c ∷ T.text rest }

@@ -8,7 +8,7 @@ ghost use Rattle.icu_facts.specs.KeptFacts.{IsNumberDigit, IsPair};
 ghost use Rattle.icu_facts.specs.FactsTables.{AreFacts};
 ghost use Rattle.icu_facts.specs.BoundaryTables.{boundary_reading};
 ghost use Rattle.icu_cursor.specs.inner.Places.{MayBeCut};
-ghost use Rattle.icu_cursor.specs.inner.MarkRuns.{IsInRun};
+ghost use Rattle.icu_cursor.specs.inner.MarkRuns.{EndsRuns, IsInRun};
 ghost use Rattle.icu_cursor.specs.inner.Standing.{KeptServes, Serves, StandsBefore};
 
 use crate::{Boundaries, CharFacts, FactsKind, Kept, KeptFacts};
@@ -149,6 +149,18 @@ impl<'d> CursorTables<'d> {
             Kept::Own => true,
             Kept::Facts(facts) => facts.has_boundary_before,
             Kept::Nothing => self.places.has_boundary_before(c),
+        }
+    }
+
+    /// Whether a run of marks ends before a character. False says nothing.
+    #[inline(always)]
+    pub(crate) fn ends_runs(&self, c: char) -> bool
+        ensures { IsTrue result → EndsRuns c }
+    {
+        match self.kept(c) {
+            Kept::Own => true,
+            Kept::Facts(facts) => facts.begins_with_starter,
+            Kept::Nothing => false,
         }
     }
 

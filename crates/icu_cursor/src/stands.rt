@@ -15,20 +15,25 @@ use icu_encodings::EncodedText;
 /// often than this.
 const MARKS_AHEAD: u32 = 6;
 
-/// Whether the classes of the marks that a text begins with rise from this one, and are few. False says nothing. Mostly
-/// there is no mark, or one.
+/// Whether a run of marks ends before a text: it is empty, or begins with a character whose decomposition begins with a
+/// starter. False says nothing.
+#[inline(always)]
+fn ends_run<T: EncodedText>(tables: &CursorTables<'_>, text: T) -> bool
+    ensures { IsTrue result → (class : ℕ) → Rises class (T.text text) }
+{
+    match text.split_first_char() {
+        Some((c, _)) => tables.ends_runs(c),
+        None => true,
+    }
+}
+
+/// Whether the classes of the marks that a text begins with rise from this one, and are few. False says
+/// nothing.
 #[inline(never)]
 fn marks_rise<T: EncodedText>(tables: &CursorTables<'_>, class: u8, text: T) -> bool
     ensures { IsTrue result → Rises class (T.text text) }
 {
-    let Some((c, after)) = text.split_first_char() else {
-        return true;
-    };
-    match tables.class_in_run(c) {
-        Some(0) => true,
-        Some(next) => class <= next && more_marks_rise(tables, next, after),
-        None => false,
-    }
+    ends_run(tables, text) || more_marks_rise(tables, class, text)
 }
 
 /// Whether the classes of the marks that a text begins with rise from this one, and are few. False says
