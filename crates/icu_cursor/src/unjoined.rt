@@ -92,10 +92,12 @@ fn stands_apart(context: FoundContext<'_>, d: char) -> bool
     if count == 0 {
         return true;
     }
-    if begins_above(context.mapping(0).chars, d) {
+    let first = context.mapping(0);
+    if begins_above(first.chars, d) {
         return true;
     }
-    begins_below(context.mapping(count - 1).chars, d)
+    let last = context.mapping(count - 1);
+    begins_below(last.chars, d)
 }
 
 /// Whether no mapping of a context begins with a character, by what a bisection finds.

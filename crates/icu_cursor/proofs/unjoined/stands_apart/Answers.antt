@@ -5,10 +5,10 @@ use Rattle.icu_cursor.proofs.unjoined.stands_apart.Goals as goal
 
 pub returns-then-begins_above : goal.returns-then-begins_above
 returns-then-begins_above c = λ _.
-    none_above (found_context c.args.context).mappings c.args.d (found_mapping c.mapping.result) c.requires c.mapping.ensures (c.begins_above.ensures c.if-begins_above.true)
+    none_above (found_context c.args.context).mappings c.args.d (found_mapping c.mapping-first.result) c.requires c.mapping-first.ensures (c.begins_above.ensures c.if-begins_above.true)
 
 pub returns : goal.returns
 returns c = λ is.
     let mappings = (found_context c.args.context).mappings in
     let some : length mappings ≢ 0 = search rules in
-    none_below_last mappings c.args.d (c.len-count.result - 1) (found_mapping c.mapping-2.result) c.requires some (ap (λ k. k - 1) c.len-count.ensures) c.mapping-2.ensures (c.begins_below.ensures is)
+    none_below_last mappings c.args.d (c.len-count.result - 1) (found_mapping c.mapping-last.result) c.requires some (ap (λ k. k - 1) c.len-count.ensures) c.mapping-last.ensures (c.begins_below.ensures is)
