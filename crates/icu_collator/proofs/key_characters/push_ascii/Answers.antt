@@ -13,7 +13,7 @@ ascii-preserved g c =
     let more : (rest : List ℕ) → text ≡ byte ∷ rest → (c.push.new.list.items ++ nfd rest ≡ list ++ nfd whole) × (length rest ≤ length whole) =
     λ rest first. (
       ap (λ l. l ++ nfd rest) pushed
-      ∙ one_more c.ascii.list.items (byte ∷ []) rest text (list ++ nfd whole) (ap nfd first ∙ ascii_first byte rest c.in-Some.ensures.ascii) c.ascii.invariant.0,
+          ∙ one_more c.ascii.list.items (byte ∷ []) rest text (list ++ nfd whole) (ap nfd first ∙ ascii_first byte rest c.in-Some.ensures.ascii) c.ascii.invariant.0,
       omega (arith, ap length first, c.ascii.invariant.1),
     ) in
     more _ (search rules)
