@@ -115,7 +115,6 @@ fn finds_none(context: FoundContext<'_>, d: char) -> bool
 
 /// Whether no mapping of a context begins with a character. Mostly the first and the last one say so.
 #[inline(always)]
-#[tactic(auto, using(crate::proofs::UnjoinedLemmas::apart_none))]
 fn begins_none(context: FoundContext<'_>, d: char) -> bool
     requires { IsTrue (has_ascending_mappings (found_context context)) }
     ensures { IsTrue result → BeginsNone (found_context context.entry) d }
