@@ -10,7 +10,7 @@ use Rattle.unicode_normalization.proofs.DecomposeLemmas.{decompose-final}
 use Rattle.unicode_normalization.proofs.FormsLemmas.{is_final-Nfd, quick_check-below}
 use Rattle.unicode_normalization.proofs.TableFacts.{class_of_latin}
 use Rattle.icu_boundaries.specs.Alone.{stays_first, all_stay}
-use Rattle.icu_boundaries.proofs.NfdLemmas.{nfd-starters, nfd-stay, stays_first-starter}
+use Rattle.icu_boundaries.proofs.NfdLemmas.{nfd-starters, stays_first-starter}
 use Rattle.icu_collator.specs.inner.KeyCharacters.{EndsMarks}
 
 or_true : (b : Bool) → ((b || true) && true) ≡ true
