@@ -12,3 +12,4 @@ pub mod WordsOnce
 pub mod TokensOnce
 pub mod StatementsOnce
 pub mod SayingsOnce
+pub mod FaultLemmas

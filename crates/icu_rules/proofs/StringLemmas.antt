@@ -2,10 +2,12 @@
 use Rattle.std.proofs.Common.{ℕ, Bool, true, false, not, ◌||◌, ◌≡◌, ◌≢◌, ◌<◌, List, [], ◌∷◌, ◌++◌, length, ap, ◌∙◌, sym, refl, subst, append_assoc, arith}
 use Rattle.std.specs.List.{list_all}
 use Rattle.std.proofs.lemmas.List.{append-nil}
-use Rattle.icu_rules.specs.RuleCharacters.{is_plain, is_reserved, is_blank, IsBlank}
+use Rattle.icu_rules.specs.RuleCharacters.{is_plain, is_reserved}
 use Rattle.icu_rules.specs.RuleStrings.{IsNoQuote, SpellsCharacters, ends, plain, quoted, apostrophe, escaped, opens, closes}
 use Rattle.icu_rules.specs.Tokens.{string}
 use Rattle.icu_rules.specs.TakenText.{TakesEscape, TakesCharacters, Takes}
+use Rattle.icu_rules.proofs.SkipLemmas.{takes_then}
+use Rattle.icu_rules.proofs.BracketLemmas.{take_token}
 
 pub characters_none : {within : Bool} {text : List ℕ} → TakesCharacters within text [] within text
 characters_none more tail after e s = (tail, s, e)
@@ -53,13 +55,9 @@ pub characters_step : {a b c : Bool} {t r q w : List ℕ} (cs new : List ℕ) (d
 characters_step {a} {b} {c} {t} {r} {q} {w} cs new d e first one quote =
     subst (λ k. TakesCharacters a t k c w) (sym e) (characters_then cs (d ∷ []) first (characters_then (d ∷ []) [] one quote))
 
-string_blank : IsBlank []
-unfolding is_blank
-string_blank = refl
-
 pub take_string : {text mid rest : List ℕ} (cs : List ℕ) → Takes text [] mid → TakesCharacters false mid cs false rest → 0 < length cs → list_all (λ c. not (is_reserved c)) cs ≡ true → Takes text (string cs ∷ []) rest
-take_string {text} {mid} {rest} cs blanks taken some allowed more s =
+take_string {text} {mid} {rest} cs blanks taken some allowed =
     let p = taken [] [] rest refl ends in
     let spelled : SpellsCharacters false cs p.0 = subst (λ k. SpellsCharacters false k p.0) (append-nil cs) p.1 in
     let none : cs ≢ [] = λ e. absurd (omega (arith, ap length e)) in
-    blanks (string cs ∷ more) ([], p.0, rest, string_blank, (none, spelled, allowed), s, p.2)
+    takes_then [] (string cs ∷ []) blanks (take_token rest (string cs) p.0 (none, spelled, allowed) p.2)

@@ -19,9 +19,11 @@ SkipsLine text rest =
     × (text ≡ line ++ end ∷ rest))
     ⊎ (IsTrue (list_all (λ c. not (is_line_end c)) text) × (rest ≡ []))
 
--- the text goes on with the tokens and then the rest: whatever tokens the rest spells follow them
+-- The text goes on with the tokens and then with the rest: whatever tokens a beginning of the rest spells follow them,
+-- and what stands behind it is left.
 abbrev pub Takes : List ℕ → List Token → List ℕ → Type 0
-Takes text tokens rest = (more : List Token) → SpellsTokens more rest → SpellsTokens (tokens ++ more) text
+Takes text tokens rest = (more : List Token) (tail after : List ℕ) → rest ≡ tail ++ after → SpellsTokens more tail
+    → (whole : List ℕ) × SpellsTokens (tokens ++ more) whole × (text ≡ whole ++ after)
 
 -- the text is so many digits, which write the character, and the rest
 abbrev pub TakesDigits : List ℕ → ℕ → ℕ → List ℕ → Type 0

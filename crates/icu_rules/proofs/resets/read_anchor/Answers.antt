@@ -1,5 +1,6 @@
 use Rattle.std.proofs.Common.{[], ◌∷◌, refl}
 use Rattle.icu_rules.specs.Tokens.{string}
+use Rattle.icu_rules.proofs.SkipLemmas.{takes_then}
 use Rattle.icu_rules.proofs.StatementLemmas.{take_position}
 use Rattle.icu_rules.proofs.resets.read_anchor.Goals as goal
 
@@ -7,8 +8,8 @@ pub returns-in_default-clause-taken : goal.returns-in_default-clause-taken
 returns-in_default-clause-taken c = (
   string c.in_ok-string.string.items ∷ [],
   refl,
-  λ more s. c.skip_blanks-text.ensures.takes (string c.in_ok-string.string.items ∷ more)
-      (c.in_ok-string.ensures.taken more s),
+  takes_then [] (string c.in_ok-string.string.items ∷ []) c.skip_blanks-text.ensures.takes
+      c.in_ok-string.ensures.taken,
 )
 
 pub returns-in-Position-clause-taken : goal.returns-in-Position-clause-taken

@@ -6,6 +6,7 @@ use Rattle.icu_rules.proofs.strings.read_characters.Given as goal
 abbrev pub invariant-loop-characters : goal.invariant-loop-characters
 invariant-loop-characters l = record {
   taken : TakesCharacters false l.fn.text l.characters.items l.within l.rest;
+  opened : length l.opened ≤ length l.fn.text;
   len : vec_len l.characters + length l.rest ≤ length l.fn.text;
 }
 
