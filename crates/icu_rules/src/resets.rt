@@ -35,7 +35,7 @@ fn level_behind(words: &[&[char]]) -> Option<Said>
 
 /// What words in a bracket behind `&` say.
 fn said_by(words: &[&[char]]) -> Result<Said, RulesErrorKind>
-    ensures { IfOk result (λ said.
+    ensures says { IfOk result (λ said.
         SaysBehindReset said (map (λ word. word.now) words.now)) }
     ensures part { IfErr result (λ kind. sort_of kind ≡ of_part) }
 {

@@ -237,7 +237,7 @@ fn numeric_of(word: &[char]) -> Option<CollationNumericOrdering>
 
 /// The setting of this name and value, if it is one of those that say how elements are weighted.
 fn weighting_setting(name: &[char], value: &[char]) -> Result<Option<RuleSetting>, RulesErrorKind>
-    ensures { IfOk result (λ o. IfSome o (λ s. AreSetting s (setting_tokens name.now value.now))) }
+    ensures says { IfOk result (λ o. IfSome o (λ s. AreSetting s (setting_tokens name.now value.now))) }
     ensures part { IfErr result (λ kind. sort_of kind ≡ of_part) }
 {
     let unknown = RulesErrorKind::UnknownValue;
@@ -263,7 +263,7 @@ fn weighting_setting(name: &[char], value: &[char]) -> Result<Option<RuleSetting
 
 /// The setting of this name and value, if it is one of the others.
 fn other_setting(name: &[char], value: &[char]) -> Result<RuleSetting, RulesErrorKind>
-    ensures { IfOk result (λ s. AreSetting s (setting_tokens name.now value.now)) }
+    ensures says { IfOk result (λ s. AreSetting s (setting_tokens name.now value.now)) }
     ensures part { IfErr result (λ kind. sort_of kind ≡ of_part) }
 {
     let unknown = RulesErrorKind::UnknownValue;
@@ -292,7 +292,7 @@ fn other_setting(name: &[char], value: &[char]) -> Result<RuleSetting, RulesErro
 
 /// The setting of a name and a value.
 pub(crate) fn setting_of(name: &[char], value: &[char]) -> Result<RuleSetting, RulesErrorKind>
-    ensures { IfOk result (λ s. AreSetting s (setting_tokens name.now value.now)) }
+    ensures says { IfOk result (λ s. AreSetting s (setting_tokens name.now value.now)) }
     ensures part { IfErr result (λ kind. sort_of kind ≡ of_part) }
 {
     match weighting_setting(name, value)? {
