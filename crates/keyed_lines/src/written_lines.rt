@@ -28,6 +28,49 @@ fn ended_length(lines: &[&[u8]]) -> usize {
     length
 }
 
+/// So many lines are looked at before they are copied.
+const AHEAD: usize = 64;
+
+/// How many bytes lines have together.
+fn total_length(keyed: &KeyedLines<'_>, places: &[LinePlace]) -> usize {
+    let mut length: usize = 0;
+    for place in places {
+        length = length.wrapping_add(keyed.line(place.index).len());
+    }
+    length
+}
+
+/// The first bytes of lines, by exclusive or.
+fn first_bytes(keyed: &KeyedLines<'_>, places: &[LinePlace]) -> usize {
+    let mut bytes: u8 = 0;
+    for place in places {
+        if let Some(byte) = keyed.line(place.index).first() {
+            bytes ^= *byte;
+        }
+    }
+    bytes as usize
+}
+
+/// Before each batch of lines looks at where they stand, and then at their first bytes. Lines in order are spread over
+/// the memory: reads that don't wait for one another bring many of them near at once. It makes room for a byte, at most,
+/// by what was read, so that it is read indeed; a line to come takes that much.
+fn look_ahead(
+    keyed: &KeyedLines<'_>,
+    places: &[LinePlace],
+    from: usize,
+    text: &mut Vec<u8>,
+) -> Result<(), AllocError>
+    ensures { text.new.items ≡ text.old.items }
+{
+    if from % AHEAD != 0 || from >= places.len() {
+        return Ok(());
+    }
+    let to = from.saturating_add(AHEAD).min(places.len());
+    let batch = &places[from..to];
+    let seen = total_length(keyed, batch) ^ first_bytes(keyed, batch);
+    text.reserve(seen & 1)
+}
+
 /// Each line.
 fn each_line(
     keyed: &KeyedLines<'_>,
@@ -38,8 +81,11 @@ fn each_line(
     ensures { OnOk result (text.new.items ≡ text.old.items
         ++ ended_lines separator (map line_bytes (pairs_at keyed.now places.now))) }
 {
+    let mut count: usize = 0;
     for place in places {
+        look_ahead(keyed, places, count, text)?;
         push_line(text, keyed.line(place.index), separator)?;
+        count = count.wrapping_add(1);
     }
     Ok(())
 }
