@@ -242,25 +242,25 @@ sign_kind strength starred sign after s e =
 
 -- a statement that begins with the sign of a relation that may not stand here may not either
 relation_refused : (chain : Chain) (strength : Strength) (s : Statement) (tokens : List Token) (mine after : List ℕ) (c : ℕ) {text : List ℕ} → strength ≡ strength_at text → (MayRelate chain strength → ⊥) → kind_at c ≡ relates → StartsAs s (kind_at c) → AreStatement s tokens → SpellsTokens tokens mine → text ≡ mine ++ after → IsVisible text → MayFollow chain s → ⊥
-relation_refused chain strength (statements.Reset reset) tokens mine after c l no k h are s e v may = let f = sym h ∙ k in cc
-relation_refused chain strength (statements.Setting setting) tokens mine after c l no k (inl h) are s e v may = let f = sym h ∙ k in cc
-relation_refused chain strength (statements.Setting setting) tokens mine after c l no k (inr h) are s e v may = let f = sym h ∙ k in cc
-relation_refused chain strength (statements.Import tag) tokens mine after c l no k h are s e v may = let f = sym h ∙ k in cc
-relation_refused chain strength (statements.Relation r) tokens mine after c l no k h (context, are) s e v may =
+relation_refused chain strength (statements.Reset reset) tokens mine after c l never k h are s e v may = let f = sym h ∙ k in cc
+relation_refused chain strength (statements.Setting setting) tokens mine after c l never k (inl h) are s e v may = let f = sym h ∙ k in cc
+relation_refused chain strength (statements.Setting setting) tokens mine after c l never k (inr h) are s e v may = let f = sym h ∙ k in cc
+relation_refused chain strength (statements.Import tag) tokens mine after c l never k h are s e v may = let f = sym h ∙ k in cc
+relation_refused chain strength (statements.Relation r) tokens mine after c l never k h (context, are) s e v may =
     let same = sign_strength r.strength false (relation_parts r) mine after
     (some_parts r.prefix.items r.string.items r.extension.items) (subst (λ ts. SpellsTokens ts mine) are s) e v in
-    no (subst (λ i. MayRelate chain i) (same ∙ sym l) may)
-relation_refused chain strength (statements.Starred r) tokens mine after c l no k h (first, more, named, inert, are) s e v may =
+    never (subst (λ i. MayRelate chain i) (same ∙ sym l) may)
+relation_refused chain strength (statements.Starred r) tokens mine after c l never k h (first, more, named, inert, are) s e v may =
     let same = sign_strength r.strength true (string first ∷ dashed_tokens more) mine after tt
     (subst (λ ts. SpellsTokens ts mine) are s) e v in
-    no (subst (λ i. MayRelate chain i) (same ∙ sym l) may)
+    never (subst (λ i. MayRelate chain i) (same ∙ sym l) may)
 
 pub no_relation : (chain : Chain) (strength : Strength) (starred : Bool) (sign behind text : List ℕ) → IsRelationSign strength starred sign → text ≡ sign ++ behind → strength ≡ strength_at text → (MayRelate chain strength → ⊥) → IsVisible text → BeginsStatement chain text → ⊥
-no_relation chain strength starred sign behind text is f l no v s =
+no_relation chain strength starred sign behind text is f l never v s =
     let p = sign_kind strength starred sign behind is f in
     let q = character_of s.statement s.tokens s.mine s.after s.are s.spelled s.whole v in
     let same : p.0 ≡ q.0 = head_same (sym p.3 ∙ q.3) in
-    relation_refused chain strength s.statement s.tokens s.mine s.after q.0 l no (ap kind_at (sym same) ∙ p.2) q.2
+    relation_refused chain strength s.statement s.tokens s.mine s.after q.0 l never (ap kind_at (sym same) ∙ p.2) q.2
     s.are s.spelled s.whole v s.may
 
 -- ---- the fault, with what is left
@@ -321,11 +321,11 @@ within : (front rest text : List ℕ) (left : ℕ) → text ≡ front ++ rest �
 within front rest text left e h = omega (arith, ap length e, length-append front rest, h)
 
 lacks : (items : List Statement) (chain : Chain) (text before rest : List ℕ) (left : ℕ) → chain_behind chains.Outside items ≡ chain → Lasts items text before → left ≡ length before → (IsComplete chain → ⊥) → BeginsNoSign rest → LacksRelation (length text - left) items text rest
-lacks items chain text before rest left same (inl none) l no sign =
+lacks items chain text before rest left same (inl none) l never sign =
     let out : chains.Outside ≡ chain = ap (λ ss. chain_behind chains.Outside ss) (sym none) ∙ same in
-    absurd (no (subst IsComplete out tt))
-lacks items chain text before rest left same (inr last) l no sign = record {
-  incomplete = λ h. no (subst IsComplete same h);
+    absurd (never (subst IsComplete out tt))
+lacks items chain text before rest left same (inr last) l never sign = record {
+  incomplete = λ h. never (subst IsComplete same h);
   no_sign = sign;
   earlier = last.earlier;
   last = last.last;
@@ -340,10 +340,10 @@ lacks items chain text before rest left same (inr last) l no sign = record {
 
 -- the fault by its sort
 fault_of : (sort : FaultSort) (left : ℕ) (items : List Statement) (chain : Chain) (text before rest : List ℕ) (p : Front items text rest) → chain_behind chains.Outside items ≡ chain → Lasts items text before → IsLeft sort chain (length before) rest left → IsFault sort (length text - left) items text p.front rest
-fault_of misplaced left items chain text before rest p same last (l, no) =
-    (fronts p.front rest text left p.whole l, λ b. no (subst (λ k. BeginsStatement k rest) same b))
-fault_of lacks_relation left items chain text before rest p same last (l, no, sign) =
-    lacks items chain text before rest left same last l no sign
+fault_of misplaced left items chain text before rest p same last (l, never) =
+    (fronts p.front rest text left p.whole l, λ b. never (subst (λ k. BeginsStatement k rest) same b))
+fault_of lacks_relation left items chain text before rest p same last (l, never, sign) =
+    lacks items chain text before rest left same last l never sign
 fault_of of_part left items chain text before rest p same last l = within p.front rest text left p.whole l
 
 -- the fault behind the statements that are read
@@ -393,9 +393,9 @@ err_map (Ok x) P Q f h = tt
 err_map (Err x) P Q f h = f x h
 
 pub refused_left : (kind : RulesErrorKind) (chain : Chain) (before : ℕ) (text behind : List ℕ) (sign : Sign) → sort_of kind ≡ misplaced → TakesSign text sign behind → sign.strength ≡ strength_at text → (MayRelate chain sign.strength → ⊥) → IsVisible text → IsFaultHere (Refused (length text) kind) chain before text
-refused_left kind chain before text behind sign h (mine, is, e) l no v =
+refused_left kind chain before text behind sign h (mine, is, e) l never v =
     subst (λ s. IsLeft s chain before text (length text)) (sym h)
-    (refl, no_relation chain sign.strength sign.is_starred mine behind text is e l no v)
+    (refl, no_relation chain sign.strength sign.is_starred mine behind text is e l never v)
 
 pub placed_fault : (e : UnplacedError) (text : List ℕ) (count : ℕ) → count ≡ length text → IsFaultIn e text → IsPlacedFault (in_text e count) text
 placed_fault NoMemory text count h f = tt
