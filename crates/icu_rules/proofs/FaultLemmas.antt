@@ -10,7 +10,6 @@ use Rattle.icu_options.specs.declared.settings.Strength.TheVariants.{Primary, Se
 use Rattle.icu_rules.specs.declared.chain.Chain.{Chain}
 use Rattle.icu_rules.specs.declared.chain.Chain.TheVariants as chains
 use Rattle.icu_rules.specs.declared.rules_error.RulesErrorKind.{RulesErrorKind}
-use Rattle.icu_rules.specs.declared.rules_error.RulesErrorKind.TheVariants as kinds
 use Rattle.icu_rules.specs.declared.relations.Sign.{Sign}
 use Rattle.icu_rules.specs.declared.unplaced_error.UnplacedError.{UnplacedError}
 use Rattle.icu_rules.specs.declared.unplaced_error.UnplacedError.TheVariants.{NoMemory, Refused}
@@ -18,9 +17,8 @@ use Rattle.icu_rules.specs.declared.statement.RuleSetting.{RuleSetting}
 use Rattle.icu_rules.specs.declared.statement.RuleSetting.TheVariants as settings
 use Rattle.icu_rules.specs.declared.statement.Statement.{Statement}
 use Rattle.icu_rules.specs.declared.statement.Statement.TheVariants as statements
-use Rattle.icu_rules.specs.RuleCharacters.{is_white, BeginsNoBlank}
+use Rattle.icu_rules.specs.RuleCharacters.{BeginsNoBlank}
 use Rattle.icu_rules.specs.Tokens.{Token, reset_sign, relation_sign, vowel_sign, string, bracket, set_bracket, IsRelationSign, SpellsTokens, angles_before, level_of_angles, strength_at}
-use Rattle.icu_rules.specs.RuleWords.{level_word, case_level_word, case_first_word, numeric_word, max_variable_word, switch_word}
 use Rattle.icu_rules.specs.Statements.{AreStatement, AreSetting, AreStatements, MayRelate, MayFollow, IsComplete, chain_after, relation_parts, prefix_tokens, extension_tokens, dashed_tokens}
 use Rattle.icu_rules.specs.RulePlaces.{FaultSort, IsFault, misplaced, lacks_relation, of_part, sort_of, AreInLine, chain_behind, AreRead, BeginsStatement, BeginsNoSign, IsAtFault, LacksRelation, IsPlacedFault}
 use Rattle.icu_rules.specs.TakenStatements.{TakesSign}

@@ -1,4 +1,4 @@
-use Rattle.std.proofs.Common.{rules, arith, nat_eq, ◌≡◌, false, [], ◌≤◌}
+use Rattle.std.proofs.Common.{rules, arith, nat_eq, ◌≡◌, false, []}
 use Rattle.std.proofs.lemmas.Bool.Decides.{nat_tests}
 use Rattle.icu_rules.proofs.SkipLemmas.{takes_nothing, takes_then, takes_white, takes_comment}
 use Rattle.icu_rules.proofs.blanks.skip_blanks.Goals as goal
