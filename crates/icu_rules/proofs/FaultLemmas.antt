@@ -20,9 +20,9 @@ use Rattle.icu_rules.specs.declared.statement.Statement.TheVariants as statement
 use Rattle.icu_rules.specs.RuleCharacters.{BeginsNoBlank}
 use Rattle.icu_rules.specs.Tokens.{Token, reset_sign, relation_sign, vowel_sign, string, bracket, set_bracket, IsRelationSign, SpellsTokens, angles_before, level_of_angles, strength_at}
 use Rattle.icu_rules.specs.Statements.{AreStatement, AreSetting, AreStatements, MayRelate, MayFollow, IsComplete, chain_after, relation_parts, prefix_tokens, extension_tokens, dashed_tokens}
-use Rattle.icu_rules.specs.RulePlaces.{FaultSort, IsFault, misplaced, lacks_relation, of_part, sort_of, AreInLine, chain_behind, AreRead, BeginsStatement, BeginsNoSign, IsAtFault, LacksRelation, IsPlacedFault}
+use Rattle.icu_rules.specs.RulePlaces.{FaultSort, IsFault, misplaced, lacks_relation, of_part, sort_of, BeginOne, IsWithin, AreInLine, chain_behind, AreRead, BeginsStatement, BeginsNoSign, IsAtFault, LacksRelation, IsPlacedFault}
 use Rattle.icu_rules.specs.TakenStatements.{TakesSign}
-use Rattle.icu_rules.specs.TakenFaults.{IsPartAt, BeginsNoOther, IsOther, IsLeft, IsFaultHere, IsFaultIn, in_text}
+use Rattle.icu_rules.specs.TakenFaults.{IsPart, IsBehind, BeginsNoOther, IsOther, IsLeft, IsFaultHere, IsFaultIn, in_text}
 use Rattle.icu_rules.proofs.SkipLemmas.{nil_parts, token_nonempty}
 use Rattle.icu_rules.proofs.StringOnce.{not_both, head_same}
 use Rattle.icu_rules.proofs.WordsOnce.{StopsAt}
@@ -263,7 +263,7 @@ no_relation chain strength starred sign behind text is f l never v s =
 
 -- ---- the fault, with what is left
 
-pub part_left : (e : UnplacedError) (chain : Chain) (before : ℕ) (text : List ℕ) → IsPartAt e (length text) → IsFaultHere e chain before text
+pub part_left : (e : UnplacedError) (chain : Chain) (before : ℕ) (text : List ℕ) → IsPart BeginOne e text → IsFaultHere e chain before text
 part_left NoMemory chain before text p = tt
 part_left (Refused left kind) chain before text p = subst (λ s. IsLeft s chain before text left) (sym p.1) p.0
 
@@ -315,8 +315,29 @@ Lasts items text before = (items ≡ []) ⊎ LastAt items text before
 fronts : (front rest text : List ℕ) (left : ℕ) → text ≡ front ++ rest → left ≡ length rest → length text - left ≡ length front
 fronts front rest text left e h = omega (arith, ap length e, length-append front rest, h)
 
-within : (front rest text : List ℕ) (left : ℕ) → text ≡ front ++ rest → left ≤ length rest → length front ≤ length text - left
-within front rest text left e h = omega (arith, ap length e, length-append front rest, h)
+-- how far behind the front a part is at fault
+parted : (front rest text mine start part after : List ℕ) (left : ℕ) → text ≡ front ++ rest → rest ≡ mine ++ start → start ≡ part ++ after → left ≡ length after → length text - left ≡ length front + (length mine + length part)
+parted front rest text mine start part after left e f g h =
+    omega (arith, ap length e, length-append front rest, ap length f, length-append mine start, ap length g, length-append part after, h)
+
+within : (front rest text : List ℕ) (left : ℕ) → text ≡ front ++ rest → IsBehind BeginOne left rest → (count : ℕ) × (length text - left ≡ length front + count) × IsWithin count rest
+within front rest text left e l =
+    let p = l.taken [] [] l.start refl nothing_left in
+    let spelled : SpellsTokens l.tokens p.0 = subst (λ ts. SpellsTokens ts p.0) (append-nil l.tokens) p.1 in (
+      length p.0 + length l.part,
+      parted front rest text p.0 l.start l.part l.rest left e p.2 l.whole l.placed,
+      record {
+        tokens = l.tokens;
+        begin = l.allowed;
+        mine = p.0;
+        spelled = spelled;
+        part = l.part;
+        begins = l.begins;
+        rest = l.rest;
+        whole = p.2 ∙ ap (λ t. p.0 ++ t) l.whole ∙ sym (append_assoc p.0 l.part l.rest);
+        placed = refl;
+      },
+    )
 
 lacks : (items : List Statement) (chain : Chain) (text before rest : List ℕ) (left : ℕ) → chain_behind chains.Outside items ≡ chain → Lasts items text before → left ≡ length before → (IsComplete chain → ⊥) → BeginsNoSign rest → LacksRelation (length text - left) items text rest
 lacks items chain text before rest left same (inl none) l never sign =
@@ -382,9 +403,6 @@ last_next items new s {text} {rest} e told line visible = inr (record {
 pub handed_on : {T : Type 0} (r : Result T UnplacedError) (e : UnplacedError) (P : UnplacedError → Type 0) → IsErrAnd r (λ x. x ≡ e) → P e → IfErr r P
 handed_on (Ok x) e P is p = tt
 handed_on (Err x) e P is p = subst P (sym is) p
-
-pub part_handed_on : {T : Type 0} (r : Result T UnplacedError) (e : UnplacedError) (least most : ℕ) → IsErrAnd r (λ x. x ≡ e) → IsPartAt e least → least ≤ most → IfErr r (λ x. IsPartAt x most)
-part_handed_on r e least most is p h = handed_on r e (λ x. IsPartAt x most) is (omega (arith, p.0, h), p.1)
 
 pub err_map : {T : Type 0} (r : Result T UnplacedError) (P Q : UnplacedError → Type 0) → ((e : UnplacedError) → P e → Q e) → IfErr r P → IfErr r Q
 err_map (Ok x) P Q f h = tt

@@ -1,5 +1,6 @@
 -- Where rules are at fault, and what is wrong there.
-use Rattle.std.specs.Prelude.{ℕ, ◌≤◌, ◌≡◌, ◌≢◌, List, [], ◌∷◌, ◌++◌, length, None}
+use Rattle.std.specs.Prelude.{ℕ, false, ◌+◌, ◌≤◌, ◌≡◌, ◌≢◌, ◌⊎◌, List, [], ◌∷◌, ◌++◌, length, None, codes}
+use Rattle.std.specs.List.{AllByRecursion}
 use Rattle.icu_rules.specs.declared.rules_error.RulesError.{RulesError}
 use Rattle.icu_rules.specs.declared.rules_error.RulesError.TheVariants.{NoMemory, Refused}
 use Rattle.icu_rules.specs.declared.rules_error.RulesErrorKind.{RulesErrorKind}
@@ -8,7 +9,8 @@ use Rattle.icu_rules.specs.declared.chain.Chain.{Chain}
 use Rattle.icu_rules.specs.declared.chain.Chain.TheVariants as chains
 use Rattle.icu_rules.specs.declared.statement.Statement.{Statement}
 use Rattle.icu_rules.specs.RuleCharacters.{BeginsNoBlank}
-use Rattle.icu_rules.specs.Tokens.{Token, SpellsTokens}
+use Rattle.icu_rules.specs.RuleStrings.{SpellsCharacters}
+use Rattle.icu_rules.specs.Tokens.{Token, reset_sign, relation_sign, prefix_sign, extension_sign, range_sign, string, bracket, SpellsWords, SpellsTokens}
 use Rattle.icu_rules.specs.Statements.{AreStatement, AreStatements, MayFollow, IsComplete, chain_after}
 
 -- what is wrong, by where its place is
@@ -81,13 +83,53 @@ pub record LacksRelation (place : ℕ) (stated : List Statement) (text rest : Li
   pub whole : text ≡ front ++ behind
   pub visible : BeginsNoBlank behind
 
+-- a token that begins no statement
+abbrev pub IsInner : Token → Type 0
+IsInner prefix_sign = Unit {0}
+IsInner extension_sign = Unit {0}
+IsInner range_sign = Unit {0}
+IsInner (string cs) = Unit {0}
+IsInner token = ⊥
+
+-- nothing, or [before n]
+abbrev pub IsBefore : List Token → Type 0
+IsBefore tokens = (tokens ≡ []) ⊎ ((word : List ℕ) × (tokens ≡ bracket (codes "before" ∷ word ∷ []) ∷ []))
+
+-- What may stand in one statement before its fault: nothing; the sign of a relation and what begins no statement; or `&`
+-- and what may stand between that and the string or the position.
+abbrev pub BeginOne : List Token → Type 0
+BeginOne [] = Unit {0}
+BeginOne (relation_sign strength starred ∷ more) = AllByRecursion IsInner more
+BeginOne (reset_sign ∷ more) = IsBefore more
+BeginOne (token ∷ more) = ⊥
+
+-- the beginning of a string, or of a bracket, with its first words; that of a string may be nothing
+abbrev pub BeginsToken : List ℕ → Type 0
+BeginsToken part = ((cs rest : List ℕ) × SpellsCharacters false cs (part ++ rest))
+    ⊎ ((words : List (List ℕ)) × (inside : List ℕ) × SpellsWords words inside × (part ≡ 91 ∷ inside))
+
+-- Behind so many characters of a text the statement that it begins with hasn't ended: they are tokens of one statement,
+-- and perhaps the beginning of a string or a bracket.
+pub record IsWithin (count : ℕ) (text : List ℕ) : Type 0 where
+  pub tokens : List Token
+  pub begin : BeginOne tokens
+  pub mine : List ℕ
+  pub spelled : SpellsTokens tokens mine
+  pub part : List ℕ
+  pub begins : BeginsToken part
+  pub rest : List ℕ
+  pub whole : text ≡ mine ++ part ++ rest
+  pub placed : count ≡ length mine + length part
+
 -- What is wrong at a place of a text, which begins with statements that are read and with the rest: nothing that may
--- stand there begins there; or the last statement lacks its relation; or the fault is in the rest.
+-- stand there begins there; or the last statement lacks its relation; or the fault is within the statement that begins
+-- there.
 abbrev pub IsFault : FaultSort → ℕ → List Statement → List ℕ → List ℕ → List ℕ → Type 0
 IsFault misplaced place stated text front rest =
     (place ≡ length front) × (BeginsStatement (chain_behind chains.Outside stated) rest → ⊥)
 IsFault lacks_relation place stated text front rest = LacksRelation place stated text rest
-IsFault of_part place stated text front rest = length front ≤ place
+IsFault of_part place stated text front rest =
+    (count : ℕ) × (place ≡ length front + count) × IsWithin count rest
 
 -- The fault of this reason is at this place of the text: behind the statements that a beginning of it spells, and the
 -- blanks that follow them.

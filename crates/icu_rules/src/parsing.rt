@@ -1,10 +1,10 @@
 //! Rules, read.
 ghost use Rattle.std.specs.Prelude.{◌≡◌, ◌<◌, ◌≤◌, ◌∷◌, true, false, length, map, chars, IfOk, IfErr};
 ghost use Rattle.icu_rules.specs.Statements.{MayFollow, SpellStatements};
-ghost use Rattle.icu_rules.specs.RulePlaces.{IsPlaced, IsPlacedFault};
+ghost use Rattle.icu_rules.specs.RulePlaces.{BeginOne, IsPlaced, IsPlacedFault};
 ghost use Rattle.icu_rules.specs.RuleCharacters.{BeginsNoBlank};
 ghost use Rattle.icu_rules.specs.TakenStatements.{TakesSign, TakesStatement, IsUnrelated, Relates};
-ghost use Rattle.icu_rules.specs.TakenFaults.{IsPartAt, IsOther, IsFaultHere, IsFaultIn};
+ghost use Rattle.icu_rules.specs.TakenFaults.{IsPart, IsOther, IsFaultHere, IsFaultIn};
 
 use crate::blanks::skip_blanks;
 use crate::bracketed::read_bracketed;
@@ -33,7 +33,7 @@ fn read_starred_statement<'t>(
     ensures len { IfOk result (λ r. length r.1.now ≤ length after.now) }
     ensures relates { IfOk result (λ r. Relates sign.strength r.0) }
     ensures taken { IfOk result (λ r. TakesStatement text.now r.0 r.1.now) }
-    ensures fault { IfErr result (λ e. IsPartAt e (length text.now)) }
+    ensures fault { IfErr result (λ e. IsPart BeginOne e text.now) }
 {
     let (relation, rest) = read_starred(alloc, allowance, text, sign.strength, after)?;
     Ok((Statement::Starred(relation), rest))
@@ -52,7 +52,7 @@ fn read_relation_statement<'t>(
     ensures len { IfOk result (λ r. length r.1.now ≤ length after.now) }
     ensures relates { IfOk result (λ r. Relates sign.strength r.0) }
     ensures taken { IfOk result (λ r. TakesStatement text.now r.0 r.1.now) }
-    ensures fault { IfErr result (λ e. IsPartAt e (length text.now)) }
+    ensures fault { IfErr result (λ e. IsPart BeginOne e text.now) }
 {
     let (relation, rest) = read_relation(alloc, text, sign.strength, after)?;
     Ok((Statement::Relation(relation), rest))
@@ -71,7 +71,7 @@ fn read_related<'t>(
     ensures len { IfOk result (λ r. length r.1.now ≤ length after.now) }
     ensures relates { IfOk result (λ r. Relates sign.strength r.0) }
     ensures taken { IfOk result (λ r. TakesStatement text.now r.0 r.1.now) }
-    ensures fault { IfErr result (λ e. IsPartAt e (length text.now)) }
+    ensures fault { IfErr result (λ e. IsPart BeginOne e text.now) }
 {
     if sign.is_starred {
         read_starred_statement(alloc, allowance, text, sign, after)
@@ -90,7 +90,7 @@ fn read_reset_statement<'t>(
     ensures len { IfOk result (λ r. length r.1.now ≤ length after.now) }
     ensures unrelated { IfOk result (λ r. IsUnrelated r.0) }
     ensures taken { IfOk result (λ r. TakesStatement text.now r.0 r.1.now) }
-    ensures fault { IfErr result (λ e. IsPartAt e (length text.now)) }
+    ensures fault { IfErr result (λ e. IsPart BeginOne e text.now) }
 {
     let (reset, rest) = read_reset(alloc, after)?;
     Ok((Statement::Reset(reset), rest))

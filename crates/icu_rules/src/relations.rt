@@ -5,7 +5,7 @@ ghost use Rattle.icu_rules.specs.RulePlaces.{BeginsNoSign};
 ghost use Rattle.icu_rules.specs.Statements.{prefix_tokens, extension_tokens, relation_parts, BeginsWithClassZero, HasFindableContext};
 ghost use Rattle.icu_rules.specs.TakenText.{Takes};
 ghost use Rattle.icu_rules.specs.TakenStatements.{StarBehind, TakesSign};
-ghost use Rattle.icu_rules.specs.TakenFaults.{IsPartAt};
+ghost use Rattle.icu_rules.specs.TakenFaults.{AreInner, IsPart, IsSigned};
 
 use crate::blanks::skip_blanks;
 use crate::first::{behind, split_first};
@@ -96,7 +96,7 @@ fn read_context(
     ensures len { IfOk result (λ r. length r.2.now ≤ length text.now) }
     ensures taken { IfOk result (λ r.
         Takes text.now (prefix_tokens r.0.items ++ string r.1.items ∷ []) r.2.now) }
-    ensures fault { IfErr result (λ e. IsPartAt e (length text.now)) }
+    ensures fault { IfErr result (λ e. IsPart AreInner e text.now) }
 {
     let (first, rest) = read_string(alloc, text, RulesErrorKind::RelationWithoutString)?;
     match behind(skip_blanks(rest), '|') {
@@ -112,7 +112,7 @@ fn read_context(
 fn read_extension(alloc: Global, text: &[char]) -> Result<(Vec<char>, &[char]), UnplacedError>
     ensures len { IfOk result (λ r. length r.1.now ≤ length text.now) }
     ensures taken { IfOk result (λ r. Takes text.now (extension_tokens r.0.items) r.1.now) }
-    ensures fault { IfErr result (λ e. IsPartAt e (length text.now)) }
+    ensures fault { IfErr result (λ e. IsPart AreInner e text.now) }
 {
     match behind(skip_blanks(text), '/') {
         Some(after) => {
@@ -152,7 +152,7 @@ pub(crate) fn read_relation<'t>(
     ensures strength { IfOk result (λ r. r.0.strength ≡ strength) }
     ensures context { IfOk result (λ r. HasFindableContext r.0.prefix.items r.0.string.items) }
     ensures taken { IfOk result (λ r. Takes text.now (relation_parts r.0) r.1.now) }
-    ensures fault { IfErr result (λ e. IsPartAt e (length sign.now)) }
+    ensures fault { IfErr result (λ e. IsSigned e sign.now text.now) }
 {
     let (prefix, string, rest) = read_context(alloc, text)?;
     let (extension, rest) = read_extension(alloc, rest)?;

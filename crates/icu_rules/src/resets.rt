@@ -1,8 +1,8 @@
 //! Resets.
 ghost use Rattle.std.specs.Prelude.{◌≡◌, ◌≤◌, [], ◌∷◌, length, map, codes, IfOk, IfErr, IfSome};
 ghost use Rattle.icu_rules.specs.TakenStatements.{SaysBehindReset, TakesSaid, TakesAnchor, TakesReset};
-ghost use Rattle.icu_rules.specs.TakenFaults.{IsPartAt};
-ghost use Rattle.icu_rules.specs.RulePlaces.{sort_of, of_part};
+ghost use Rattle.icu_rules.specs.TakenFaults.{IsInBracket, IsFirst, IsPart};
+ghost use Rattle.icu_rules.specs.RulePlaces.{sort_of, of_part, IsBefore};
 
 use crate::blanks::skip_blanks;
 use crate::brackets::{Bracket, is_word, only_word, read_bracket, split_words};
@@ -59,7 +59,7 @@ fn read_said<'t>(
     requires opened { text.now ≡ 91 ∷ inside.now }
     ensures len { IfOk result (λ r. length r.1.now ≤ length inside.now) }
     ensures taken { IfOk result (λ r. TakesSaid text.now r.0 r.1.now) }
-    ensures fault { IfErr result (λ e. IsPartAt e (length text.now)) }
+    ensures fault { IfErr result (λ e. IsInBracket e text.now) }
 {
     let (bracket, after) = read_bracket(alloc, text, inside)?;
     let Bracket::Words(words) = bracket else {
@@ -75,7 +75,7 @@ fn read_said<'t>(
 fn read_anchor(alloc: Global, text: &[char]) -> Result<(Anchor, &[char]), UnplacedError>
     ensures len { IfOk result (λ r. length r.1.now ≤ length text.now) }
     ensures taken { IfOk result (λ r. TakesAnchor text.now r.0 r.1.now) }
-    ensures fault { IfErr result (λ e. IsPartAt e (length text.now)) }
+    ensures fault { IfErr result (λ e. IsPart IsFirst e text.now) }
 {
     let text = skip_blanks(text);
     let Some(inside) = behind(text, '[') else {
@@ -93,7 +93,7 @@ fn read_anchor(alloc: Global, text: &[char]) -> Result<(Anchor, &[char]), Unplac
 pub(crate) fn read_reset(alloc: Global, text: &[char]) -> Result<(Reset, &[char]), UnplacedError>
     ensures len { IfOk result (λ r. length r.1.now ≤ length text.now) }
     ensures taken { IfOk result (λ r. TakesReset text.now r.0 r.1.now) }
-    ensures fault { IfErr result (λ e. IsPartAt e (length text.now)) }
+    ensures fault { IfErr result (λ e. IsPart IsBefore e text.now) }
 {
     let text = skip_blanks(text);
     let Some(inside) = behind(text, '[') else {
