@@ -20,9 +20,9 @@ use Rattle.icu_rules.specs.declared.statement.Statement.TheVariants as statement
 use Rattle.icu_rules.specs.RuleCharacters.{BeginsNoBlank}
 use Rattle.icu_rules.specs.Tokens.{Token, reset_sign, relation_sign, vowel_sign, string, bracket, set_bracket, IsRelationSign, SpellsTokens, angles_before, level_of_angles, strength_at}
 use Rattle.icu_rules.specs.Statements.{AreStatement, AreSetting, AreStatements, MayRelate, MayFollow, IsComplete, chain_after, relation_parts, prefix_tokens, extension_tokens, dashed_tokens}
-use Rattle.icu_rules.specs.RulePlaces.{FaultSort, IsFault, misplaced, lacks_relation, of_part, sort_of, BeginOne, IsWithin, AreInLine, chain_behind, AreRead, BeginsStatement, BeginsNoSign, IsAtFault, LacksRelation, IsPlacedFault}
+use Rattle.icu_rules.specs.RulePlaces.{FaultSort, IsFault, misplaced, lacks_relation, of_part, sort_of, BeginOne, IsWithinStatement, AreInLine, chain_behind, AreRead, BeginsStatement, BeginsNoSign, IsAtFault, LacksRelation, IsPlacedFault}
 use Rattle.icu_rules.specs.TakenStatements.{TakesSign}
-use Rattle.icu_rules.specs.TakenFaults.{IsPart, IsBehind, BeginsNoOther, IsOther, IsLeft, IsFaultHere, IsFaultIn, in_text}
+use Rattle.icu_rules.specs.TakenFaults.{IsPart, IsLeftBehind, BeginsNoOther, IsOtherFault, IsLeft, IsFaultHere, IsFaultIn, in_text}
 use Rattle.icu_rules.proofs.SkipLemmas.{nil_parts, token_nonempty}
 use Rattle.icu_rules.proofs.StringOnce.{not_both, head_same}
 use Rattle.icu_rules.proofs.WordsOnce.{StopsAt}
@@ -267,7 +267,7 @@ pub part_left : (e : UnplacedError) (chain : Chain) (before : ℕ) (text : List 
 part_left NoMemory chain before text p = tt
 part_left (Refused left kind) chain before text p = subst (λ s. IsLeft s chain before text left) (sym p.1) p.0
 
-pub other_left : (e : UnplacedError) (chain : Chain) (before : ℕ) (text : List ℕ) → IsVisible text → BeginsNoSign text → IsOther e text → IsFaultHere e chain before text
+pub other_left : (e : UnplacedError) (chain : Chain) (before : ℕ) (text : List ℕ) → IsVisible text → BeginsNoSign text → IsOtherFault e text → IsFaultHere e chain before text
 other_left e chain before text v a (inl p) = part_left e chain before text p
 other_left e chain before text v a (inr (b, same)) =
     subst (λ k. IsFaultHere k chain before text) (sym same) (refl, no_statement chain text v a b)
@@ -320,7 +320,7 @@ parted : (front rest text mine start part after : List ℕ) (left : ℕ) → tex
 parted front rest text mine start part after left e f g h =
     omega (arith, ap length e, length-append front rest, ap length f, length-append mine start, ap length g, length-append part after, h)
 
-within : (front rest text : List ℕ) (left : ℕ) → text ≡ front ++ rest → IsBehind BeginOne left rest → (count : ℕ) × (length text - left ≡ length front + count) × IsWithin count rest
+within : (front rest text : List ℕ) (left : ℕ) → text ≡ front ++ rest → IsLeftBehind BeginOne left rest → (count : ℕ) × (length text - left ≡ length front + count) × IsWithinStatement count rest
 within front rest text left e l =
     let p = l.taken [] [] l.start refl nothing_left in
     let spelled : SpellsTokens l.tokens p.0 = subst (λ ts. SpellsTokens ts p.0) (append-nil l.tokens) p.1 in (

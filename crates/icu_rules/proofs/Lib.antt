@@ -7,7 +7,7 @@ pub mod ParsingLemmas
 pub mod StarredLemmas
 mod WorkedRules
 pub mod ImportLemmas
-pub mod PartLemmas
+pub mod FaultPlaceLemmas
 pub mod StringOnce
 pub mod WordsOnce
 pub mod TokensOnce

@@ -92,15 +92,15 @@ IsInner (string cs) = Unit {0}
 IsInner token = ⊥
 
 -- nothing, or [before n]
-abbrev pub IsBefore : List Token → Type 0
-IsBefore tokens = (tokens ≡ []) ⊎ ((word : List ℕ) × (tokens ≡ bracket (codes "before" ∷ word ∷ []) ∷ []))
+abbrev pub IsBeforeLevel : List Token → Type 0
+IsBeforeLevel tokens = (tokens ≡ []) ⊎ ((word : List ℕ) × (tokens ≡ bracket (codes "before" ∷ word ∷ []) ∷ []))
 
--- What may stand in one statement before its fault: nothing; the sign of a relation and what begins no statement; or `&`
--- and what may stand between that and the string or the position.
+-- What may stand in one statement before its fault: nothing; the sign of a relation and what begins no statement; or
+-- `&` and what may stand between that and the string or the position.
 abbrev pub BeginOne : List Token → Type 0
 BeginOne [] = Unit {0}
 BeginOne (relation_sign strength starred ∷ more) = AllByRecursion IsInner more
-BeginOne (reset_sign ∷ more) = IsBefore more
+BeginOne (reset_sign ∷ more) = IsBeforeLevel more
 BeginOne (token ∷ more) = ⊥
 
 -- the beginning of a string, or of a bracket, with its first words; that of a string may be nothing
@@ -108,9 +108,9 @@ abbrev pub BeginsToken : List ℕ → Type 0
 BeginsToken part = ((cs rest : List ℕ) × SpellsCharacters false cs (part ++ rest))
     ⊎ ((words : List (List ℕ)) × (inside : List ℕ) × SpellsWords words inside × (part ≡ 91 ∷ inside))
 
--- Behind so many characters of a text the statement that it begins with hasn't ended: they are tokens of one statement,
--- and perhaps the beginning of a string or a bracket.
-pub record IsWithin (count : ℕ) (text : List ℕ) : Type 0 where
+-- So many characters of a text are of one statement: they are tokens that may stand before its fault, and perhaps the
+-- beginning of a string or a bracket.
+pub record IsWithinStatement (count : ℕ) (text : List ℕ) : Type 0 where
   pub tokens : List Token
   pub begin : BeginOne tokens
   pub mine : List ℕ
@@ -129,7 +129,7 @@ IsFault misplaced place stated text front rest =
     (place ≡ length front) × (BeginsStatement (chain_behind chains.Outside stated) rest → ⊥)
 IsFault lacks_relation place stated text front rest = LacksRelation place stated text rest
 IsFault of_part place stated text front rest =
-    (count : ℕ) × (place ≡ length front + count) × IsWithin count rest
+    (count : ℕ) × (place ≡ length front + count) × IsWithinStatement count rest
 
 -- The fault of this reason is at this place of the text: behind the statements that a beginning of it spells, and the
 -- blanks that follow them.

@@ -48,9 +48,9 @@ IsBehindWords (Refused left kind) text = InBracket left text × (sort_of kind �
 abbrev pub IsInBracket : UnplacedError → List ℕ → Type 0
 IsInBracket e text = IsHere e text ⊎ IsBehindWords e text
 
--- So many characters are left of a text behind tokens that may stand there, and perhaps behind the beginning of a string
--- or a bracket.
-pub record IsBehind (may : List Token → Type 0) (left : ℕ) (text : List ℕ) : Type 0 where
+-- So many characters are left of a text behind tokens that may stand there, and perhaps behind the beginning of a
+-- string or a bracket.
+pub record IsLeftBehind (may : List Token → Type 0) (left : ℕ) (text : List ℕ) : Type 0 where
   pub tokens : List Token
   pub allowed : may tokens
   pub start : List ℕ
@@ -64,11 +64,11 @@ pub record IsBehind (may : List Token → Type 0) (left : ℕ) (text : List ℕ)
 -- a part of a statement is at fault, and tokens that may stand there are before it
 abbrev pub IsPart : (List Token → Type 0) → UnplacedError → List ℕ → Type 0
 IsPart may NoMemory text = Unit {0}
-IsPart may (Refused left kind) text = IsBehind may left text × (sort_of kind ≡ of_part)
+IsPart may (Refused left kind) text = IsLeftBehind may left text × (sort_of kind ≡ of_part)
 
 -- no tokens
-abbrev pub IsFirst : List Token → Type 0
-IsFirst tokens = tokens ≡ []
+abbrev pub AreNoTokens : List Token → Type 0
+AreNoTokens tokens = tokens ≡ []
 
 -- tokens that begin no statement
 abbrev pub AreInner : List Token → Type 0
@@ -84,14 +84,14 @@ BeginsNoOther [] = Unit {0}
 BeginsNoOther (c ∷ text) = (c ≢ 38) × (c ≢ 91) × (c ≢ 64) × (c ≢ 33)
 
 -- a part of a statement that is no relation is at fault, or the text begins with none, which is the fault
-abbrev pub IsOther : UnplacedError → List ℕ → Type 0
-IsOther e text = IsPart BeginOne e text ⊎ (BeginsNoOther text × (e ≡ Refused (length text) kinds.Statement))
+abbrev pub IsOtherFault : UnplacedError → List ℕ → Type 0
+IsOtherFault e text = IsPart BeginOne e text ⊎ (BeginsNoOther text × (e ≡ Refused (length text) kinds.Statement))
 
 -- what is wrong in a text behind a chain, whose last statement begins where so many characters are left
 abbrev pub IsLeft : FaultSort → Chain → ℕ → List ℕ → ℕ → Type 0
 IsLeft misplaced chain before text left = (left ≡ length text) × (BeginsStatement chain text → ⊥)
 IsLeft lacks_relation chain before text left = (left ≡ before) × (IsComplete chain → ⊥) × BeginsNoSign text
-IsLeft of_part chain before text left = IsBehind BeginOne left text
+IsLeft of_part chain before text left = IsLeftBehind BeginOne left text
 
 -- so is the fault of an error
 abbrev pub IsFaultHere : UnplacedError → Chain → ℕ → List ℕ → Type 0

@@ -4,7 +4,7 @@ ghost use Rattle.icu_rules.specs.Statements.{MayFollow, SpellStatements};
 ghost use Rattle.icu_rules.specs.RulePlaces.{BeginOne, IsPlaced, IsPlacedFault};
 ghost use Rattle.icu_rules.specs.RuleCharacters.{BeginsNoBlank};
 ghost use Rattle.icu_rules.specs.TakenStatements.{TakesSign, TakesStatement, IsUnrelated, Relates};
-ghost use Rattle.icu_rules.specs.TakenFaults.{IsPart, IsOther, IsFaultHere, IsFaultIn};
+ghost use Rattle.icu_rules.specs.TakenFaults.{IsPart, IsOtherFault, IsFaultHere, IsFaultIn};
 
 use crate::blanks::skip_blanks;
 use crate::bracketed::read_bracketed;
@@ -101,7 +101,7 @@ fn read_unrelated(alloc: Global, text: &[char]) -> Result<(Statement, &[char]), 
     ensures len { IfOk result (λ r. length r.1.now < length text.now) }
     ensures unrelated { IfOk result (λ r. IsUnrelated r.0) }
     ensures taken { IfOk result (λ r. TakesStatement text.now r.0 r.1.now) }
-    ensures fault { IfErr result (λ e. IsOther e text.now) }
+    ensures fault { IfErr result (λ e. IsOtherFault e text.now) }
 {
     let Some((c, after)) = split_first(text) else {
         return Err(UnplacedError::at(text, RulesErrorKind::Statement));

@@ -1,8 +1,8 @@
 //! Resets.
 ghost use Rattle.std.specs.Prelude.{◌≡◌, ◌≤◌, [], ◌∷◌, length, map, codes, IfOk, IfErr, IfSome};
 ghost use Rattle.icu_rules.specs.TakenStatements.{SaysBehindReset, TakesSaid, TakesAnchor, TakesReset};
-ghost use Rattle.icu_rules.specs.TakenFaults.{IsInBracket, IsFirst, IsPart};
-ghost use Rattle.icu_rules.specs.RulePlaces.{sort_of, of_part, IsBefore};
+ghost use Rattle.icu_rules.specs.TakenFaults.{IsInBracket, AreNoTokens, IsPart};
+ghost use Rattle.icu_rules.specs.RulePlaces.{sort_of, of_part, IsBeforeLevel};
 
 use crate::blanks::skip_blanks;
 use crate::brackets::{Bracket, is_word, only_word, read_bracket, split_words};
@@ -75,7 +75,7 @@ fn read_said<'t>(
 fn read_anchor(alloc: Global, text: &[char]) -> Result<(Anchor, &[char]), UnplacedError>
     ensures len { IfOk result (λ r. length r.1.now ≤ length text.now) }
     ensures taken { IfOk result (λ r. TakesAnchor text.now r.0 r.1.now) }
-    ensures fault { IfErr result (λ e. IsPart IsFirst e text.now) }
+    ensures fault { IfErr result (λ e. IsPart AreNoTokens e text.now) }
 {
     let text = skip_blanks(text);
     let Some(inside) = behind(text, '[') else {
@@ -93,7 +93,7 @@ fn read_anchor(alloc: Global, text: &[char]) -> Result<(Anchor, &[char]), Unplac
 pub(crate) fn read_reset(alloc: Global, text: &[char]) -> Result<(Reset, &[char]), UnplacedError>
     ensures len { IfOk result (λ r. length r.1.now ≤ length text.now) }
     ensures taken { IfOk result (λ r. TakesReset text.now r.0 r.1.now) }
-    ensures fault { IfErr result (λ e. IsPart IsBefore e text.now) }
+    ensures fault { IfErr result (λ e. IsPart IsBeforeLevel e text.now) }
 {
     let text = skip_blanks(text);
     let Some(inside) = behind(text, '[') else {

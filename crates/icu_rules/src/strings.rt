@@ -4,7 +4,7 @@ ghost use Rattle.std.specs.List.{list_all};
 ghost use Rattle.icu_rules.specs.RuleCharacters.{is_plain, is_reserved};
 ghost use Rattle.icu_rules.specs.Tokens.{string};
 ghost use Rattle.icu_rules.specs.TakenText.{Takes, TakesCharacters};
-ghost use Rattle.icu_rules.specs.TakenFaults.{IsHere, IsInString, IsFirst, IsPart};
+ghost use Rattle.icu_rules.specs.TakenFaults.{IsHere, IsInString, AreNoTokens, IsPart};
 ghost use Rattle.icu_rules.specs.RulePlaces.{sort_of, of_part};
 
 use crate::blanks::{is_plain, skip_blanks};
@@ -115,7 +115,7 @@ pub(crate) fn read_string(
     ensures some { IfOk result (λ r. 0 < vec_len r.0) }
     ensures len { IfOk result (λ r. length r.1.now < length text.now) }
     ensures taken { IfOk result (λ r. Takes text.now (string r.0.items ∷ []) r.1.now) }
-    ensures fault { IfErr result (λ e. IsPart IsFirst e text.now) }
+    ensures fault { IfErr result (λ e. IsPart AreNoTokens e text.now) }
 {
     let text = skip_blanks(text);
     let (characters, rest) = read_characters(alloc, text)?;

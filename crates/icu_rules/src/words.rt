@@ -237,7 +237,8 @@ fn numeric_of(word: &[char]) -> Option<CollationNumericOrdering>
 
 /// The setting of this name and value, if it is one of those that say how elements are weighted.
 fn weighting_setting(name: &[char], value: &[char]) -> Result<Option<RuleSetting>, RulesErrorKind>
-    ensures says { IfOk result (λ o. IfSome o (λ s. AreSetting s (setting_tokens name.now value.now))) }
+    ensures says { IfOk result (λ o. IfSome o (λ s.
+        AreSetting s (setting_tokens name.now value.now))) }
     ensures part { IfErr result (λ kind. sort_of kind ≡ of_part) }
 {
     let unknown = RulesErrorKind::UnknownValue;

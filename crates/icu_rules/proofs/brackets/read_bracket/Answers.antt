@@ -5,7 +5,7 @@ use Rattle.std.proofs.Common.{rules, inr}
 use Rattle.icu_rules.specs.declared.unplaced_error.UnplacedError.{UnplacedError}
 use Rattle.icu_rules.specs.TakenFaults.{IsInBracket}
 use Rattle.icu_rules.proofs.FaultLemmas.{handed_on}
-use Rattle.icu_rules.proofs.PartLemmas.{bracket_behind}
+use Rattle.icu_rules.proofs.FaultPlaceLemmas.{bracket_behind}
 use Rattle.icu_rules.proofs.brackets.read_bracket.Goals as goal
 
 pub returns-in-Some-clause-taken : goal.returns-in-Some-clause-taken

@@ -4,7 +4,7 @@ use Rattle.icu_rules.specs.declared.unplaced_error.UnplacedError.{UnplacedError}
 use Rattle.icu_rules.specs.RulePlaces.{BeginOne}
 use Rattle.icu_rules.specs.TakenFaults.{IsPart}
 use Rattle.icu_rules.proofs.FaultLemmas.{handed_on}
-use Rattle.icu_rules.proofs.PartLemmas.{signed_part}
+use Rattle.icu_rules.proofs.FaultPlaceLemmas.{signed_part}
 use Rattle.icu_rules.proofs.parsing.read_starred_statement.Goals as goal
 
 pub returns-clause-taken : goal.returns-clause-taken

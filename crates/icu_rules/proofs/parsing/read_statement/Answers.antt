@@ -1,6 +1,6 @@
 use Rattle.std.proofs.Common.{length, sym, subst}
 use Rattle.icu_rules.specs.declared.unplaced_error.UnplacedError.{UnplacedError}
-use Rattle.icu_rules.specs.TakenFaults.{IsOther, IsFaultHere}
+use Rattle.icu_rules.specs.TakenFaults.{IsOtherFault, IsFaultHere}
 use Rattle.icu_rules.proofs.FaultLemmas.{visible_from, refused_left, other_left, err_map}
 use Rattle.icu_rules.proofs.parsing.read_statement.Goals as goal
 
@@ -13,8 +13,8 @@ returns-in-Some-refusal-clause-fault c =
 
 pub returns-in-None-2-clause-fault : goal.returns-in-None-2-clause-fault
 returns-in-None-2-clause-fault c =
-    err_map c.read_unrelated.result (λ (e : UnplacedError). IsOther e c.args.text.now)
+    err_map c.read_unrelated.result (λ (e : UnplacedError). IsOtherFault e c.args.text.now)
     (λ (e : UnplacedError). IsFaultHere e c.args.chain (length c.args.before.now) c.args.text.now)
-    (λ (e : UnplacedError) (p : IsOther e c.args.text.now).
+    (λ (e : UnplacedError) (p : IsOtherFault e c.args.text.now).
     other_left e c.args.chain (length c.args.before.now) c.args.text.now
     (visible_from c.args.text.now c.requires.visible c.requires.some) c.in-None.ensures.none p) c.read_unrelated.ensures.fault

@@ -4,7 +4,7 @@ use Rattle.std.proofs.Common.{rules}
 use Rattle.icu_rules.specs.declared.unplaced_error.UnplacedError.{UnplacedError}
 use Rattle.icu_rules.specs.TakenFaults.{AreInner, IsPart}
 use Rattle.icu_rules.proofs.FaultLemmas.{handed_on}
-use Rattle.icu_rules.proofs.PartLemmas.{first_part, prefix_part}
+use Rattle.icu_rules.proofs.FaultPlaceLemmas.{first_part, prefix_part}
 use Rattle.icu_rules.proofs.relations.read_context.Goals as goal
 
 pub returns-in_ok-string-in-Some-clause-taken : goal.returns-in_ok-string-in-Some-clause-taken

@@ -4,7 +4,7 @@ use Rattle.std.proofs.Common.{rules}
 use Rattle.icu_rules.specs.declared.unplaced_error.UnplacedError.{UnplacedError}
 use Rattle.icu_rules.specs.TakenFaults.{AreInner, IsPart}
 use Rattle.icu_rules.proofs.FaultLemmas.{handed_on}
-use Rattle.icu_rules.proofs.PartLemmas.{extension_part}
+use Rattle.icu_rules.proofs.FaultPlaceLemmas.{extension_part}
 use Rattle.icu_rules.proofs.relations.read_extension.Goals as goal
 
 pub returns-in_ok-extension-in-Some-clause-taken : goal.returns-in_ok-extension-in-Some-clause-taken

@@ -5,7 +5,7 @@ use Rattle.icu_rules.specs.declared.unplaced_error.UnplacedError.{UnplacedError}
 use Rattle.std.proofs.Common.{inl}
 use Rattle.icu_rules.specs.TakenFaults.{IsSigned}
 use Rattle.icu_rules.proofs.FaultLemmas.{handed_on}
-use Rattle.icu_rules.proofs.PartLemmas.{context_part}
+use Rattle.icu_rules.proofs.FaultPlaceLemmas.{context_part}
 use Rattle.icu_rules.proofs.relations.read_relation.Goals as goal
 
 pub returns-clause-taken : goal.returns-clause-taken

@@ -8,7 +8,7 @@ use Rattle.icu_rules.specs.declared.rules_error.RulesErrorKind.TheVariants as ki
 use Rattle.std.proofs.Common.{inl, inr, refl, length, rules}
 use Rattle.icu_rules.specs.TakenFaults.{IsSigned}
 use Rattle.icu_rules.proofs.FaultLemmas.{handed_on}
-use Rattle.icu_rules.proofs.PartLemmas.{first_part, named_here, named_part}
+use Rattle.icu_rules.proofs.FaultPlaceLemmas.{first_part, named_here, named_part}
 use Rattle.icu_rules.proofs.starred.read_ranges.Goals as goal
 
 pub loop-after-init : goal.loop-after-init

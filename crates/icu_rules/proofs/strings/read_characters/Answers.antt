@@ -7,7 +7,7 @@ use Rattle.std.proofs.Common.{◌≡◌, ◌∙◌, true, false, refl, sym, subs
 use Rattle.icu_rules.specs.TakenText.{TakesCharacters}
 use Rattle.icu_rules.specs.TakenFaults.{IsInString}
 use Rattle.icu_rules.proofs.FaultLemmas.{handed_on}
-use Rattle.icu_rules.proofs.PartLemmas.{opens_next, not_true, string_fault}
+use Rattle.icu_rules.proofs.FaultPlaceLemmas.{opens_next, not_true, string_fault}
 use Rattle.icu_rules.proofs.StringOnce.{not_both}
 use Rattle.icu_rules.proofs.strings.read_characters.Goals.{then-is_within, else-is_within}
 use Rattle.icu_rules.proofs.strings.read_characters.Goals as goal

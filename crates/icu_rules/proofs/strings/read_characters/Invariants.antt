@@ -1,6 +1,6 @@
 use Rattle.std.proofs.Common.{◌+◌, ◌≤◌, false, length, vec_len}
 use Rattle.icu_rules.specs.TakenText.{TakesCharacters}
-use Rattle.icu_rules.proofs.PartLemmas.{OpensIn}
+use Rattle.icu_rules.proofs.FaultPlaceLemmas.{OpensIn}
 use Rattle.icu_rules.proofs.strings.read_characters.Given as goal
 
 -- the text goes on with the characters so far, and then with the rest

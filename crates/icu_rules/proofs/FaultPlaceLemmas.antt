@@ -12,10 +12,10 @@ use Rattle.icu_rules.specs.RuleStrings.{SpellsCharacters, ends, quoted, closes}
 use Rattle.icu_rules.specs.Tokens.{Token, SpellsWords, reset_sign, relation_sign, prefix_sign, extension_sign, range_sign, string, bracket}
 use Rattle.icu_rules.specs.RuleWords.{level_word}
 use Rattle.icu_rules.specs.Statements.{prefix_tokens, dashed_tokens}
-use Rattle.icu_rules.specs.RulePlaces.{IsBefore, BeginOne, BeginsToken}
+use Rattle.icu_rules.specs.RulePlaces.{IsBeforeLevel, BeginOne, BeginsToken}
 use Rattle.icu_rules.specs.TakenText.{Takes, TakesWords, TakesCharacters}
 use Rattle.icu_rules.specs.TakenStatements.{SaysBehindReset, TakesSign, TakesSaid}
-use Rattle.icu_rules.specs.TakenFaults.{IsHere, IsInBracket, IsBehindWords, IsInString, IsPart, IsFirst, AreInner, IsSigned}
+use Rattle.icu_rules.specs.TakenFaults.{IsHere, IsInBracket, IsBehindWords, IsInString, IsPart, AreNoTokens, AreInner, IsSigned}
 use Rattle.icu_rules.proofs.SkipLemmas.{takes_nothing, takes_then}
 use Rattle.icu_rules.proofs.BracketLemmas.{take_token}
 use Rattle.icu_rules.proofs.StringLemmas.{characters_none}
@@ -58,7 +58,7 @@ string_begun cs true (part, e, f) =
 
 -- ---- parts
 
-pub string_part : (e : UnplacedError) {text mid : List ℕ} → Takes text [] mid → IsInString e mid → IsPart IsFirst e text
+pub string_part : (e : UnplacedError) {text mid : List ℕ} → Takes text [] mid → IsInString e mid → IsPart AreNoTokens e text
 string_part NoMemory blanks p = tt
 string_part (Refused left kind) {text} {mid} blanks (s, of) =
     let b = string_begun s.cs s.within s.taken in (
@@ -147,23 +147,23 @@ part_behind may before ts (Refused left kind) {text} {mid} allowed taken (p, of)
   of,
 )
 
-pub first_inner : (us : List Token) → IsFirst us → AreInner us
+pub first_inner : (us : List Token) → AreNoTokens us → AreInner us
 first_inner us e = subst (λ ts. AreInner ts) (sym e) tt
 
 -- ---- relations
 
-pub first_part : (e : UnplacedError) (text : List ℕ) → IsPart IsFirst e text → IsPart AreInner e text
-first_part e text p = part_behind AreInner IsFirst [] e first_inner takes_nothing p
+pub first_part : (e : UnplacedError) (text : List ℕ) → IsPart AreNoTokens e text → IsPart AreInner e text
+first_part e text p = part_behind AreInner AreNoTokens [] e first_inner takes_nothing p
 
-pub prefix_part : (e : UnplacedError) {text r1 r2 : List ℕ} (after first : List ℕ) → Takes text (string first ∷ []) r1 → Takes r1 [] r2 → r2 ≡ 124 ∷ after → IsPart IsFirst e after → IsPart AreInner e text
+pub prefix_part : (e : UnplacedError) {text r1 r2 : List ℕ} (after first : List ℕ) → Takes text (string first ∷ []) r1 → Takes r1 [] r2 → r2 ≡ 124 ∷ after → IsPart AreNoTokens e after → IsPart AreInner e text
 prefix_part e after first a b f p =
-    part_behind AreInner IsFirst (string first ∷ prefix_sign ∷ []) e (λ us h. (tt, (tt, first_inner us h)))
+    part_behind AreInner AreNoTokens (string first ∷ prefix_sign ∷ []) e (λ us h. (tt, (tt, first_inner us h)))
     (takes_then (string first ∷ []) (prefix_sign ∷ []) a
     (takes_then [] (prefix_sign ∷ []) b (take_token after prefix_sign (124 ∷ []) refl f))) p
 
-pub extension_part : (e : UnplacedError) {text mid : List ℕ} (after : List ℕ) → Takes text [] mid → mid ≡ 47 ∷ after → IsPart IsFirst e after → IsPart AreInner e text
+pub extension_part : (e : UnplacedError) {text mid : List ℕ} (after : List ℕ) → Takes text [] mid → mid ≡ 47 ∷ after → IsPart AreNoTokens e after → IsPart AreInner e text
 extension_part e after a f p =
-    part_behind AreInner IsFirst (extension_sign ∷ []) e (λ us h. (tt, first_inner us h))
+    part_behind AreInner AreNoTokens (extension_sign ∷ []) e (λ us h. (tt, first_inner us h))
     (takes_then [] (extension_sign ∷ []) a (take_token after extension_sign (47 ∷ []) refl f)) p
 
 context_inner : (cs ds : List ℕ) (us : List Token) → AreInner us → AreInner ((prefix_tokens cs ++ string ds ∷ []) ++ us)
@@ -192,11 +192,11 @@ inner_then : (ts us : List Token) → AreInner ts → AreInner us → AreInner (
 inner_then [] us h k = k
 inner_then (t ∷ ts) us h k = (h.0, inner_then ts us h.1 k)
 
-pub named_part : (e : UnplacedError) {text rest after : List ℕ} (ranges : List CharacterRange) (s : List ℕ) → Naming text ranges s rest → Takes rest (range_sign ∷ []) after → IsPart IsFirst e after → IsPart AreInner e text
+pub named_part : (e : UnplacedError) {text rest after : List ℕ} (ranges : List CharacterRange) (s : List ℕ) → Naming text ranges s rest → Takes rest (range_sign ∷ []) after → IsPart AreNoTokens e after → IsPart AreInner e text
 named_part e ranges s naming dash p =
     let n = named_tokens ranges s naming in
     part_behind AreInner AreInner n.0 e (λ us h. inner_then n.0 us n.1 h) n.2
-    (part_behind AreInner IsFirst (range_sign ∷ []) e (λ us h. (tt, first_inner us h)) dash p)
+    (part_behind AreInner AreNoTokens (range_sign ∷ []) e (λ us h. (tt, first_inner us h)) dash p)
 
 -- a relation behind its sign
 pub signed_part : (e : UnplacedError) {text after : List ℕ} (sign : Sign) → TakesSign text sign after → IsSigned e text after → IsPart BeginOne e text
@@ -207,31 +207,31 @@ signed_part e sign taken (inr h) = here_part BeginOne [] e tt takes_nothing h
 
 -- ---- resets
 
-pub blank_first : (e : UnplacedError) {text mid : List ℕ} → Takes text [] mid → IsPart IsFirst e mid → IsPart IsFirst e text
-blank_first e blanks p = part_behind IsFirst IsFirst [] e (λ us h. h) blanks p
+pub blank_first : (e : UnplacedError) {text mid : List ℕ} → Takes text [] mid → IsPart AreNoTokens e mid → IsPart AreNoTokens e text
+blank_first e blanks p = part_behind AreNoTokens AreNoTokens [] e (λ us h. h) blanks p
 
-pub blank_here : (e : UnplacedError) {text mid : List ℕ} → Takes text [] mid → IsHere e mid → IsPart IsFirst e text
-blank_here e blanks h = here_part IsFirst [] e refl blanks h
+pub blank_here : (e : UnplacedError) {text mid : List ℕ} → Takes text [] mid → IsHere e mid → IsPart AreNoTokens e text
+blank_here e blanks h = here_part AreNoTokens [] e refl blanks h
 
-pub blank_bracket : (e : UnplacedError) {text mid : List ℕ} → Takes text [] mid → IsInBracket e mid → IsPart IsFirst e text
-blank_bracket e blanks h = bracket_part IsFirst [] e refl blanks h
+pub blank_bracket : (e : UnplacedError) {text mid : List ℕ} → Takes text [] mid → IsInBracket e mid → IsPart AreNoTokens e text
+blank_bracket e blanks h = bracket_part AreNoTokens [] e refl blanks h
 
-pub before_first : (e : UnplacedError) {text mid : List ℕ} → Takes text [] mid → IsPart IsFirst e mid → IsPart IsBefore e text
-before_first e blanks p = part_behind IsBefore IsFirst [] e (λ us h. inl h) blanks p
+pub before_first : (e : UnplacedError) {text mid : List ℕ} → Takes text [] mid → IsPart AreNoTokens e mid → IsPart IsBeforeLevel e text
+before_first e blanks p = part_behind IsBeforeLevel AreNoTokens [] e (λ us h. inl h) blanks p
 
-pub before_bracket : (e : UnplacedError) {text mid : List ℕ} → Takes text [] mid → IsInBracket e mid → IsPart IsBefore e text
-before_bracket e blanks h = bracket_part IsBefore [] e (inl refl) blanks h
+pub before_bracket : (e : UnplacedError) {text mid : List ℕ} → Takes text [] mid → IsInBracket e mid → IsPart IsBeforeLevel e text
+before_bracket e blanks h = bracket_part IsBeforeLevel [] e (inl refl) blanks h
 
-pub before_part : (e : UnplacedError) {text mid after : List ℕ} {said : Said} (level : Strength) → Takes text [] mid → said ≡ said_by.Before level → TakesSaid mid said after → IsPart IsFirst e after → IsPart IsBefore e text
+pub before_part : (e : UnplacedError) {text mid after : List ℕ} {said : Said} (level : Strength) → Takes text [] mid → said ≡ said_by.Before level → TakesSaid mid said after → IsPart AreNoTokens e after → IsPart IsBeforeLevel e text
 before_part e level blanks h (words, says, taken) p =
     let named = subst (λ s. SaysBehindReset s words) h says in
-    part_behind IsBefore IsFirst (bracket words ∷ []) e
+    part_behind IsBeforeLevel AreNoTokens (bracket words ∷ []) e
     (λ us n. inr (level_word level, ap (λ ts. bracket words ∷ ts) n ∙ ap (λ ws. bracket ws ∷ []) named.2))
     (takes_then [] (bracket words ∷ []) blanks taken) p
 
-pub reset_part : (e : UnplacedError) {text after : List ℕ} → text ≡ 38 ∷ after → IsPart IsBefore e after → IsPart BeginOne e text
+pub reset_part : (e : UnplacedError) {text after : List ℕ} → text ≡ 38 ∷ after → IsPart IsBeforeLevel e after → IsPart BeginOne e text
 reset_part e {text} {after} f p =
-    part_behind BeginOne IsBefore (reset_sign ∷ []) e (λ us h. h) (take_token after reset_sign (38 ∷ []) refl f) p
+    part_behind BeginOne IsBeforeLevel (reset_sign ∷ []) e (λ us h. h) (take_token after reset_sign (38 ∷ []) refl f) p
 
 pub statement_bracket : (e : UnplacedError) (text : List ℕ) → IsInBracket e text → IsPart BeginOne e text
 statement_bracket e text h = bracket_part BeginOne [] e tt takes_nothing h
