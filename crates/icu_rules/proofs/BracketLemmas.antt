@@ -81,7 +81,11 @@ bracket_blank = refl
 
 -- a token that the text begins with
 pub take_token : {text : List ℕ} (rest : List ℕ) (token : Token) (mine : List ℕ) → SpellsToken token mine → text ≡ mine ++ rest → Takes text (token ∷ []) rest
-take_token {text} rest token mine s e more k = ([], mine, rest, bracket_blank, s, k, e)
+take_token {text} rest token mine s e more tail after same k = (
+  mine ++ tail,
+  ([], mine, tail, bracket_blank, s, k, refl),
+  e ∙ ap (λ t. mine ++ t) same ∙ sym (append_assoc mine tail after),
+)
 
 pub take_words : {text inside rest after : List ℕ} (words : List (List ℕ)) → text ≡ 91 ∷ inside → TakesWords inside words rest → rest ≡ 93 ∷ after → Takes text (bracket words ∷ []) after
 take_words {text} {inside} {rest} {after} words opened taken closed =

@@ -17,6 +17,7 @@ use Rattle.icu_rules.specs.Tokens.{Token, reset_sign, relation_sign, vowel_sign,
 use Rattle.icu_rules.specs.Statements.{HasFindableContext, relation_parts, dashed_tokens, AreStatements, MayRelate, MayFollow, IsComplete, AreInOrder, chain_after, SpellStatements}
 use Rattle.icu_rules.specs.TakenText.{Takes}
 use Rattle.icu_rules.specs.TakenStatements.{TakesSign, TakesReset, TakesStarred, TakesStatement, IsUnrelated, Relates}
+use Rattle.icu_rules.proofs.SkipLemmas.{takes_then}
 use Rattle.icu_rules.proofs.BracketLemmas.{take_token}
 
 -- a relation, by its sign and what stands behind that
@@ -27,7 +28,8 @@ take_relation {text} {after} {rest} sign r (mine, spelled, e) starred strength c
     (subst (λ b. IsRelationSign sign.strength b mine) starred spelled) in (
       relation_sign r.strength false ∷ relation_parts r,
       (context, refl),
-      λ more s. take_token after (relation_sign r.strength false) mine spelled' e (relation_parts r ++ more) (takes more s),
+      takes_then (relation_sign r.strength false ∷ []) (relation_parts r)
+          (take_token after (relation_sign r.strength false) mine spelled' e) takes,
     )
 
 pub take_starred : {text after rest : List ℕ} (sign : Sign) (r : StarredRelation) → TakesSign text sign after → sign.is_starred ≡ true → r.strength ≡ sign.strength → TakesStarred after r.ranges.items rest → TakesStatement text (statements.Starred r) rest
@@ -37,13 +39,13 @@ take_starred {text} {after} {rest} sign r (mine, spelled, e) starred strength (f
     (subst (λ b. IsRelationSign sign.strength b mine) starred spelled) in (
       relation_sign r.strength true ∷ string first ∷ dashed_tokens others,
       (first, others, named, inert, refl),
-      λ more s. take_token after (relation_sign r.strength true) mine spelled' e
-          (string first ∷ dashed_tokens others ++ more) (takes more s),
+      takes_then (relation_sign r.strength true ∷ []) (string first ∷ dashed_tokens others)
+          (take_token after (relation_sign r.strength true) mine spelled' e) takes,
     )
 
 pub take_reset : {text after rest : List ℕ} (reset : Reset) → text ≡ 38 ∷ after → TakesReset after reset rest → TakesStatement text (statements.Reset reset) rest
 take_reset {text} {after} {rest} reset e (tokens, are, takes) =
-    (reset_sign ∷ tokens, are, λ more s. take_token after reset_sign (38 ∷ []) refl e (tokens ++ more) (takes more s))
+    (reset_sign ∷ tokens, are, takes_then (reset_sign ∷ []) tokens (take_token after reset_sign (38 ∷ []) refl e) takes)
 
 pub take_backwards : {text after : List ℕ} → text ≡ 64 ∷ after → TakesStatement text (statements.Setting settings.Backwards) after
 take_backwards {text} {after} e =
@@ -71,23 +73,29 @@ related_stands chain strength (statements.Starred r) u h = subst (λ k. MayRelat
 related_stands chain strength (statements.Setting s) u h = absurd u
 related_stands chain strength (statements.Import tag) u h = absurd u
 
--- Whatever the rest says follows these statements.
+-- Whatever a beginning of the rest says follows these statements.
 abbrev pub Told : List Statement → List ℕ → List ℕ → Type 0
-Told items text rest = (more : List Statement) (tokens : List Token) → AreStatements more tokens → SpellsTokens tokens rest
-    → (all : List Token) × AreStatements (items ++ more) all × SpellsTokens all text
+Told items text rest = (more : List Statement) (tokens : List Token) (tail after : List ℕ) → rest ≡ tail ++ after
+    → AreStatements more tokens → SpellsTokens tokens tail
+    → (all : List Token) × (whole : List ℕ) × AreStatements (items ++ more) all × SpellsTokens all whole
+    × (text ≡ whole ++ after)
 
 -- Whatever may stand behind the chain follows these statements.
 abbrev pub Ordered : List Statement → Chain → Type 0
 Ordered items chain = (more : List Statement) → AreInOrder chain more → AreInOrder chains.Outside (items ++ more)
 
 pub told_first : {text rest : List ℕ} → Takes text [] rest → Told [] text rest
-told_first blanks more tokens are s = (tokens, are, blanks tokens s)
+told_first blanks more tokens tail after e are s =
+    let p = blanks tokens tail after e s in (tokens, p.0, are, p.1, p.2)
 
 pub told_step : {text rest after next : List ℕ} (items new : List Statement) (s : Statement) → new ≡ items ++ s ∷ [] → Told items text rest → TakesStatement rest s after → Takes after [] next → Told new text next
-told_step {text} {rest} {after} {next} items new s e told (ts, are, takes) blanks more tokens m k =
-    subst (λ ss. (all : List Token) × AreStatements ss all × SpellsTokens all text)
+told_step {text} {rest} {after} {next} items new s e told (ts, are, takes) blanks more tokens tail left f m k =
+    let b = blanks tokens tail left f k in
+    let t = takes tokens b.0 left b.2 b.1 in
+    subst (λ ss. (all : List Token) × (whole : List ℕ) × AreStatements ss all × SpellsTokens all whole
+    × (text ≡ whole ++ left))
     (sym (ap (λ i. i ++ more) e ∙ append_assoc items (s ∷ []) more))
-    (told (s ∷ more) (ts ++ tokens) (ts, tokens, are, m, refl) (takes tokens (blanks tokens k)))
+    (told (s ∷ more) (ts ++ tokens) t.0 left t.2 (ts, tokens, are, m, refl) t.1)
 
 pub ordered_first : Ordered [] chains.Outside
 ordered_first more o = o
@@ -97,16 +105,16 @@ ordered_step {chain} {next} items new s e ordered may h more o =
     subst (λ ss. AreInOrder chains.Outside ss) (sym (ap (λ i. i ++ more) e ∙ append_assoc items (s ∷ []) more))
     (ordered (s ∷ more) (may, subst (λ k. AreInOrder k more) h o))
 
-nothing_left : IsTrail []
+pub nothing_left : IsTrail []
 unfolding is_blank
 nothing_left = inl refl
 
 pub all_told : {text rest : List ℕ} {chain : Chain} (items : List Statement) → rest ≡ [] → Told items text rest → Ordered items chain → IsComplete chain → SpellStatements items text
 all_told {text} {rest} {chain} items none told ordered complete =
-    let p = told [] [] refl (subst (λ t. IsTrail t) (sym none) nothing_left) in record {
+    let p = told [] [] [] [] none refl nothing_left in record {
       tokens = p.0;
-      spelled = p.2;
-      each = subst (λ ss. AreStatements ss p.0) (append-nil items) p.1;
+      spelled = subst (λ t. SpellsTokens p.0 t) (sym (append-nil p.1) ∙ sym p.4) p.3;
+      each = subst (λ ss. AreStatements ss p.0) (append-nil items) p.2;
       in_order = subst (λ ss. AreInOrder chains.Outside ss) (append-nil items) (ordered [] complete);
     }
 

@@ -2,11 +2,12 @@
 use Rattle.std.proofs.Common.{ℕ, true, false, not, nat_eq, List, [], ◌∷◌, ◌++◌, ◌≡◌, inl, inr, refl, ap, ◌∙◌, sym, subst, append_assoc}
 use Rattle.std.specs.List.{list_all}
 use Rattle.std.proofs.lemmas.Bool.{and_from, and_parts}
+use Rattle.std.proofs.lemmas.List.{append-nil}
 use Rattle.icu_options.specs.declared.settings.Strength.TheVariants.{Primary, Secondary, Tertiary, Quaternary, Identical}
 use Rattle.icu_rules.specs.RuleCharacters.{is_white, is_line_end, is_blank, IsBlank}
 use Rattle.icu_rules.specs.RuleStrings.{SpellsCharacters, ends, plain, apostrophe, escaped, opens}
 use Rattle.icu_rules.specs.Tokens.{Token, reset_sign, relation_sign, prefix_sign, extension_sign, range_sign, vowel_sign, string, bracket, set_bracket, SpellsToken, SpellsTokens}
-use Rattle.icu_rules.specs.TakenText.{SkipsWhite, SkipsLine}
+use Rattle.icu_rules.specs.TakenText.{SkipsWhite, SkipsLine, Takes}
 
 pub white_more : {c : ℕ} {after r whole : List ℕ} → whole ≡ c ∷ after → is_white c ≡ true → SkipsWhite after r → SkipsWhite whole r
 white_more {c} e h (white, all, same) = (c ∷ white, and_from _ _ h all, e ∙ ap (λ t. c ∷ t) same)
@@ -23,7 +24,7 @@ pub line_none : {whole r : List ℕ} → whole ≡ [] → r ≡ [] → SkipsLine
 line_none e h = inr (rw e refl, h)
 
 -- the middle of nothing is nothing
-nil_parts : (blank mine rest : List ℕ) → [] ≡ (blank ++ mine) ++ rest → mine ≡ []
+pub nil_parts : (blank mine rest : List ℕ) → [] ≡ (blank ++ mine) ++ rest → mine ≡ []
 nil_parts [] [] rest e = refl
 nil_parts [] (x ∷ mine) rest e = cc
 nil_parts (b ∷ blank) mine rest e = cc
@@ -121,3 +122,37 @@ tokens_comment {c} {after} e n (inr (all, h)) [] s =
     inr ([], 35 ∷ after, blank_none, (after, refl, all), e ∙ ap (λ k. k ∷ after) n)
 tokens_comment e n (inr (all, h)) (token ∷ more) (blank, mine, rest, b, s, m, same) =
     absurd (token_nonempty token mine (nil_parts blank mine rest (sym h ∙ same)) s)
+
+-- ---- blanks, taken
+
+pub takes_nothing : {text : List ℕ} → Takes text [] text
+takes_nothing more tail after e s = (tail, s, e)
+
+pub takes_then : {a b c : List ℕ} (ts us : List Token) → Takes a ts b → Takes b us c → Takes a (ts ++ us) c
+takes_then ts us first second more tail after e s =
+    let p = second more tail after e s in
+    rw (append_assoc ts us more) (first (us ++ more) p.0 after p.2 p.1)
+
+pub takes_white : {c : ℕ} {after whole : List ℕ} → whole ≡ c ∷ after → nat_eq c 35 ≡ false → is_white c ≡ true → Takes whole [] after
+takes_white {c} e n h more tail left same s =
+    let spelled : SpellsTokens more (c ∷ tail) = tokens_white refl n h more s in
+    (c ∷ tail, spelled, e ∙ ap (λ t. c ∷ t) same)
+
+nil_front : (tail left : List ℕ) → [] ≡ tail ++ left → (tail ≡ []) × (left ≡ [])
+nil_front [] [] e = (refl, refl)
+nil_front [] (x ∷ left) e = cc
+nil_front (x ∷ tail) left e = cc
+
+pub takes_comment : {c : ℕ} {after r whole : List ℕ} → whole ≡ c ∷ after → c ≡ 35 → SkipsLine after r → Takes whole [] r
+takes_comment {c} {after} {r} {whole} e n (inl (line, end, all, h, same)) more tail left f s =
+    let skips : SkipsLine (line ++ end ∷ tail) tail = inl (line, end, all, h, refl) in
+    let spelled : SpellsTokens more (35 ∷ (line ++ end ∷ tail)) = tokens_comment refl refl skips more s in (
+      35 ∷ (line ++ end ∷ tail),
+      spelled,
+      comment_whole r line end e n same ∙ ap (λ t. 35 ∷ (line ++ end ∷ t)) f ∙ comment_join line end tail left,
+    )
+takes_comment {c} {after} {r} {whole} e n (inr (all, h)) more tail left f s =
+    let p = nil_front tail left (sym h ∙ f) in
+    let skips : SkipsLine after tail = inr (all, p.0) in
+    let spelled : SpellsTokens more whole = tokens_comment e n skips more s in
+    (whole, spelled, sym (append-nil whole) ∙ ap (λ t. whole ++ t) (sym p.1))

@@ -7,6 +7,7 @@ use Rattle.icu_rules.specs.Tokens.{Token, range_sign, string, SpellsTokens}
 use Rattle.icu_rules.specs.Statements.{IsInertRange, single, NameRanges, dashed_tokens}
 use Rattle.icu_rules.specs.TakenText.{Takes}
 use Rattle.icu_rules.specs.TakenStatements.{TakesStarred}
+use Rattle.icu_rules.proofs.SkipLemmas.{takes_then}
 use Rattle.icu_rules.proofs.BracketLemmas.{take_token}
 use Rattle.icu_rules.proofs.StatementLemmas.{drop_map, drop_none}
 
@@ -19,11 +20,12 @@ inert_push (r ∷ ranges) new range e h all =
 abbrev pub Naming : List ℕ → List CharacterRange → List ℕ → List ℕ → Type 0
 Naming text ranges s rest = (more : List (List ℕ)) (named : List CharacterRange) → NameRanges s more named
     → (first : List ℕ) × (others : List (List ℕ)) × NameRanges first others (ranges ++ named)
-    × ((tokens : List Token) → SpellsTokens (dashed_tokens more ++ tokens) rest
-    → SpellsTokens (string first ∷ dashed_tokens others ++ tokens) text)
+    × ((tokens : List Token) (tail after : List ℕ) → rest ≡ tail ++ after
+    → SpellsTokens (dashed_tokens more ++ tokens) tail
+    → (whole : List ℕ) × SpellsTokens (string first ∷ dashed_tokens others ++ tokens) whole × (text ≡ whole ++ after))
 
 pub naming_first : {text rest : List ℕ} (s : List ℕ) → Takes text (string s ∷ []) rest → Naming text [] s rest
-naming_first s takes more named n = (s, more, n, λ tokens k. takes (dashed_tokens more ++ tokens) k)
+naming_first s takes more named n = (s, more, n, λ tokens tail after e k. takes (dashed_tokens more ++ tokens) tail after e k)
 
 pub naming_step : {text rest after next : List ℕ} (ranges new : List CharacterRange) (front tail string' : List ℕ) (last c : ℕ) → string' ≡ c ∷ tail → last ≤ c → new ≡ (ranges ++ map single front) ++ record { first = last; last = c } ∷ [] → Naming text ranges (front ++ last ∷ []) rest → Takes rest (range_sign ∷ []) after → Takes after (string string' ∷ []) next → Naming text new tail next
 naming_step {text} {rest} {after} {next} ranges new front tail string' last c split le e naming dash takes more named n =
@@ -34,19 +36,22 @@ naming_step {text} {rest} {after} {next} ranges new front tail string' last c sp
       subst (λ rs. NameRanges p.0 p.1 rs)
           (sym (ap (λ k. k ++ named) e ∙ append_assoc (ranges ++ map single front) (range ∷ []) named
           ∙ append_assoc ranges (map single front) (range ∷ named))) p.2,
-      λ tokens k. p.3 tokens (dash (string (c ∷ tail) ∷ dashed_tokens more ++ tokens)
-          (subst (λ w. SpellsTokens (string w ∷ dashed_tokens more ++ tokens) after) split
-          (takes (dashed_tokens more ++ tokens) k))),
+      λ tokens behind left f k.
+          let q = takes (dashed_tokens more ++ tokens) behind left f k in
+          let spelled : SpellsTokens (string (c ∷ tail) ∷ dashed_tokens more ++ tokens) q.0 =
+          subst (λ w. SpellsTokens (string w ∷ dashed_tokens more ++ tokens) q.0) split q.1 in
+          let d = dash (string (c ∷ tail) ∷ dashed_tokens more ++ tokens) q.0 left q.2 spelled in
+          p.3 tokens d.0 left d.2 d.1,
     )
 
 pub naming_done : {text rest : List ℕ} (ranges new : List CharacterRange) (s : List ℕ) → new ≡ ranges ++ map single s → Naming text ranges s rest → AllByRecursion IsInertRange new → TakesStarred text new rest
 naming_done {text} {rest} ranges new s e naming inert =
     let p = naming [] (map single s) refl in
-    (p.0, p.1, subst (λ rs. NameRanges p.0 p.1 rs) (sym e) p.2, inert, λ more k. p.3 more k)
+    (p.0, p.1, subst (λ rs. NameRanges p.0 p.1 rs) (sym e) p.2, inert, λ more tail after f k. p.3 more tail after f k)
 
 pub take_dash : {text mid : List ℕ} (after : List ℕ) → Takes text [] mid → mid ≡ 45 ∷ after → Takes text (range_sign ∷ []) after
-take_dash {text} {mid} after blanks e more s =
-    blanks (range_sign ∷ more) (take_token after range_sign (45 ∷ []) refl e more s)
+take_dash {text} {mid} after blanks e =
+    takes_then [] (range_sign ∷ []) blanks (take_token after range_sign (45 ∷ []) refl e)
 
 pub singles_step : (ranges new all : List CharacterRange) (cs : List ℕ) (i d : ℕ) (range : CharacterRange) → i < length cs → range ≡ single (get_or cs i d) → new ≡ ranges ++ range ∷ [] → ranges ++ map single (drop i cs) ≡ all → new ++ map single (drop (i + 1) cs) ≡ all
 singles_step ranges new all cs i d range h r e before =

@@ -11,10 +11,11 @@ use Rattle.icu_rules.specs.declared.resets.Said.TheVariants as said_by
 use Rattle.icu_rules.specs.declared.statement.LogicalPosition.{LogicalPosition}
 use Rattle.icu_rules.specs.declared.statement.Anchor.{Anchor}
 use Rattle.icu_rules.specs.declared.statement.Anchor.TheVariants as anchors
-use Rattle.icu_rules.specs.Tokens.{Token, prefix_sign, extension_sign, string, bracket, relation_sign_text, IsRelationSign, SpellsTokens}
+use Rattle.icu_rules.specs.Tokens.{Token, prefix_sign, extension_sign, string, bracket, relation_sign_text, IsRelationSign}
 use Rattle.icu_rules.specs.Statements.{prefix_tokens, extension_tokens, WritesWord, WriteWords}
 use Rattle.icu_rules.specs.TakenText.{Takes}
 use Rattle.icu_rules.specs.TakenStatements.{StarBehind, SaysBehindReset, TakesSaid, TakesAnchor, TakesReset}
+use Rattle.icu_rules.proofs.SkipLemmas.{takes_then}
 use Rattle.icu_rules.proofs.BracketLemmas.{take_token}
 
 signed : (s : Strength) (b : Bool) (text rest : List ℕ) {whole : List ℕ} → StarBehind b text rest → whole ≡ relation_sign_text s ++ text → (mine : List ℕ) × IsRelationSign s b mine × (whole ≡ mine ++ rest)
@@ -45,35 +46,32 @@ extension_of (c ∷ cs) some = refl
 pub take_context : {text r1 r2 rest : List ℕ} (after first second : List ℕ) → 0 < length first → Takes text (string first ∷ []) r1 → Takes r1 [] r2 → r2 ≡ 124 ∷ after → Takes after (string second ∷ []) rest → Takes text (prefix_tokens first ++ string second ∷ []) rest
 take_context {text} {r1} {r2} {rest} after first second some a b e d =
     subst (λ ts. Takes text (ts ++ string second ∷ []) rest) (sym (prefix_of first some))
-    (λ more s. a (prefix_sign ∷ string second ∷ more) (b (prefix_sign ∷ string second ∷ more)
-    (take_token after prefix_sign (124 ∷ []) refl e (string second ∷ more) (d more s))))
+    (takes_then (string first ∷ []) (prefix_sign ∷ string second ∷ []) a
+    (takes_then [] (prefix_sign ∷ string second ∷ []) b
+    (takes_then (prefix_sign ∷ []) (string second ∷ []) (take_token after prefix_sign (124 ∷ []) refl e) d)))
 
 pub take_extension : {text mid rest : List ℕ} (after cs : List ℕ) → 0 < length cs → Takes text [] mid → mid ≡ 47 ∷ after → Takes after (string cs ∷ []) rest → Takes text (extension_tokens cs) rest
 take_extension {text} {mid} {rest} after cs some a e d =
     subst (λ ts. Takes text ts rest) (sym (extension_of cs some))
-    (λ more s. a (extension_sign ∷ string cs ∷ more)
-    (take_token after extension_sign (47 ∷ []) refl e (string cs ∷ more) (d more s)))
-
-pub takes_then : (a b c : List ℕ) (ts us : List Token) → Takes a ts b → Takes b us c → Takes a (ts ++ us) c
-takes_then a b c ts us first second more s =
-    subst (λ k. SpellsTokens k a) (sym (append_assoc ts us more)) (first (us ++ more) (second more s))
+    (takes_then [] (extension_sign ∷ string cs ∷ []) a
+    (takes_then (extension_sign ∷ []) (string cs ∷ []) (take_token after extension_sign (47 ∷ []) refl e) d))
 
 -- what stands behind the sign of a relation: its string between what stands before it and its extension
 pub take_parts : (a b c : List ℕ) (ts us : List Token) (cs : List ℕ) → Takes a (ts ++ string cs ∷ []) b → Takes b us c → Takes a (ts ++ string cs ∷ us) c
 take_parts a b c ts us cs first second =
-    subst (λ k. Takes a k c) (append_assoc ts (string cs ∷ []) us) (takes_then a b c (ts ++ string cs ∷ []) us first second)
+    subst (λ k. Takes a k c) (append_assoc ts (string cs ∷ []) us) (takes_then (ts ++ string cs ∷ []) us first second)
 
 pub take_position : {text mid rest : List ℕ} {said : Said} (p : LogicalPosition) → Takes text [] mid → said ≡ said_by.Position p → TakesSaid mid said rest → TakesAnchor text (anchors.Position p) rest
 take_position {text} {mid} {rest} p blanks e (words, says, takes) =
     let named : SaysBehindReset (said_by.Position p) words = subst (λ s. SaysBehindReset s words) e says in
-    (bracket words ∷ [], (words, named, refl), λ more s. blanks (bracket words ∷ more) (takes more s))
+    (bracket words ∷ [], (words, named, refl), takes_then [] (bracket words ∷ []) blanks takes)
 
 pub reset_position : {text mid rest : List ℕ} {said : Said} (p : LogicalPosition) → Takes text [] mid → said ≡ said_by.Position p → TakesSaid mid said rest → TakesReset text (record { before = None; anchor = anchors.Position p }) rest
 reset_position {text} {mid} {rest} p blanks e (words, says, takes) =
     let named : SaysBehindReset (said_by.Position p) words = subst (λ s. SaysBehindReset s words) e says in (
       bracket words ∷ [],
       ([], bracket words ∷ [], refl, (words, named, refl), refl),
-      λ more s. blanks (bracket words ∷ more) (takes more s),
+      takes_then [] (bracket words ∷ []) blanks takes,
     )
 
 pub reset_before : {text mid after rest : List ℕ} {said : Said} (level : Strength) (anchor : Anchor) → Takes text [] mid → said ≡ said_by.Before level → TakesSaid mid said after → TakesAnchor after anchor rest → TakesReset text (record { before = Some level; anchor = anchor }) rest
@@ -81,7 +79,7 @@ reset_before {text} {mid} {after} {rest} level anchor blanks e (words, says, tak
     let named : SaysBehindReset (said_by.Before level) words = subst (λ s. SaysBehindReset s words) e says in (
       bracket words ∷ tokens,
       (bracket words ∷ [], tokens, (named.0, named.1, ap (λ ws. bracket ws ∷ []) named.2), are, refl),
-      λ more s. blanks (bracket words ∷ tokens ++ more) (takes (tokens ++ more) (more_takes more s)),
+      takes_then [] (bracket words ∷ tokens) blanks (takes_then (bracket words ∷ []) tokens takes more_takes),
     )
 
 -- one text more

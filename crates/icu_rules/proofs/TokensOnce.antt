@@ -37,7 +37,7 @@ is_white_then : (b w : Bool) (text : List ℕ) → cond b (is_blank true text) (
 is_white_then true w text h e = cc
 is_white_then false w text h e = (and_parts w (is_blank false text) h).0
 
-blank_head : (c : ℕ) (text : List ℕ) → is_blank false (c ∷ text) ≡ true → is_white c ≡ false → c ≢ 35 → ⊥
+pub blank_head : (c : ℕ) (text : List ℕ) → is_blank false (c ∷ text) ≡ true → is_white c ≡ false → c ≢ 35 → ⊥
 unfolding is_blank
 blank_head c text h w n =
     let other : nat_eq c 35 ≡ false = grind (arith, nat_tests) in
@@ -103,7 +103,7 @@ trail_ends bs ys (inr (blank, comment, h, (inside, same, o), f)) k v e =
 
 -- ---- the first character of a token
 
-data Kind : Type 0 where
+pub data Kind : Type 0 where
   resets : Kind
   relates : Kind
   ends_prefix : Kind
@@ -113,7 +113,7 @@ data Kind : Type 0 where
   spells : Kind
   brackets : Kind
 
-abbrev kind : Token → Kind
+abbrev pub kind : Token → Kind
 kind reset_sign = resets
 kind (relation_sign strength starred) = relates
 kind prefix_sign = ends_prefix
@@ -125,7 +125,7 @@ kind (bracket words) = brackets
 kind (set_bracket word set) = brackets
 
 -- the kind of what begins with a character
-abbrev kind_at : ℕ → Kind
+abbrev pub kind_at : ℕ → Kind
 kind_at c =
     cond (nat_eq c 38) resets (cond (nat_eq c 60) relates (cond (nat_eq c 61) relates (cond (nat_eq c 59) relates
     (cond (nat_eq c 44) relates (cond (nat_eq c 124) ends_prefix (cond (nat_eq c 47) extends (cond (nat_eq c 45) spans
@@ -140,14 +140,14 @@ unfolding is_plain is_white is_syntax
 plain_kind c h = rw (apart 38 c h refl, apart 60 c h refl, apart 61 c h refl, apart 59 c h refl, apart 44 c h refl, apart 124 c h refl, apart 47 c h refl, apart 45 c h refl, apart 33 c h refl, apart 91 c h refl, apart 64 c h refl) refl
 
 -- what a token begins with
-abbrev Begins : Token → List ℕ → Type 0
+abbrev pub Begins : Token → List ℕ → Type 0
 Begins token text = (c : ℕ) × (rest : List ℕ) × (kind_at c ≡ kind token) × (is_white c ≡ false) × (c ≢ 35) × (text ≡ c ∷ rest)
 
 -- what a string begins with
-abbrev BeginsString : List ℕ → Type 0
+abbrev pub BeginsString : List ℕ → Type 0
 BeginsString text = (c : ℕ) × (rest : List ℕ) × ((is_plain c ≡ true) ⊎ (c ≡ 39) ⊎ (c ≡ 92)) × (text ≡ c ∷ rest)
 
-string_begins : {cs text : List ℕ} → cs ≢ [] → SpellsCharacters false cs text → BeginsString text
+pub string_begins : {cs text : List ℕ} → cs ≢ [] → SpellsCharacters false cs text → BeginsString text
 string_begins n ends = absurd (n refl)
 string_begins n (plain {c} {text} h s) = (c, text, inl h, refl)
 string_begins n (apostrophe {text} s) = (39, 39 ∷ text, inr (inl refl), refl)
@@ -180,7 +180,7 @@ sign_starts Tertiary true e = (60, 60 ∷ 60 ∷ 42 ∷ [], refl, refl, omega ar
 sign_starts Quaternary true e = (60, 60 ∷ 60 ∷ 60 ∷ 42 ∷ [], refl, refl, omega arith, e)
 sign_starts Identical true e = (61, 42 ∷ [], refl, refl, omega arith, e)
 
-starts : (token : Token) (text : List ℕ) → SpellsToken token text → Begins token text
+pub starts : (token : Token) (text : List ℕ) → SpellsToken token text → Begins token text
 unfolding is_white
 starts reset_sign text e = (38, [], refl, refl, omega arith, e)
 starts (relation_sign strength starred) text s = sign_starts strength starred s
@@ -271,7 +271,7 @@ string_ended (token ∷ more) text n (b ∷ blank, mine, rest, h, s, m, e) = end
 
 -- ---- the sign of a relation
 
-abbrev is_sign : ℕ → Bool
+abbrev pub is_sign : ℕ → Bool
 is_sign c = nat_eq c 60 || nat_eq c 61 || nat_eq c 59 || nat_eq c 44 || nat_eq c 42
 
 abbrev angles : List ℕ → ℕ
@@ -323,7 +323,7 @@ blank_no_sign c text h = elim (cases_Bool (nat_eq c 35)) [
   | inr e ↦ white_no_sign c (is_white_then (nat_eq c 35) (is_white c) text h e)
 ]
 
-string_no_sign : {text : List ℕ} → BeginsString text → (rest : List ℕ) → StopsAt is_sign (text ++ rest)
+pub string_no_sign : {text : List ℕ} → BeginsString text → (rest : List ℕ) → StopsAt is_sign (text ++ rest)
 string_no_sign (c, t, inl h, e) rest = subst (λ u. StopsAt is_sign (u ++ rest)) (sym e) (plain_no_sign c h)
 string_no_sign (c, t, inr (inl h), e) rest =
     subst (λ u. StopsAt is_sign (u ++ rest)) (sym e) (subst (λ k. is_sign k ≡ false) (sym h) refl)
@@ -331,7 +331,7 @@ string_no_sign (c, t, inr (inr h), e) rest =
     subst (λ u. StopsAt is_sign (u ++ rest)) (sym e) (subst (λ k. is_sign k ≡ false) (sym h) refl)
 
 -- what follows the sign of a relation ends it
-sign_ended : (more : List Token) (text : List ℕ) → SomeString more → SpellsTokens more text → StopsAt is_sign text
+pub sign_ended : (more : List Token) (text : List ℕ) → SomeString more → SpellsTokens more text → StopsAt is_sign text
 sign_ended [] text n s = absurd n
 sign_ended (reset_sign ∷ more) text n s = absurd n
 sign_ended (relation_sign strength starred ∷ more) text n s = absurd n

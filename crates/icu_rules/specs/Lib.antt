@@ -7,5 +7,6 @@ pub mod TakenText
 pub mod TakenStatements
 pub mod Imports
 pub mod RulePlaces
+pub mod TakenFaults
 pub mod Sayings
 pub mod RuleLaws

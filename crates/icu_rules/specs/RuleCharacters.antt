@@ -1,5 +1,5 @@
 -- What the characters of rules are for (UTS #35 part 5, "Collation Tailorings").
-use Rattle.std.specs.Prelude.{ℕ, Bool, true, false, nat_le, ◌==◌, ◌||◌, ◌&&◌, not, List, [], ◌∷◌, ◌++◌, IsTrue, ◌≡◌, ◌⊎◌, if◌then◌else◌}
+use Rattle.std.specs.Prelude.{ℕ, Bool, true, false, nat_le, ◌==◌, ◌||◌, ◌&&◌, not, List, [], ◌∷◌, ◌++◌, IsTrue, ◌≡◌, ◌≢◌, ◌⊎◌, if◌then◌else◌}
 use Rattle.std.specs.List.{list_all}
 
 -- white space, which separates: Pattern_White_Space of Unicode
@@ -44,6 +44,11 @@ is_blank false (c ∷ text) = if c == 35 then is_blank true text else is_white c
 -- what may stand between what is said: white space and comments
 abbrev pub IsBlank : List ℕ → Type 0
 IsBlank text = IsTrue (is_blank false text)
+
+-- text that begins with no blank
+abbrev pub BeginsNoBlank : List ℕ → Type 0
+BeginsNoBlank [] = Unit {0}
+BeginsNoBlank (c ∷ text) = (is_white c ≡ false) × (c ≢ 35)
 
 -- a comment without the end of its line, as may stand at the end
 abbrev pub IsOpenComment : List ℕ → Type 0

@@ -2,7 +2,7 @@
 use Rattle.std.specs.Prelude.{ℕ, Bool, not, ◌≤◌, List, [], ◌∷◌, ◌++◌, length, map, IsTrue, ◌≡◌, ◌⊎◌}
 use Rattle.std.specs.List.{list_all}
 use Rattle.icu_rules.specs.RuleCharacters.{is_line_end, is_word_character, IsWhite}
-use Rattle.icu_rules.specs.RuleStrings.{WritesInHex, SpellsEscape, SpellsCharacters, SpellsCharacter}
+use Rattle.icu_rules.specs.RuleStrings.{WritesInHex, IsNoQuote, SpellsEscape, SpellsCharacters, SpellsCharacter}
 use Rattle.icu_rules.specs.declared.brackets.Bracket.{Bracket}
 use Rattle.icu_rules.specs.declared.brackets.Bracket.TheVariants as brackets
 use Rattle.icu_rules.specs.declared.statement.CharacterRange.{CharacterRange}
@@ -19,9 +19,11 @@ SkipsLine text rest =
     × (text ≡ line ++ end ∷ rest))
     ⊎ (IsTrue (list_all (λ c. not (is_line_end c)) text) × (rest ≡ []))
 
--- the text goes on with the tokens and then the rest: whatever tokens the rest spells follow them
+-- The text goes on with the tokens and then with the rest: whatever tokens a beginning of the rest spells follow them,
+-- and what stands behind it is left.
 abbrev pub Takes : List ℕ → List Token → List ℕ → Type 0
-Takes text tokens rest = (more : List Token) → SpellsTokens more rest → SpellsTokens (tokens ++ more) text
+Takes text tokens rest = (more : List Token) (tail after : List ℕ) → rest ≡ tail ++ after → SpellsTokens more tail
+    → (whole : List ℕ) × SpellsTokens (tokens ++ more) whole × (text ≡ whole ++ after)
 
 -- the text is so many digits, which write the character, and the rest
 abbrev pub TakesDigits : List ℕ → ℕ → ℕ → List ℕ → Type 0
@@ -43,11 +45,11 @@ abbrev pub TakesEscape : List ℕ → ℕ → List ℕ → Type 0
 TakesEscape text c rest = (escape : List ℕ) × SpellsEscape c escape × (text ≡ escape ++ rest)
 
 -- The text goes on with characters of a string, and then with the rest, within quotes or not, as before and as behind
--- say: whatever characters the rest goes on with follow them.
+-- say: whatever characters follow there, with no apostrophe first where the rest has none, the part spells with them.
 abbrev pub TakesCharacters : Bool → List ℕ → List ℕ → Bool → List ℕ → Type 0
-TakesCharacters before text cs behind rest = (more tail after : List ℕ) → rest ≡ tail ++ after
-    → SpellsCharacters behind more tail
-    → (whole : List ℕ) × SpellsCharacters before (cs ++ more) whole × (text ≡ whole ++ after)
+TakesCharacters before text cs behind rest = (part : List ℕ) × (text ≡ part ++ rest)
+    × ((more tail : List ℕ) → (IsNoQuote rest → IsNoQuote tail) → SpellsCharacters behind more tail
+    → SpellsCharacters before (cs ++ more) (part ++ tail))
 
 -- the text is characters of words, and the rest
 abbrev pub SkipsWord : List ℕ → List ℕ → Type 0

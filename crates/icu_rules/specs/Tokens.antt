@@ -1,6 +1,6 @@
 -- The signs, strings and brackets that rules are written in, and how each is spelled (UTS #35 part 5, "Collation
 -- Tailorings").
-use Rattle.std.specs.Prelude.{ℕ, Bool, true, false, not, ◌≤◌, List, [], ◌∷◌, ◌++◌, IsTrue, ◌≡◌, ◌≢◌, ◌⊎◌, codes}
+use Rattle.std.specs.Prelude.{ℕ, Bool, true, false, not, ◌+◌, ◌==◌, if◌then◌else◌, ◌≤◌, List, [], ◌∷◌, ◌++◌, IsTrue, ◌≡◌, ◌≢◌, ◌⊎◌, codes}
 use Rattle.std.specs.List.{list_all}
 use Rattle.icu_options.specs.declared.settings.Strength.{Strength}
 use Rattle.icu_options.specs.declared.settings.Strength.TheVariants.{Primary, Secondary, Tertiary, Quaternary, Identical}
@@ -49,6 +49,23 @@ IsOldSign Identical text = ⊥
 abbrev pub IsRelationSign : Strength → Bool → List ℕ → Type 0
 IsRelationSign strength false text = (text ≡ relation_sign_text strength) ⊎ IsOldSign strength text
 IsRelationSign strength true text = text ≡ relation_sign_text strength ++ codes "*"
+
+-- how many `<` a text begins with
+abbrev pub angles_before : List ℕ → ℕ
+angles_before [] = 0
+angles_before (c ∷ text) = if c == 60 then angles_before text + 1 else 0
+
+-- the strength of so many `<`; of none, that of `=`
+abbrev pub level_of_angles : ℕ → Strength
+level_of_angles n =
+    if n == 0 then Identical else if n == 1 then Primary else if n == 2 then Secondary else if n == 3 then Tertiary
+    else Quaternary
+
+-- the strength of the longest sign of a relation that a text begins with
+abbrev pub strength_at : List ℕ → Strength
+strength_at [] = Identical
+strength_at (c ∷ text) =
+    if c == 59 then Secondary else if c == 44 then Tertiary else level_of_angles (angles_before (c ∷ text))
 
 -- text that doesn't go on with the word before it
 abbrev pub IsNoWord : List ℕ → Type 0

@@ -1,6 +1,6 @@
 //! White space and comments.
 ghost use Rattle.std.specs.Prelude.{◌≡◌, ◌≤◌, length, [], IfOk};
-ghost use Rattle.icu_rules.specs.RuleCharacters.{is_white, is_line_end, is_syntax, is_plain, is_word_character};
+ghost use Rattle.icu_rules.specs.RuleCharacters.{is_white, is_line_end, is_syntax, is_plain, is_word_character, BeginsNoBlank};
 ghost use Rattle.icu_rules.specs.TakenText.{SkipsWhite, SkipsLine, Takes};
 
 use crate::first::split_first;
@@ -87,6 +87,7 @@ fn skip_line(text: &[char]) -> &[char]
 /// What follows the white space and the comments that a text begins with.
 pub(crate) fn skip_blanks(text: &[char]) -> &[char]
     ensures takes { Takes text.now [] result.now }
+    ensures ends { BeginsNoBlank result.now }
     ensures len { length result.now ≤ length text.now }
 {
     let mut rest = text;

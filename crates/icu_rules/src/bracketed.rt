@@ -1,8 +1,10 @@
 //! Statements in brackets.
-ghost use Rattle.std.specs.Prelude.{◌≡◌, ◌≤◌, [], ◌∷◌, length, map, codes, IfOk};
+ghost use Rattle.std.specs.Prelude.{◌≡◌, ◌≤◌, [], ◌∷◌, length, map, codes, IfOk, IfErr};
 ghost use Rattle.icu_rules.specs.Tokens.{bracket, set_bracket};
 ghost use Rattle.icu_rules.specs.Statements.{AreStatement, WritesWord, WriteWords, setting_tokens};
 ghost use Rattle.icu_rules.specs.TakenStatements.{TakesStatement, IsUnrelated};
+ghost use Rattle.icu_rules.specs.TakenFaults.{IsHere, IsInBracket};
+ghost use Rattle.icu_rules.specs.RulePlaces.{sort_of, of_part};
 
 use crate::brackets::{Bracket, is_word, only_word, read_bracket, split_words};
 use crate::rules_error::RulesErrorKind;
@@ -35,6 +37,7 @@ fn groups_of(alloc: Global, text: &[char], words: &[&[char]]) -> Result<Statemen
     ensures says { IfOk result (λ s. AreStatement s
         (bracket (codes "reorder" ∷ map (λ word. word.now) words.now) ∷ [])) }
     ensures unrelated { IfOk result IsUnrelated }
+    ensures fault { IfErr result (λ e. IsHere e text.now) }
 {
     if words.is_empty() {
         return Err(UnplacedError::at(text, RulesErrorKind::UnknownValue));
@@ -52,6 +55,7 @@ fn named(
 ) -> Result<Statement, UnplacedError>
     ensures says { IfOk result (λ s. AreStatement s (setting_tokens name.now value.now)) }
     ensures unrelated { IfOk result IsUnrelated }
+    ensures fault { IfErr result (λ e. IsHere e text.now) }
 {
     if is_word(name, b"import") {
         let tag = text_of(alloc, value)?;
@@ -64,7 +68,9 @@ fn named(
 }
 
 /// Why words that are no name and value are no setting.
-fn refused_words(name: &[char]) -> RulesErrorKind {
+fn refused_words(name: &[char]) -> RulesErrorKind
+    ensures { sort_of result ≡ of_part }
+{
     if is_word(name, b"import") {
         return RulesErrorKind::UnknownValue;
     }
@@ -79,6 +85,7 @@ fn worded(alloc: Global, text: &[char], words: &[&[char]]) -> Result<Statement, 
     ensures says { IfOk result (λ s.
         AreStatement s (bracket (map (λ word. word.now) words.now) ∷ [])) }
     ensures unrelated { IfOk result IsUnrelated }
+    ensures fault { IfErr result (λ e. IsHere e text.now) }
 {
     let Some((name, rest)) = split_words(words) else {
         return Err(UnplacedError::at(text, RulesErrorKind::UnknownSetting));
@@ -100,6 +107,7 @@ fn of_set(
 ) -> Result<Statement, UnplacedError>
     ensures says { IfOk result (λ s. AreStatement s (set_bracket word.now ranges.items ∷ [])) }
     ensures unrelated { IfOk result IsUnrelated }
+    ensures fault { IfErr result (λ e. IsHere e text.now) }
 {
     if is_word(word, b"suppressContractions") {
         Ok(Statement::Setting(RuleSetting::SuppressContractions(ranges)))
@@ -121,6 +129,7 @@ pub(crate) fn read_bracketed<'t>(
     ensures len { IfOk result (λ r. length r.1.now ≤ length inside.now) }
     ensures taken { IfOk result (λ r. TakesStatement text.now r.0 r.1.now) }
     ensures unrelated { IfOk result (λ r. IsUnrelated r.0) }
+    ensures fault { IfErr result (λ e. IsInBracket e text.now) }
 {
     let (bracket, after) = read_bracket(alloc, text, inside)?;
     match bracket {

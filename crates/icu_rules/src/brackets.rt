@@ -1,9 +1,11 @@
 //! Words and sets in brackets.
-ghost use Rattle.std.specs.Prelude.{◌≡◌, ◌+◌, ◌<◌, ◌≤◌, [], ◌∷◌, ◌++◌, length, map, MatchOption, IsTrue, IfOk, IfSome};
+ghost use Rattle.std.specs.Prelude.{◌≡◌, ◌+◌, ◌<◌, ◌≤◌, [], ◌∷◌, ◌++◌, length, map, MatchOption, IsTrue, IfOk, IfErr, IfSome};
 ghost use Rattle.std.specs.List.{list_all};
 ghost use Rattle.icu_rules.specs.RuleCharacters.{is_word_character};
 ghost use Rattle.icu_rules.specs.Tokens.{IsNoWord};
 ghost use Rattle.icu_rules.specs.TakenText.{SkipsWord, TakesWords, TakesMember, TakesRange, TakesSet, Takes, bracket_token};
+ghost use Rattle.icu_rules.specs.TakenFaults.{IsHere, IsInBracket};
+ghost use Rattle.icu_rules.specs.RulePlaces.{sort_of, of_part};
 
 use crate::blanks::{is_plain, is_word_character, skip_white};
 use crate::escapes::read_escape;
@@ -121,6 +123,7 @@ fn read_member(text: &[char]) -> Option<(char, &[char])>
 fn read_range(text: &[char]) -> Result<(CharacterRange, &[char]), RulesErrorKind>
     ensures len { IfOk result (λ r. length r.1.now < length text.now) }
     ensures taken { IfOk result (λ r. TakesRange text.now r.0 r.1.now) }
+    ensures part { IfErr result (λ kind. sort_of kind ≡ of_part) }
 {
     let Some((first, after)) = read_member(text) else {
         return Err(RulesErrorKind::CharacterSet);
@@ -145,6 +148,7 @@ fn read_set<'t>(
 ) -> Result<(Vec<CharacterRange>, &'t [char]), UnplacedError>
     ensures len { IfOk result (λ r. length r.1.now ≤ length inside.now) }
     ensures taken { IfOk result (λ r. TakesSet inside.now r.0.items r.1.now) }
+    ensures fault { IfErr result (λ e. IsHere e bracket.now) }
 {
     let mut ranges = Vec::new(alloc);
     let mut rest = skip_white(inside);
@@ -173,6 +177,7 @@ pub(crate) fn read_bracket<'t>(
     requires opened { text.now ≡ 91 ∷ inside.now }
     ensures len { IfOk result (λ r. length r.1.now ≤ length inside.now) }
     ensures taken { IfOk result (λ r. Takes text.now (bracket_token r.0 ∷ []) r.1.now) }
+    ensures fault { IfErr result (λ e. IsInBracket e text.now) }
 {
     let (words, rest) = read_words(alloc, inside)?;
     if let Some(after) = behind(rest, ']') {

@@ -1,5 +1,6 @@
 //! Which statements may follow which.
-ghost use Rattle.std.specs.Prelude.{◌≡◌, IsTrue, IfNone};
+ghost use Rattle.std.specs.Prelude.{◌≡◌, false, IsTrue, IfNone, IfSome};
+ghost use Rattle.icu_rules.specs.RulePlaces.{sort_of, misplaced};
 ghost use Rattle.icu_rules.specs.Statements.{level_number};
 
 use crate::rules_error::RulesErrorKind;
@@ -35,7 +36,8 @@ impl Chain {
 
     /// Whether the reset before has its relation.
     pub(crate) fn is_complete(self) -> bool
-        ensures { IsTrue result → IsComplete self }
+        ensures complete { IsTrue result → IsComplete self }
+        ensures incomplete { result ≡ false → IsComplete self → ⊥ }
     {
         match self {
             Chain::BehindReset(_) => false,
@@ -45,7 +47,9 @@ impl Chain {
 
     /// Why no relation of this strength may stand here, if it may not.
     pub(crate) fn refusal(self, strength: Strength) -> Option<RulesErrorKind>
-        ensures { IfNone result (MayRelate self strength) }
+        ensures none { IfNone result (MayRelate self strength) }
+        ensures refused { IfSome result (λ kind. MayRelate self strength → ⊥) }
+        ensures sort { IfSome result (λ kind. sort_of kind ≡ misplaced) }
     {
         match self {
             Chain::Outside => Some(RulesErrorKind::Statement),

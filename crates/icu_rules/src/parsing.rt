@@ -1,8 +1,10 @@
 //! Rules, read.
 ghost use Rattle.std.specs.Prelude.{◌≡◌, ◌<◌, ◌≤◌, ◌∷◌, true, false, length, map, chars, IfOk, IfErr};
 ghost use Rattle.icu_rules.specs.Statements.{MayFollow, SpellStatements};
-ghost use Rattle.icu_rules.specs.RulePlaces.{IsPlaced};
+ghost use Rattle.icu_rules.specs.RulePlaces.{BeginOne, IsPlaced, IsPlacedFault};
+ghost use Rattle.icu_rules.specs.RuleCharacters.{BeginsNoBlank};
 ghost use Rattle.icu_rules.specs.TakenStatements.{TakesSign, TakesStatement, IsUnrelated, Relates};
+ghost use Rattle.icu_rules.specs.TakenFaults.{IsPart, IsOtherFault, IsFaultHere, IsFaultIn};
 
 use crate::blanks::skip_blanks;
 use crate::bracketed::read_bracketed;
@@ -27,9 +29,11 @@ fn read_starred_statement<'t>(
 ) -> Result<(Statement, &'t [char]), UnplacedError>
     requires sign { TakesSign text.now sign after.now }
     requires starred { sign.is_starred ≡ true }
+    requires len { length after.now ≤ length text.now }
     ensures len { IfOk result (λ r. length r.1.now ≤ length after.now) }
     ensures relates { IfOk result (λ r. Relates sign.strength r.0) }
     ensures taken { IfOk result (λ r. TakesStatement text.now r.0 r.1.now) }
+    ensures fault { IfErr result (λ e. IsPart BeginOne e text.now) }
 {
     let (relation, rest) = read_starred(alloc, allowance, text, sign.strength, after)?;
     Ok((Statement::Starred(relation), rest))
@@ -44,9 +48,11 @@ fn read_relation_statement<'t>(
 ) -> Result<(Statement, &'t [char]), UnplacedError>
     requires sign { TakesSign text.now sign after.now }
     requires plain { sign.is_starred ≡ false }
+    requires len { length after.now ≤ length text.now }
     ensures len { IfOk result (λ r. length r.1.now ≤ length after.now) }
     ensures relates { IfOk result (λ r. Relates sign.strength r.0) }
     ensures taken { IfOk result (λ r. TakesStatement text.now r.0 r.1.now) }
+    ensures fault { IfErr result (λ e. IsPart BeginOne e text.now) }
 {
     let (relation, rest) = read_relation(alloc, text, sign.strength, after)?;
     Ok((Statement::Relation(relation), rest))
@@ -61,9 +67,11 @@ fn read_related<'t>(
     after: &'t [char],
 ) -> Result<(Statement, &'t [char]), UnplacedError>
     requires sign { TakesSign text.now sign after.now }
+    requires len { length after.now ≤ length text.now }
     ensures len { IfOk result (λ r. length r.1.now ≤ length after.now) }
     ensures relates { IfOk result (λ r. Relates sign.strength r.0) }
     ensures taken { IfOk result (λ r. TakesStatement text.now r.0 r.1.now) }
+    ensures fault { IfErr result (λ e. IsPart BeginOne e text.now) }
 {
     if sign.is_starred {
         read_starred_statement(alloc, allowance, text, sign, after)
@@ -82,6 +90,7 @@ fn read_reset_statement<'t>(
     ensures len { IfOk result (λ r. length r.1.now ≤ length after.now) }
     ensures unrelated { IfOk result (λ r. IsUnrelated r.0) }
     ensures taken { IfOk result (λ r. TakesStatement text.now r.0 r.1.now) }
+    ensures fault { IfErr result (λ e. IsPart BeginOne e text.now) }
 {
     let (reset, rest) = read_reset(alloc, after)?;
     Ok((Statement::Reset(reset), rest))
@@ -92,6 +101,7 @@ fn read_unrelated(alloc: Global, text: &[char]) -> Result<(Statement, &[char]), 
     ensures len { IfOk result (λ r. length r.1.now < length text.now) }
     ensures unrelated { IfOk result (λ r. IsUnrelated r.0) }
     ensures taken { IfOk result (λ r. TakesStatement text.now r.0 r.1.now) }
+    ensures fault { IfErr result (λ e. IsOtherFault e text.now) }
 {
     let Some((c, after)) = split_first(text) else {
         return Err(UnplacedError::at(text, RulesErrorKind::Statement));
@@ -113,8 +123,11 @@ fn read_statement<'t>(
     before: &[char],
     text: &'t [char],
 ) -> Result<(Statement, &'t [char]), UnplacedError>
+    requires visible { BeginsNoBlank text.now }
+    requires some { 0 < length text.now }
     ensures len { IfOk result (λ r. length r.1.now < length text.now) }
     ensures taken { IfOk result (λ r. TakesStatement text.now r.0 r.1.now) }
+    ensures fault { IfErr result (λ e. IsFaultHere e chain (length before.now) text.now) }
     ensures stands { IfOk result (λ r. MayFollow chain r.0) }
 {
     match read_sign(text) {
@@ -131,8 +144,9 @@ fn read_statement<'t>(
 
 /// The statements of a text.
 fn read_statements(alloc: Global, text: &[char]) -> Result<Vec<PlacedStatement>, UnplacedError>
-    ensures { IfOk result (λ placed.
+    ensures says { IfOk result (λ placed.
         SpellStatements (map (λ p. p.statement) placed.items) text.now) }
+    ensures fault { IfErr result (λ e. IsFaultIn e text.now) }
 {
     let mut statements = Vec::new(alloc);
     let mut allowance = Allowance::new();
@@ -171,6 +185,7 @@ impl Rules {
     pub fn parse(alloc: Global, text: &str) -> Result<Rules, RulesError>
         ensures says { IfOk result (λ rules.
             SpellStatements (map (λ p. p.statement) rules.statements.items) (chars text.now)) }
+        ensures fault { IfErr result (λ error. IsPlacedFault error (chars text.now)) }
         ensures placed { IfErr result (λ error. IsPlaced error (length (chars text.now))) }
     {
         let characters = characters_of(alloc, text)?;

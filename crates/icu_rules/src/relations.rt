@@ -1,9 +1,11 @@
 //! Relations of strings.
-ghost use Rattle.std.specs.Prelude.{◌≡◌, ◌<◌, ◌≤◌, false, [], ◌∷◌, ◌++◌, length, IsTrue, IfOk, IfSome};
-ghost use Rattle.icu_rules.specs.Tokens.{string};
+ghost use Rattle.std.specs.Prelude.{◌≡◌, ◌<◌, ◌≤◌, false, [], ◌∷◌, ◌++◌, length, IsTrue, IfOk, IfErr, IfNone, IfSome};
+ghost use Rattle.icu_rules.specs.Tokens.{string, strength_at};
+ghost use Rattle.icu_rules.specs.RulePlaces.{BeginsNoSign};
 ghost use Rattle.icu_rules.specs.Statements.{prefix_tokens, extension_tokens, relation_parts, BeginsWithClassZero, HasFindableContext};
 ghost use Rattle.icu_rules.specs.TakenText.{Takes};
 ghost use Rattle.icu_rules.specs.TakenStatements.{StarBehind, TakesSign};
+ghost use Rattle.icu_rules.specs.TakenFaults.{AreInner, IsPart, IsSigned};
 
 use crate::blanks::skip_blanks;
 use crate::first::{behind, split_first};
@@ -55,6 +57,7 @@ fn without_star(strength: Strength) -> Sign
 fn read_less(text: &[char]) -> (Sign, &[char])
     ensures len { length result.1.now ≤ length text.now }
     ensures taken { TakesSign (60 ∷ text.now) result.0 result.1.now }
+    ensures longest { result.0.strength ≡ strength_at (60 ∷ text.now) }
 {
     let Some(second) = behind(text, '<') else {
         return with_star(Strength::Primary, text);
@@ -72,6 +75,8 @@ fn read_less(text: &[char]) -> (Sign, &[char])
 pub(crate) fn read_sign(text: &[char]) -> Option<(Sign, &[char])>
     ensures len { IfSome result (λ r. length r.1.now < length text.now) }
     ensures taken { IfSome result (λ r. TakesSign text.now r.0 r.1.now) }
+    ensures longest { IfSome result (λ r. r.0.strength ≡ strength_at text.now) }
+    ensures none { IfNone result (BeginsNoSign text.now) }
 {
     let (c, after) = split_first(text)?;
     match c {
@@ -91,6 +96,7 @@ fn read_context(
     ensures len { IfOk result (λ r. length r.2.now ≤ length text.now) }
     ensures taken { IfOk result (λ r.
         Takes text.now (prefix_tokens r.0.items ++ string r.1.items ∷ []) r.2.now) }
+    ensures fault { IfErr result (λ e. IsPart AreInner e text.now) }
 {
     let (first, rest) = read_string(alloc, text, RulesErrorKind::RelationWithoutString)?;
     match behind(skip_blanks(rest), '|') {
@@ -106,6 +112,7 @@ fn read_context(
 fn read_extension(alloc: Global, text: &[char]) -> Result<(Vec<char>, &[char]), UnplacedError>
     ensures len { IfOk result (λ r. length r.1.now ≤ length text.now) }
     ensures taken { IfOk result (λ r. Takes text.now (extension_tokens r.0.items) r.1.now) }
+    ensures fault { IfErr result (λ e. IsPart AreInner e text.now) }
 {
     match behind(skip_blanks(text), '/') {
         Some(after) => {
@@ -140,10 +147,12 @@ pub(crate) fn read_relation<'t>(
     strength: Strength,
     text: &'t [char],
 ) -> Result<(Relation, &'t [char]), UnplacedError>
+    requires len { length text.now ≤ length sign.now }
     ensures len { IfOk result (λ r. length r.1.now ≤ length text.now) }
     ensures strength { IfOk result (λ r. r.0.strength ≡ strength) }
     ensures context { IfOk result (λ r. HasFindableContext r.0.prefix.items r.0.string.items) }
     ensures taken { IfOk result (λ r. Takes text.now (relation_parts r.0) r.1.now) }
+    ensures fault { IfErr result (λ e. IsSigned e sign.now text.now) }
 {
     let (prefix, string, rest) = read_context(alloc, text)?;
     let (extension, rest) = read_extension(alloc, rest)?;

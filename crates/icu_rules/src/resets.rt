@@ -1,6 +1,8 @@
 //! Resets.
-ghost use Rattle.std.specs.Prelude.{◌≡◌, ◌≤◌, [], ◌∷◌, length, map, codes, IfOk, IfSome};
+ghost use Rattle.std.specs.Prelude.{◌≡◌, ◌≤◌, [], ◌∷◌, length, map, codes, IfOk, IfErr, IfSome};
 ghost use Rattle.icu_rules.specs.TakenStatements.{SaysBehindReset, TakesSaid, TakesAnchor, TakesReset};
+ghost use Rattle.icu_rules.specs.TakenFaults.{IsInBracket, AreNoTokens, IsPart};
+ghost use Rattle.icu_rules.specs.RulePlaces.{sort_of, of_part, IsBeforeLevel};
 
 use crate::blanks::skip_blanks;
 use crate::brackets::{Bracket, is_word, only_word, read_bracket, split_words};
@@ -33,8 +35,9 @@ fn level_behind(words: &[&[char]]) -> Option<Said>
 
 /// What words in a bracket behind `&` say.
 fn said_by(words: &[&[char]]) -> Result<Said, RulesErrorKind>
-    ensures { IfOk result (λ said.
+    ensures says { IfOk result (λ said.
         SaysBehindReset said (map (λ word. word.now) words.now)) }
+    ensures part { IfErr result (λ kind. sort_of kind ≡ of_part) }
 {
     if let Some((first, rest)) = split_words(words) {
         if is_word(first, b"before") {
@@ -56,6 +59,7 @@ fn read_said<'t>(
     requires opened { text.now ≡ 91 ∷ inside.now }
     ensures len { IfOk result (λ r. length r.1.now ≤ length inside.now) }
     ensures taken { IfOk result (λ r. TakesSaid text.now r.0 r.1.now) }
+    ensures fault { IfErr result (λ e. IsInBracket e text.now) }
 {
     let (bracket, after) = read_bracket(alloc, text, inside)?;
     let Bracket::Words(words) = bracket else {
@@ -71,6 +75,7 @@ fn read_said<'t>(
 fn read_anchor(alloc: Global, text: &[char]) -> Result<(Anchor, &[char]), UnplacedError>
     ensures len { IfOk result (λ r. length r.1.now ≤ length text.now) }
     ensures taken { IfOk result (λ r. TakesAnchor text.now r.0 r.1.now) }
+    ensures fault { IfErr result (λ e. IsPart AreNoTokens e text.now) }
 {
     let text = skip_blanks(text);
     let Some(inside) = behind(text, '[') else {
@@ -88,6 +93,7 @@ fn read_anchor(alloc: Global, text: &[char]) -> Result<(Anchor, &[char]), Unplac
 pub(crate) fn read_reset(alloc: Global, text: &[char]) -> Result<(Reset, &[char]), UnplacedError>
     ensures len { IfOk result (λ r. length r.1.now ≤ length text.now) }
     ensures taken { IfOk result (λ r. TakesReset text.now r.0 r.1.now) }
+    ensures fault { IfErr result (λ e. IsPart IsBeforeLevel e text.now) }
 {
     let text = skip_blanks(text);
     let Some(inside) = behind(text, '[') else {

@@ -1,10 +1,11 @@
 //! Relations of single characters.
-ghost use Rattle.std.specs.Prelude.{◌≡◌, ◌<◌, ◌≤◌, [], ◌∷◌, ◌++◌, length, map, drop, vec_len, IsTrue, IfOk, IfSome, OnOk};
+ghost use Rattle.std.specs.Prelude.{◌≡◌, ◌<◌, ◌≤◌, [], ◌∷◌, ◌++◌, length, map, drop, vec_len, IsTrue, IfOk, IfErr, IfSome, OnOk};
 ghost use Rattle.std.specs.List.{AllByRecursion};
 ghost use Rattle.icu_rules.specs.Tokens.{range_sign};
 ghost use Rattle.icu_rules.specs.Statements.{IsInert, IsInertRange, single};
 ghost use Rattle.icu_rules.specs.TakenText.{Takes};
 ghost use Rattle.icu_rules.specs.TakenStatements.{TakesStarred};
+ghost use Rattle.icu_rules.specs.TakenFaults.{IsHere, IsSigned};
 
 use crate::blanks::skip_blanks;
 use crate::first::behind;
@@ -59,6 +60,7 @@ impl Allowance {
         ensures range { IfOk result (λ range. range ≡ record { first = first; last = last }) }
         ensures inert { IfOk result (λ range. IsInertRange range) }
         ensures ascends { IfOk result (λ range. first ≤ last) }
+        ensures fault { IfErr result (λ e. IsHere e place.now) }
     {
         if last < first {
             return Err(UnplacedError::at(place, RulesErrorKind::DescendingRange));
@@ -85,6 +87,7 @@ impl Allowance {
             (ranges.new.items ≡ ranges.old.items ++ map single characters.now) }
         ensures inert { OnOk result (AllByRecursion IsInertRange ranges.old.items
             → AllByRecursion IsInertRange ranges.new.items) }
+        ensures fault { IfErr result (λ e. IsHere e place.now) }
     {
         for c in characters {
             let range = self.take(place, *c, *c)?;
@@ -135,8 +138,10 @@ fn read_ranges<'t>(
     sign: &[char],
     text: &'t [char],
 ) -> Result<(Vec<CharacterRange>, &'t [char]), UnplacedError>
+    requires len { length text.now ≤ length sign.now }
     ensures len { IfOk result (λ r. length r.1.now ≤ length text.now) }
     ensures taken { IfOk result (λ r. TakesStarred text.now r.0.items r.1.now) }
+    ensures fault { IfErr result (λ e. IsSigned e sign.now text.now) }
 {
     let mut ranges = Vec::new(alloc);
     let (mut string, mut rest) = read_string(
@@ -170,9 +175,11 @@ pub(crate) fn read_starred<'t>(
     strength: Strength,
     text: &'t [char],
 ) -> Result<(StarredRelation, &'t [char]), UnplacedError>
+    requires len { length text.now ≤ length sign.now }
     ensures len { IfOk result (λ r. length r.1.now ≤ length text.now) }
     ensures strength { IfOk result (λ r. r.0.strength ≡ strength) }
     ensures taken { IfOk result (λ r. TakesStarred text.now r.0.ranges.items r.1.now) }
+    ensures fault { IfErr result (λ e. IsSigned e sign.now text.now) }
 {
     let (ranges, rest) = read_ranges(alloc, allowance, sign, text)?;
     Ok((StarredRelation { strength, ranges }, rest))

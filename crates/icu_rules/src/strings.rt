@@ -1,9 +1,11 @@
 //! Strings, with quotes and escapes.
-ghost use Rattle.std.specs.Prelude.{◌≡◌, ◌+◌, ◌<◌, ◌≤◌, ◌||◌, not, false, [], ◌∷◌, length, IfOk, IfSome, vec_len};
+ghost use Rattle.std.specs.Prelude.{◌≡◌, ◌+◌, ◌<◌, ◌≤◌, ◌||◌, not, false, [], ◌∷◌, length, IsTrue, IfOk, IfErr, IfSome, vec_len};
 ghost use Rattle.std.specs.List.{list_all};
 ghost use Rattle.icu_rules.specs.RuleCharacters.{is_plain, is_reserved};
 ghost use Rattle.icu_rules.specs.Tokens.{string};
 ghost use Rattle.icu_rules.specs.TakenText.{Takes, TakesCharacters};
+ghost use Rattle.icu_rules.specs.TakenFaults.{IsHere, IsInString, AreNoTokens, IsPart};
+ghost use Rattle.icu_rules.specs.RulePlaces.{sort_of, of_part};
 
 use crate::blanks::{is_plain, skip_blanks};
 use crate::escapes::read_escape;
@@ -39,6 +41,7 @@ fn read_character(text: &[char], within: bool) -> Result<Option<(char, &[char])>
     ensures len { IfOk result (λ o. IfSome o (λ r. length r.1.now < length text.now)) }
     ensures taken { IfOk result (λ o. IfSome o (λ r.
         TakesCharacters within text.now (r.0 ∷ []) within r.1.now)) }
+    ensures fault { IfErr result (λ e. IsHere e text.now) }
 {
     let Some((c, after)) = split_first(text) else {
         return Ok(None);
@@ -58,7 +61,10 @@ fn read_character(text: &[char], within: bool) -> Result<Option<(char, &[char])>
 }
 
 /// The new text if that is true, else the old one.
-fn newer<'t>(is_newer: bool, old: &'t [char], new: &'t [char]) -> &'t [char] {
+fn newer<'t>(is_newer: bool, old: &'t [char], new: &'t [char]) -> &'t [char]
+    ensures newer { IsTrue is_newer → result.now ≡ new.now }
+    ensures older { is_newer ≡ false → result.now ≡ old.now }
+{
     if is_newer { new } else { old }
 }
 
@@ -66,6 +72,7 @@ fn newer<'t>(is_newer: bool, old: &'t [char], new: &'t [char]) -> &'t [char] {
 fn read_characters(alloc: Global, text: &[char]) -> Result<(Vec<char>, &[char]), UnplacedError>
     ensures len { IfOk result (λ r. vec_len r.0 + length r.1.now ≤ length text.now) }
     ensures taken { IfOk result (λ r. TakesCharacters false text.now r.0.items false r.1.now) }
+    ensures fault { IfErr result (λ e. IsInString e text.now) }
 {
     let mut characters = Vec::new(alloc);
     let mut opened = text;
@@ -104,9 +111,11 @@ pub(crate) fn read_string(
     text: &[char],
     missing: RulesErrorKind,
 ) -> Result<(Vec<char>, &[char]), UnplacedError>
+    requires part { sort_of missing ≡ of_part }
     ensures some { IfOk result (λ r. 0 < vec_len r.0) }
     ensures len { IfOk result (λ r. length r.1.now < length text.now) }
     ensures taken { IfOk result (λ r. Takes text.now (string r.0.items ∷ []) r.1.now) }
+    ensures fault { IfErr result (λ e. IsPart AreNoTokens e text.now) }
 {
     let text = skip_blanks(text);
     let (characters, rest) = read_characters(alloc, text)?;

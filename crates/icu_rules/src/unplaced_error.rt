@@ -17,10 +17,14 @@ pub enum UnplacedError {
 }
 
 impl UnplacedError {
+    ghost use Rattle.std.specs.Prelude.{◌≡◌, length};
     ghost use Rattle.icu_rules.specs.RulePlaces.{IsPlaced};
+    ghost use Rattle.icu_rules.specs.TakenFaults.{in_text};
 
     /// The error where these characters are left.
-    pub(crate) fn at(rest: &[char], kind: RulesErrorKind) -> Self {
+    pub(crate) fn at(rest: &[char], kind: RulesErrorKind) -> Self
+        ensures { result ≡ UnplacedError.Refused (length rest.now) kind }
+    {
         UnplacedError::Refused {
             left: rest.len(),
             kind,
@@ -29,7 +33,8 @@ impl UnplacedError {
 
     /// The error in rules of so many characters.
     pub(crate) fn in_rules(self, len: usize) -> RulesError
-        ensures { IsPlaced result len }
+        ensures placed { IsPlaced result len }
+        ensures exact { result ≡ in_text self len }
     {
         match self {
             UnplacedError::NoMemory => RulesError::NoMemory,

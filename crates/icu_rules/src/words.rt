@@ -1,7 +1,8 @@
 //! What words in brackets mean.
-ghost use Rattle.std.specs.Prelude.{◌≡◌, ◌≢◌, ◌∷◌, [], map, codes, IfOk, IfSome};
+ghost use Rattle.std.specs.Prelude.{◌≡◌, ◌≢◌, ◌∷◌, [], map, codes, IfOk, IfErr, IfSome};
 ghost use Rattle.icu_rules.specs.RuleWords.{position_words, NamesPosition, level_word, case_level_word, case_first_word, numeric_word, max_variable_word, IsAlternateWord, switch_word};
 ghost use Rattle.icu_rules.specs.Statements.{AreSetting, setting_tokens};
+ghost use Rattle.icu_rules.specs.RulePlaces.{sort_of, of_part};
 
 use crate::brackets::{is_word, only_word, split_words};
 use crate::rules_error::RulesErrorKind;
@@ -236,7 +237,9 @@ fn numeric_of(word: &[char]) -> Option<CollationNumericOrdering>
 
 /// The setting of this name and value, if it is one of those that say how elements are weighted.
 fn weighting_setting(name: &[char], value: &[char]) -> Result<Option<RuleSetting>, RulesErrorKind>
-    ensures { IfOk result (λ o. IfSome o (λ s. AreSetting s (setting_tokens name.now value.now))) }
+    ensures says { IfOk result (λ o. IfSome o (λ s.
+        AreSetting s (setting_tokens name.now value.now))) }
+    ensures part { IfErr result (λ kind. sort_of kind ≡ of_part) }
 {
     let unknown = RulesErrorKind::UnknownValue;
     if is_word(name, b"strength") {
@@ -261,7 +264,8 @@ fn weighting_setting(name: &[char], value: &[char]) -> Result<Option<RuleSetting
 
 /// The setting of this name and value, if it is one of the others.
 fn other_setting(name: &[char], value: &[char]) -> Result<RuleSetting, RulesErrorKind>
-    ensures { IfOk result (λ s. AreSetting s (setting_tokens name.now value.now)) }
+    ensures says { IfOk result (λ s. AreSetting s (setting_tokens name.now value.now)) }
+    ensures part { IfErr result (λ kind. sort_of kind ≡ of_part) }
 {
     let unknown = RulesErrorKind::UnknownValue;
     if is_word(name, b"numericOrdering") {
@@ -289,7 +293,8 @@ fn other_setting(name: &[char], value: &[char]) -> Result<RuleSetting, RulesErro
 
 /// The setting of a name and a value.
 pub(crate) fn setting_of(name: &[char], value: &[char]) -> Result<RuleSetting, RulesErrorKind>
-    ensures { IfOk result (λ s. AreSetting s (setting_tokens name.now value.now)) }
+    ensures says { IfOk result (λ s. AreSetting s (setting_tokens name.now value.now)) }
+    ensures part { IfErr result (λ kind. sort_of kind ≡ of_part) }
 {
     match weighting_setting(name, value)? {
         Some(setting) => Ok(setting),

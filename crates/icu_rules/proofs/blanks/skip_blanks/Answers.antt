@@ -1,19 +1,24 @@
-use Rattle.std.proofs.Common.{rules, arith, nat_eq, ◌≡◌, false}
+use Rattle.std.proofs.Common.{rules, arith, nat_eq, ◌≡◌, false, []}
 use Rattle.std.proofs.lemmas.Bool.Decides.{nat_tests}
-use Rattle.icu_rules.proofs.SkipLemmas.{tokens_white, tokens_comment}
+use Rattle.icu_rules.proofs.SkipLemmas.{takes_nothing, takes_then, takes_white, takes_comment}
 use Rattle.icu_rules.proofs.blanks.skip_blanks.Goals as goal
+
+pub loop-c-init : goal.loop-c-init
+loop-c-init c = record {
+  takes = takes_nothing;
+  len = omega arith;
+}
 
 pub loop-c-preserved : goal.loop-c-preserved
 loop-c-preserved c =
     let other : nat_eq c.in-Some.c 35 ≡ false = grind (arith, nat_tests, c.if-c-eq35.false) in record {
-      takes = λ more s. c.loop-c.invariant.takes more
-          (tokens_white c.in-Some.ensures other (search rules) more s);
+      takes = takes_then [] [] c.loop-c.invariant.takes (takes_white c.in-Some.ensures other (search rules));
       len = search rules;
     }
 
 pub loop-c-preserved-then-c-eq35 : goal.loop-c-preserved-then-c-eq35
 loop-c-preserved-then-c-eq35 c = record {
-  takes = λ more s. c.loop-c.invariant.takes more
-      (tokens_comment c.in-Some.ensures c.if-c-eq35.true c.skip_line-rest.ensures.skips more s);
+  takes = takes_then [] [] c.loop-c.invariant.takes
+      (takes_comment c.in-Some.ensures c.if-c-eq35.true c.skip_line-rest.ensures.skips);
   len = search rules;
 }

@@ -1,4 +1,8 @@
-use Rattle.std.proofs.Common.{◌≤◌, length, map}
+use Rattle.std.proofs.Common.{◌≤◌, ◌≡◌, length, map}
+use Rattle.icu_rules.specs.declared.chain.Chain.TheVariants as chains
+use Rattle.icu_rules.specs.RuleCharacters.{BeginsNoBlank}
+use Rattle.icu_rules.specs.RulePlaces.{AreInLine, chain_behind}
+use Rattle.icu_rules.proofs.FaultLemmas.{Lasts}
 use Rattle.icu_rules.proofs.ParsingLemmas.{Told, Ordered}
 use Rattle.icu_rules.proofs.parsing.read_statements.Given as goal
 
@@ -7,6 +11,10 @@ abbrev pub invariant-loop-rest : goal.invariant-loop-rest
 invariant-loop-rest l = record {
   told : Told (map (λ p. p.statement) l.statements.items) l.fn.text l.rest;
   ordered : Ordered (map (λ p. p.statement) l.statements.items) l.chain;
+  line : AreInLine chains.Outside (map (λ p. p.statement) l.statements.items);
+  chain : chain_behind chains.Outside (map (λ p. p.statement) l.statements.items) ≡ l.chain;
+  last : Lasts (map (λ p. p.statement) l.statements.items) l.fn.text l.before;
+  visible : BeginsNoBlank l.rest;
   len : length l.rest ≤ length l.fn.text;
 }
 

@@ -2,6 +2,13 @@ use Rattle.std.proofs.Common.{ℕ, List, [], ◌∷◌, ◌++◌, ◌≡◌, dro
 use Rattle.icu_rules.specs.declared.statement.CharacterRange.{CharacterRange}
 use Rattle.icu_rules.specs.Statements.{single}
 use Rattle.icu_rules.proofs.StarredLemmas.{Naming, naming_first, naming_step, naming_done, inert_push}
+use Rattle.icu_rules.specs.declared.unplaced_error.UnplacedError.{UnplacedError}
+use Rattle.icu_rules.specs.declared.unplaced_error.UnplacedError.TheVariants.{Refused}
+use Rattle.icu_rules.specs.declared.rules_error.RulesErrorKind.TheVariants as kinds
+use Rattle.std.proofs.Common.{inl, inr, refl, length, rules}
+use Rattle.icu_rules.specs.TakenFaults.{IsSigned}
+use Rattle.icu_rules.proofs.FaultLemmas.{handed_on}
+use Rattle.icu_rules.proofs.FaultPlaceLemmas.{first_part, named_here, named_part}
 use Rattle.icu_rules.proofs.starred.read_ranges.Goals as goal
 
 pub loop-after-init : goal.loop-after-init
@@ -48,3 +55,33 @@ returns-clause-taken c =
     ∙ ap (λ (xs : List ℕ). c.loop-after.ranges.items ++ map single xs)
     (c.from_place-2.ensures ∙ ap (λ (xs : List ℕ). drop c.loop-after.from xs) c.as_slice-2.ensures.value))
     c.loop-after.invariant.naming (c.in_ok-add_singles-2.ensures.inert c.loop-after.invariant.inert)
+
+pub returns-in_err-string-clause-fault : goal.returns-in_err-string-clause-fault
+returns-in_err-string-clause-fault c =
+    handed_on _ c.in_err-string.field-0.0 (λ (e : UnplacedError). IsSigned e c.args.sign.now c.args.text.now) (search rules)
+    (inl (first_part c.in_err-string.field-0.0 c.args.text.now c.in_err-string.ensures.fault))
+
+pub returns-in_default-split_last-clause-fault : goal.returns-in_default-split_last-clause-fault
+returns-in_default-split_last-clause-fault c =
+    subst (λ (e : UnplacedError). IsSigned e c.args.sign.now c.args.text.now) (sym c.at.ensures)
+    (inl (named_here (Refused (length c.loop-after.rest.now) kinds.RangeWithoutStart) c.loop-after.ranges.items _ c.loop-after.invariant.naming (refl, refl)))
+
+pub returns-in_err-add_singles-clause-fault : goal.returns-in_err-add_singles-clause-fault
+returns-in_err-add_singles-clause-fault c =
+    handed_on _ c.in_err-add_singles.field-0.0 (λ (e : UnplacedError). IsSigned e c.args.sign.now c.args.text.now) (search rules)
+    (inr c.in_err-add_singles.ensures.fault)
+
+pub returns-in_err-next-clause-fault : goal.returns-in_err-next-clause-fault
+returns-in_err-next-clause-fault c =
+    handed_on _ c.in_err-next.field-0.0 (λ (e : UnplacedError). IsSigned e c.args.sign.now c.args.text.now) (search rules)
+    (inl (named_part c.in_err-next.field-0.0 c.loop-after.ranges.items _ c.loop-after.invariant.naming c.in-Some.ensures.taken c.in_err-next.ensures.fault))
+
+pub returns-in_err-range-clause-fault : goal.returns-in_err-range-clause-fault
+returns-in_err-range-clause-fault c =
+    handed_on _ c.in_err-range.field-0.0 (λ (e : UnplacedError). IsSigned e c.args.sign.now c.args.text.now) (search rules)
+    (inl (named_here c.in_err-range.field-0.0 c.loop-after.ranges.items _ c.loop-after.invariant.naming c.in_err-range.ensures.fault))
+
+pub returns-in_err-add_singles-2-clause-fault : goal.returns-in_err-add_singles-2-clause-fault
+returns-in_err-add_singles-2-clause-fault c =
+    handed_on _ c.in_err-add_singles-2.field-0.0 (λ (e : UnplacedError). IsSigned e c.args.sign.now c.args.text.now) (search rules)
+    (inr c.in_err-add_singles-2.ensures.fault)
