@@ -12,19 +12,24 @@ use Rattle.icu_tailoring.specs.declared.symbolic.SymbolicWeight.TheVariants.{Roo
 use Rattle.icu_tailoring.specs.declared.symbolic.SymbolicElement.{SymbolicElement}
 use Rattle.icu_tailoring.specs.WeightTrees.{weight_at_level}
 use Rattle.icu_tailoring.specs.TailoredRoots.{Root}
-use Rattle.icu_tailoring.specs.TailoredMappings.{symbolic_elements}
+use Rattle.icu_tailoring.specs.TailoredMappings.{SymbolicMappings, symbolic_elements}
 use Rattle.icu_tailoring.specs.RootPositions.{first_number}
 use Rattle.icu_tailoring.specs.Steps.{TailoringState, counting_at, last_element, place_elements, before_level, strength_step, rule_step, state_after}
+use Rattle.icu_symbolic_mappings.specs.KeptMappings.{count_with}
 use Rattle.icu_rule_steps.specs.declared.rule_step_error.RuleStepError.{RuleStepError}
 use Rattle.icu_rule_steps.specs.declared.rule_step_error.RuleStepError.TheVariants as steps
 use Rattle.icu_rule_steps.specs.declared.tailoring_error.TailoringErrorKind.{TailoringErrorKind}
-use Rattle.icu_rule_steps.specs.declared.tailoring_error.TailoringErrorKind.TheVariants.{Position, TooManyElements, BeforeIgnorable, BeforeFirst, AfterIgnorable, NoWeight, LongPrefix, JamoContraction}
+use Rattle.icu_rule_steps.specs.declared.tailoring_error.TailoringErrorKind.TheVariants.{Position, TooManyElements, BeforeIgnorable, BeforeFirst, AfterIgnorable, NoWeight, LongPrefix, JamoContraction, TooManyMappings}
 use Rattle.icu_rule_steps.specs.declared.tailoring_error.TailoringError.{TailoringError}
 use Rattle.icu_rule_steps.specs.declared.tailoring_error.TailoringError.TheVariants.{NoMemory, Refused}
 
 -- how many elements an entry may have
 abbrev pub most_elements : ℕ
 most_elements = 31
+
+-- how many mappings a character may have by rules: each is looked at where the character is read
+abbrev pub most_mappings : ℕ
+most_mappings = 1024
 
 -- one reason, or else another
 abbrev pub or_fault : Option TailoringErrorKind → Option TailoringErrorKind → Option TailoringErrorKind
@@ -132,11 +137,17 @@ count_fault state different extension =
     if nat_lt most_elements (length different.elements + length (symbolic_elements state.mappings extension))
     then Some TooManyElements else None
 
+-- why a mapping of a decomposed string behind a decomposed prefix is one too many
+abbrev pub mappings_fault : List ℕ → List ℕ → SymbolicMappings → Option TailoringErrorKind
+mappings_fault prefix string mappings =
+    if nat_lt most_mappings (count_with prefix string mappings) then Some TooManyMappings else None
+
 -- why a relation of decomposed strings is refused
 abbrev pub decomposed_fault : Strength → List ℕ → List ℕ → List ℕ → TailoringState → Option TailoringErrorKind
 decomposed_fault strength prefix string extension state =
     or_fault (string_fault prefix string)
-    (or_fault (difference_fault strength state.elements) (count_fault state (strength_step strength state) extension))
+    (or_fault (difference_fault strength state.elements)
+    (or_fault (count_fault state (strength_step strength state) extension) (mappings_fault prefix string state.mappings)))
 
 -- why a relation is refused
 abbrev pub relation_fault : Strength → List ℕ → List ℕ → List ℕ → TailoringState → Option TailoringErrorKind

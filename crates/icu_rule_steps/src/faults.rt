@@ -16,6 +16,9 @@ const FIRST_WITHOUT_OWN: u32 = 0xFE00_0000;
 /// How many elements an entry may have.
 const MOST_ELEMENTS: usize = 31;
 
+/// How many mappings a character may have by rules.
+pub(crate) const MOST_MAPPINGS: usize = 1024;
+
 /// Whether nothing is tailored at a position.
 pub(crate) fn is_reserved_position(position: LogicalPosition) -> bool
     ensures { result ≡ is_reserved_position position }

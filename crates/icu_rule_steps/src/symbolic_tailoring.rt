@@ -1,7 +1,8 @@
 //! What rules say, while tailored weights have no numbers.
 use crate::decomposing::decomposed;
 use crate::faults::{
-    are_too_many, before_fault, difference_fault, is_reserved_position, scalar_of, string_fault,
+    MOST_MAPPINGS, are_too_many, before_fault, difference_fault, is_reserved_position, scalar_of,
+    string_fault,
 };
 use crate::rule_step_error::RuleStepError;
 use crate::tailoring_error::{TailoringError, TailoringErrorKind};
@@ -30,7 +31,7 @@ impl<'r, R: RootWeights + RootMappings> SymbolicTailoring<'r, R> {
     ghost use Rattle.icu_tailoring.specs.Steps.{before_level, before_step, case_step, first_state, mapping_step, place_elements, strength_step, suppression_step, tailoring_of};
     ghost use Rattle.icu_weight_tree.specs.RuleStates.{with_elements};
     ghost use Rattle.icu_weight_tree.specs.TreeBuilders.{tree_of};
-    ghost use Rattle.icu_symbolic_mappings.specs.KeptMappings.{mappings_in};
+    ghost use Rattle.icu_symbolic_mappings.specs.KeptMappings.{count_with, mappings_in};
     ghost use Rattle.icu_symbolic_mappings.specs.TouchedCharacters.{HasTouched, TouchesByRule, TouchesByRules, TouchesMore};
     ghost use Rattle.icu_tailoring.specs.RootLaws.{string_begins};
     ghost use Rattle.icu_tailoring.specs.TailoredRoots.{Root};
@@ -193,25 +194,26 @@ impl<'r, R: RootWeights + RootMappings> SymbolicTailoring<'r, R> {
     }
 
     /// A decomposed string behind a decomposed prefix has the elements from here on, with those of an extension behind
-    /// them.
+    /// them. Returns how many mappings the first character of the string has then.
     fn put_mapping(
         &mut self,
         alloc: Global,
         prefix: &[char],
         string: &[char],
         extension: &[SymbolicElement],
-    ) -> Result<(), AllocError>
+    ) -> Result<usize, AllocError>
         ensures state { OnOk result (state_in R.mappings_of self.new
             ≡ mapping_step prefix.now string.now
             ((state_in R.mappings_of self.old).elements ++ extension.now)
             (state_in R.mappings_of self.old)) }
         ensures touched { OnOk result (TouchesMore (λ c. string_begins c string.now) []
             (kept_mappings self.old) (kept_mappings self.new)) }
+        ensures count { IfOk result (λ n. n ≡ count_with prefix.now string.now
+            (state_in R.mappings_of self.old).mappings) }
     {
         let mut whole = Vec::from_slice(alloc, self.rule.elements())?;
         whole.extend_from_slice(extension)?;
-        self.mappings.mapping_step(alloc, prefix, string, whole)?;
-        Ok(())
+        self.mappings.mapping_step(alloc, prefix, string, whole)
     }
 
     /// Relates a string, decomposed, to the rule before.
@@ -246,7 +248,10 @@ impl<'r, R: RootWeights + RootMappings> SymbolicTailoring<'r, R> {
             return Err(RuleStepError::Refused(TailoringErrorKind::TooManyElements));
         }
         self.take_case(alloc, root, string)?;
-        self.put_mapping(alloc, prefix, string, extension.as_slice())?;
+        let count = self.put_mapping(alloc, prefix, string, extension.as_slice())?;
+        if MOST_MAPPINGS < count {
+            return Err(RuleStepError::Refused(TailoringErrorKind::TooManyMappings));
+        }
         Ok(())
     }
 

@@ -29,6 +29,9 @@ pub enum TailoringErrorKind {
     /// A contraction that begins or ends with a conjoining jamo of a Hangul syllable.
     #[error("expected no contraction that begins or ends within a Hangul syllable")]
     JamoContraction,
+    /// A relation that gives a character more than 1,024 mappings, which depend on what stands around it.
+    #[error("expected at most 1024 prefixes and contractions of a character")]
+    TooManyMappings,
 }
 
 /// Why rules make no tailoring.

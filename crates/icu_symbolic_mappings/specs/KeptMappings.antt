@@ -1,15 +1,15 @@
 -- The mappings of characters that are kept while rules are read.
-use Rattle.std.specs.Prelude.{◌≡◌, ℕ, List, map, Option, Some, None}
+use Rattle.std.specs.Prelude.{◌≡◌, ℕ, List, [], ◌∷◌, length, map, Option, Some, None}
 use Rattle.std.specs.Global.{Vec}
 use Rattle.std.specs.Ordering.{nat_cmp}
 use Rattle.std.specs.BTreeMap.{get}
 use Rattle.icu_tailoring.specs.declared.symbolic.SymbolicElement.{SymbolicElement}
 use Rattle.icu_tailoring.specs.Steps.{TailoringState}
 use Rattle.icu_tailoring.specs.TailoredRoots.{RootMapping}
-use Rattle.icu_tailoring.specs.TailoredMappings.{SymbolicMapping, SymbolicMappings, mapping_of_root}
+use Rattle.icu_tailoring.specs.TailoredMappings.{SymbolicMapping, SymbolicMappings, mapping_of_root, with_mapping}
 use Rattle.icu_symbolic_mappings.specs.declared.character_mapping.CharacterMapping.{CharacterMapping}
 use Rattle.icu_symbolic_mappings.specs.declared.kept_mappings.Mappings.{Mappings}
-use Rattle.icu_symbolic_mappings.specs.StoredMappings.{suppressed_at, symbolic_mappings}
+use Rattle.icu_symbolic_mappings.specs.StoredMappings.{mapping_between, suppressed_at, symbolic_mappings}
 
 -- the mappings of a character that no relation touched
 abbrev pub untouched_mappings : {R : Type 0} → (R → ℕ → List RootMapping) → Mappings R → ℕ → List SymbolicMapping
@@ -27,3 +27,8 @@ mappings_in mappings_of m c = own_or (get nat_cmp m.touched c) (untouched_mappin
 -- the step makes mappings of others
 abbrev pub MakesMappings : (TailoringState → TailoringState) → SymbolicMappings → SymbolicMappings → Type 0
 MakesMappings step old new = (state : TailoringState) → state.mappings ≡ old → (step state).mappings ≡ new
+
+-- how many mappings the first character of a string has with one of this string behind a prefix
+abbrev pub count_with : List ℕ → List ℕ → SymbolicMappings → ℕ
+count_with prefix [] mappings = 0
+count_with prefix (c ∷ suffix) mappings = length (with_mapping (mapping_between prefix suffix []) (mappings c))

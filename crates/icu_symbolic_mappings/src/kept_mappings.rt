@@ -1,6 +1,6 @@
 //! The mappings of characters as they are while rules are read.
 
-ghost use Rattle.std.specs.Prelude.{◌≡◌, ◌==◌, ◌||◌, ◌++◌, ℕ, [], All, IfOk, IfSome, OnOk, filter, true, false};
+ghost use Rattle.std.specs.Prelude.{◌≡◌, ◌==◌, ◌||◌, ◌++◌, ℕ, [], All, IfOk, IfSome, OnOk, filter, length, true, false};
 ghost use Rattle.icu_tailoring.specs.Rules.{have_character};
 ghost use Rattle.icu_tailoring.specs.Steps.{mapping_step, suppression_step};
 ghost use Rattle.icu_tailoring.specs.TailoredMappings.{has_no_context, is_mapping_of, with_mapping};
@@ -45,14 +45,19 @@ fn have_character(ranges: &[CharacterRange], c: char) -> bool
     false
 }
 
-/// Puts a mapping in the place of that of its prefix and suffix.
-fn put_mapping(mappings: &mut Vec<SymbolicMapping>, new: SymbolicMapping) -> Result<(), AllocError>
-    ensures { OnOk result (symbolic_mappings mappings.new.items
+/// Puts a mapping in the place of that of its prefix and suffix. Returns how many mappings there are then.
+fn put_mapping(
+    mappings: &mut Vec<SymbolicMapping>,
+    new: SymbolicMapping,
+) -> Result<usize, AllocError>
+    ensures mappings { OnOk result (symbolic_mappings mappings.new.items
         ≡ with_mapping (symbolic_mapping new) (symbolic_mappings mappings.old.items)) }
+    ensures count { IfOk result (λ n. n ≡ length
+        (with_mapping (symbolic_mapping new) (symbolic_mappings mappings.old.items))) }
 {
     mappings.retain(|m| !is_mapping_of(m, new.prefix.as_slice(), new.suffix.as_slice()));
     mappings.insert(0, new)?;
-    Ok(())
+    Ok(mappings.len())
 }
 
 /// Keeps the mappings without a context alone.
@@ -99,7 +104,7 @@ impl<'r, R: RootMappings> Mappings<'r, R> {
     ghost use Rattle.icu_tailoring.specs.TailoredRoots.{Root};
     ghost use Rattle.std.specs.Option.{is_some};
     ghost use Rattle.icu_tailoring.specs.RootLaws.{string_begins};
-    ghost use Rattle.icu_symbolic_mappings.specs.KeptMappings.{MakesMappings, mappings_in, untouched_mappings};
+    ghost use Rattle.icu_symbolic_mappings.specs.KeptMappings.{MakesMappings, count_with, mappings_in, untouched_mappings};
     ghost use Rattle.icu_symbolic_mappings.specs.TouchedCharacters.{HasTouched, TouchesMore, has_root_context, have_touched, suppressed_in, touched_in};
 
     /// The mappings of a root.
@@ -186,44 +191,50 @@ impl<'r, R: RootMappings> Mappings<'r, R> {
         Ok(found)
     }
 
-    /// Puts a mapping of a character in the place of that of its prefix and suffix.
-    fn put(&mut self, alloc: Global, c: char, new: SymbolicMapping) -> Result<(), AllocError>
+    /// Puts a mapping of a character in the place of that of its prefix and suffix. Returns how many mappings the
+    /// character has then.
+    fn put(&mut self, alloc: Global, c: char, new: SymbolicMapping) -> Result<usize, AllocError>
         ensures mappings { OnOk result (mappings_in R.mappings_of self.new
             ≡ with_mappings (mappings_in R.mappings_of self.old) c
             (with_mapping (symbolic_mapping new) (mappings_in R.mappings_of self.old c))) }
         ensures touched { OnOk result
             (TouchesMore (λ other. other == c) [] self.old self.new) }
+        ensures count { IfOk result (λ n. n ≡ length
+            (with_mapping (symbolic_mapping new) (mappings_in R.mappings_of self.old c))) }
     {
         let mut own = match self.touched.remove(&c) {
             Some(own) => own,
             None => self.untouched(alloc, c)?,
         };
-        put_mapping(&mut own, new)?;
+        let count = put_mapping(&mut own, new)?;
         self.touched.insert(c, own)?;
-        Ok(())
+        Ok(count)
     }
 
-    /// A decomposed string behind a decomposed prefix has these elements from here on. If an allocation fails, nothing
-    /// is said of the mappings.
+    /// A decomposed string behind a decomposed prefix has these elements from here on. Returns how many mappings the
+    /// first character of the string has then, 0 where there is none. If an allocation fails, nothing is said of the
+    /// mappings.
     pub fn mapping_step(
         &mut self,
         alloc: Global,
         prefix: &[char],
         string: &[char],
         elements: Vec<SymbolicElement>,
-    ) -> Result<(), AllocError>
+    ) -> Result<usize, AllocError>
         ensures mappings { OnOk result (MakesMappings
             (mapping_step prefix.now string.now elements.items)
             (mappings_in R.mappings_of self.old) (mappings_in R.mappings_of self.new)) }
         ensures touched { OnOk result
             (TouchesMore (λ c. string_begins c string.now) [] self.old self.new) }
+        ensures count { IfOk result (λ n. n ≡ count_with prefix.now string.now
+            (mappings_in R.mappings_of self.old)) }
     {
         match string.split_first() {
             Some((first, suffix)) => {
                 let new = new_mapping(alloc, prefix, suffix, elements)?;
                 self.put(alloc, *first, new)
             }
-            None => Ok(()),
+            None => Ok(0),
         }
     }
 

@@ -2,6 +2,7 @@
 use crate::LetterRoot;
 use icu_rule_steps::{SymbolicTailoring, TailoringError, TailoringErrorKind};
 use icu_rules::Rules;
+use std::alloc::{AllocError, Global};
 use std::test::Fail;
 
 /// Rules that are refused.
@@ -91,5 +92,34 @@ fn taken_by_a_root(rt: HostRuntime) -> Result<(), Fail> {
         let error = SymbolicTailoring::of_rules(rt.alloc(), &root, &rules).err();
         assert_eq!(rt; error, None, "{text}");
     }
+    Ok(())
+}
+
+/// Rules that give "b" so many mappings besides its own: a contraction each.
+fn contractions(alloc: Global, count: u32) -> Result<String, AllocError> {
+    let mut text = String::from_str(alloc, "&a")?;
+    for code in 0..count {
+        text.push_str("<b")?;
+        text.push(char::from_u32(0x4E00 + code).unwrap_or('c'))?;
+    }
+    Ok(text)
+}
+
+#[test]
+fn mappings_of_a_character_are_so_many(rt: HostRuntime) -> Result<(), Fail> {
+    let root = LetterRoot;
+    let most = contractions(rt.alloc(), 1023)?;
+    let rules = Rules::parse(rt.alloc(), most.as_str())?;
+    let error = SymbolicTailoring::of_rules(rt.alloc(), &root, &rules).err();
+    assert_eq!(rt; error, None);
+    let more = contractions(rt.alloc(), 1024)?;
+    let rules = Rules::parse(rt.alloc(), more.as_str())?;
+    let error = SymbolicTailoring::of_rules(rt.alloc(), &root, &rules).err();
+    let expected = TailoringError::Refused {
+        place: 2 + 3 * 1023,
+        import: None,
+        kind: TailoringErrorKind::TooManyMappings,
+    };
+    assert_eq!(rt; error, Some(expected));
     Ok(())
 }

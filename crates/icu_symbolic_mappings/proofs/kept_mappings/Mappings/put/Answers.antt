@@ -1,4 +1,4 @@
-use Rattle.std.proofs.Common.{◌≡◌, ◌==◌, ℕ, List, Option, Some, None, cond, if◌then◌else◌, rules, refl, sym, ap, ◌∙◌}
+use Rattle.std.proofs.Common.{◌≡◌, ◌==◌, ℕ, List, Option, Some, None, cond, if◌then◌else◌, length, rules, refl, sym, ap, ◌∙◌}
 use mathlib.Core.Path.{fun_ext}
 use Rattle.std.specs.Option.{is_some}
 use Rattle.std.specs.Ordering.{nat_cmp}
@@ -11,25 +11,30 @@ use Rattle.icu_symbolic_mappings.specs.TouchedCharacters.{touched_in}
 use Rattle.icu_symbolic_mappings.proofs.KeptMappingLemmas.{Own, put_at, own_there, own_absent}
 use Rattle.icu_symbolic_mappings.proofs.TouchedLemmas.{touched_put}
 use Rattle.icu_symbolic_mappings.proofs.kept_mappings.Mappings.put.Goals as goal
-use Rattle.icu_symbolic_mappings.proofs.kept_mappings.Mappings.put.Goals.{in-Some, in-None+in_ok-own-in-None}
+use Rattle.icu_symbolic_mappings.proofs.kept_mappings.Mappings.put.Given.{Over}
+use Rattle.icu_symbolic_mappings.proofs.kept_mappings.Mappings.put.Goals.{After-put_mapping, in-Some, in-None+in_ok-own-in-None}
+
+were : (g : Over) (c : After-put_mapping g)
+    → symbolic_mappings c.match-remove.own.items ≡ mappings_in g.R.RootMappings.mappings_of c.args.self.now c.args.c
+were g c = elim c.match-remove.branch [
+  | in-Some w ↦
+      let there : get nat_cmp c.args.self.now.touched c.args.c ≡ Some c.match-remove.own = search rules in
+      sym (own_there g.R.RootMappings.mappings_of c.args.self.now c.args.c c.match-remove.own there)
+  | in-None+in_ok-own-in-None w ↦
+      let absent : get nat_cmp c.args.self.now.touched c.args.c ≡ None = search rules in
+      let made : symbolic_mappings c.match-remove.own.items ≡ untouched_mappings g.R.RootMappings.mappings_of c.args.self.now c.args.c = search rules in
+      made ∙ sym (own_absent g.R.RootMappings.mappings_of c.args.self.now c.args.c absent)
+]
 
 pub returns-clause-mappings : goal.returns-clause-mappings
 unfolding mappings_in
 returns-clause-mappings g c =
     let held = c.args.self.now in
     let root = g.R.RootMappings.mappings_of in
-    let was : symbolic_mappings c.match-remove.own.items ≡ mappings_in root held c.args.c = elim c.match-remove.branch [
-      | in-Some w ↦
-          let there : get nat_cmp held.touched c.args.c ≡ Some c.match-remove.own = search rules in
-          sym (own_there root held c.args.c c.match-remove.own there)
-      | in-None+in_ok-own-in-None w ↦
-          let absent : get nat_cmp held.touched c.args.c ≡ None = search rules in
-          let made : symbolic_mappings c.match-remove.own.items ≡ untouched_mappings root held c.args.c = search rules in
-          made ∙ sym (own_absent root held c.args.c absent)
-    ] in
+    let was = were g (goal.at.returns-clause-mappings g c).After-put_mapping in
     let own : Own = c.put_mapping.new.mappings in
     let stored : symbolic_mappings own.items ≡ with_mapping (symbolic_mapping c.args.new) (mappings_in root held c.args.c) =
-    c.in_ok-put_mapping.ensures ∙ ap (with_mapping (symbolic_mapping c.args.new)) was in
+    c.in_ok-count.ensures.mappings ∙ ap (with_mapping (symbolic_mapping c.args.new)) was in
     fun_ext (λ (q : ℕ).
     let d : List SymbolicMapping = untouched_mappings root held q in
     let before : Option Own = get nat_cmp held.touched q in
@@ -50,3 +55,9 @@ returns-clause-touched g c = record {
   suppressed = sym (append-nil c.args.self.now.suppressed.items);
   over = refl;
 }
+
+pub returns-clause-count : goal.returns-clause-count
+returns-clause-count g c =
+    c.in_ok-count.ensures.count
+    ∙ ap (λ (ms : List SymbolicMapping). length (with_mapping (symbolic_mapping c.args.new) ms))
+    (were g (goal.at.returns-clause-count g c).After-put_mapping)
