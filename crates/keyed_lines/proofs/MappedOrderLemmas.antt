@@ -58,7 +58,7 @@ abbrev tie : {Y : Type 0} → (Y → Y → Ordering) → Y → Y → Bool
 tie order = ties (λ x y. is_lt (order x y))
 
 module _ {Y : Type 0} (order : Y → Y → Ordering) (total : IsTotalOrder order) where
-  tied_are_equal : (z w : Y) → tie order z w ≡ true → order z w ≡ Equal
+  pub tied_are_equal : (z w : Y) → tie order z w ≡ true → order z w ≡ Equal
   tied_are_equal z w h =
       equal_if (order z w) (sym (ap (λ o. not (is_lt (order z w)) && not (is_lt o)) (total.antisymm w z)) ∙ h)
 
