@@ -1,5 +1,6 @@
 pub mod RootGroups
 pub mod RuleReorderings
+pub mod NoTertiary
 pub mod RuleErrors
 pub mod RuleSettings
 pub mod StatesByRules

@@ -1,5 +1,5 @@
 -- What an error of tables by rules says.
-use Rattle.std.specs.Prelude.{ℕ, ◌≡◌, Bool, true, false, List, Option, Some}
+use Rattle.std.specs.Prelude.{ℕ, ◌≡◌, Bool, true, false, List, take, Option, Some}
 use Rattle.std.specs.List.{Contains}
 use Rattle.icu_rules.specs.declared.rules.PlacedStatement.{PlacedStatement}
 use Rattle.icu_rules.specs.declared.statement.Statement.{Statement}
@@ -15,8 +15,9 @@ use Rattle.icu_rule_steps.specs.RuleFaults.{first_error}
 use Rattle.icu_rule_steps.specs.WeightMakers.{maker_of}
 use Rattle.icu_tailored_entries.specs.declared.error.TailoredEntriesError.{TailoredEntriesError}
 use Rattle.icu_tailored_entries.specs.declared.error.TailoredEntriesError.TheVariants as entries
+use Rattle.icu_rule_tables.specs.NoTertiary.{GivesNoTertiary}
 use Rattle.icu_rule_tables.specs.declared.rule_tables_error.RuleRefusal.{RuleRefusal}
-use Rattle.icu_rule_tables.specs.declared.rule_tables_error.RuleRefusal.TheVariants.{Unread, Unsaid, NoRoom, Unreordered}
+use Rattle.icu_rule_tables.specs.declared.rule_tables_error.RuleRefusal.TheVariants.{Unread, Unsaid, NoRoom, NoTertiary, Unreordered}
 use Rattle.icu_rule_tables.specs.declared.rule_tables_error.RuleTablesError.{RuleTablesError}
 use Rattle.icu_rule_tables.specs.declared.rule_tables_error.RuleTablesError.TheVariants.{NoMemory, Refused, Unordered, Entries, Table}
 
@@ -59,10 +60,12 @@ RefusesStatement root statements place led (Unread kind) = ⊥
 RefusesStatement root statements place led (Unsaid kind) =
     first_error root (first_state root) statements ≡ Some (saying.Refused place led kind)
 RefusesStatement root statements place led (NoRoom level) = MakesWeightAt root statements place led
+RefusesStatement root statements place led NoTertiary = (count : ℕ) × GivesNoTertiary root (take count statements) place led
 RefusesStatement root statements place led (Unreordered error) = StatesReordering statements place led
 
 -- The error of rules that were read: of those that are refused the first one, for want of room one that makes a
--- weight, and for groups that can't be reordered a reordering. Which other errors there are is left open.
+-- weight, for want of a tertiary weight one that gives its string elements of which one lacks it, and for groups that
+-- can't be reordered a reordering. Which other errors there are is left open.
 abbrev pub IsErrorOfRules : Root → List PlacedStatement → RuleTablesError → Type 0
 IsErrorOfRules root statements (Refused place led kind) = RefusesStatement root statements place led kind
 IsErrorOfRules root statements NoMemory = Unit {0}

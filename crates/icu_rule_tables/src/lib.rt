@@ -1,6 +1,7 @@
 //! Tables by a text of rules, over the root of checked tables (UTS #35 part 5, "Collation Tailorings").
 #![tactic(auto)]
 
+mod no_tertiary;
 mod own_jamo;
 mod rule_numbers;
 mod rule_reordering;

@@ -25,6 +25,11 @@ pub enum RuleRefusal {
         /// The level, from 1 for primary weights to 4 for quaternary ones.
         level: u8,
     },
+    /// It gives its string an element with a quaternary weight or case bits and no tertiary weight, which no table may
+    /// have: a relation of strength identical or quaternary at the first or the last secondary ignorable, where the
+    /// root has none.
+    #[error("expected something that has a tertiary weight")]
+    NoTertiary,
     /// Groups can't be reordered as it says.
     #[error("{0}")]
     Unreordered(ReorderingError),

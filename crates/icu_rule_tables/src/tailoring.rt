@@ -11,6 +11,7 @@ ghost use Rattle.icu_entries.specs.declared.error.DataTable.TheVariants.{Reorder
 ghost use Rattle.icu_checked_root.specs.StoredRoots.{stored_root};
 ghost use Rattle.icu_rule_tables.specs.RuleErrors.{IsErrorOfRules};
 
+use crate::no_tertiary::refuse_no_tertiary;
 use crate::own_jamo::{OwnJamo, lent_jamo, lent_root, own_jamo};
 use crate::rule_numbers::numbers_of;
 use crate::rule_reordering::rule_reordering;
@@ -135,6 +136,7 @@ impl<'t> Tailoring<'t> {
             (IsErrorOfRules (stored_root root.now) rules.now.statements.items) }
     {
         let said = SymbolicTailoring::of_rules(alloc, root, rules)?;
+        refuse_no_tertiary(alloc, root, rules, &said)?;
         let numbers = numbers_of(alloc, root, rules, &said)?;
         let reordering = rule_reordering(alloc, root, rules, &said, &numbers)?;
         Tailoring::of_numbers(alloc, root, &said, &numbers, reordering)

@@ -107,6 +107,14 @@ fn refused_over_mini(rt: HostRuntime) -> Result<(), Fail> {
             "&a<<<<b<<<<c<<<<d<<<<e",
             refused(17, RuleRefusal::NoRoom { level: 4 }),
         ),
+        (
+            "&[last secondary ignorable]=x",
+            refused(27, RuleRefusal::NoTertiary),
+        ),
+        (
+            "&a<b &[first secondary ignorable]<<<<x<<<<y &c<d",
+            refused(33, RuleRefusal::NoTertiary),
+        ),
     ] {
         let found = Tailoring::from_text(rt.alloc(), &root, text).err();
         assert_eq!(rt; found, Some(wanted), "{text}");
