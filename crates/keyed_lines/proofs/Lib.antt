@@ -8,5 +8,6 @@ pub mod LinePlaceLemmas
 pub mod FrontOrderLemmas
 pub mod RunLemmas
 pub mod SettledLemmas
+pub mod SortedPlaceLemmas
 pub mod SortedLineLemmas
 pub mod WrittenLineLemmas

@@ -4,8 +4,16 @@ use Rattle.std.proofs.lemmas.Bool.Decides.{nat_tests}
 use Rattle.std.specs.Cmp.{IsStrictWeakOrder}
 use Rattle.std.specs.List.{AllByRecursion}
 use Rattle.std.specs.List.Sorted.{IsSortedBy}
+use Rattle.std.specs.Result.{OnOk, is_ok}
+use Rattle.std.specs.declared.result.Result.{Result}
+use Rattle.std.specs.declared.result.Result.TheVariants.{Ok, Err}
 use Rattle.keyed_lines.specs.declared.line_places.LinePlace.{LinePlace}
 use Rattle.keyed_lines.specs.inner.SettledPlaces.{first_alike, first_run, front_of}
+
+-- what a call appends that may fail
+pub appended : {X T E : Type 0} (r : Result T E) (zs xs ys : List X) → zs ≡ (if is_ok r then xs else ys) → OnOk r (zs ≡ xs)
+appended (Ok x) zs xs ys h = h
+appended (Err e) zs xs ys h = tt
 
 -- ---- what holds of each
 

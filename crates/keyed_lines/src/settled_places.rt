@@ -150,9 +150,9 @@ pub(crate) fn settled_places(
     let mut seen = 0;
     'settling: while !rest.is_empty() {
         seen = look_ahead(keyed, rest, seen, &mut settled)?;
-        let count = run_length(rest);
-        settle_run(alloc, keyed, order, &rest[..count], &mut settled)?;
-        rest = &rest[count..];
+        let (run, behind) = rest.split_at(run_length(rest));
+        settle_run(alloc, keyed, order, run, &mut settled)?;
+        rest = behind;
     }
     Ok(settled)
 }
