@@ -1,5 +1,5 @@
 -- Runs of places that are settled one behind another.
-use Rattle.std.proofs.Common.{◌≡◌, ◌≢◌, ℕ, ◌<◌, Bool, true, false, List, [], ◌∷◌, ◌++◌, append-nil, append_assoc, drop, filter, length, map, take, refl, sym, ap, ◌∙◌, arith, subst}
+use Rattle.std.proofs.Common.{◌≡◌, ◌≢◌, ℕ, ◌<◌, Bool, false, List, [], ◌∷◌, ◌++◌, append-nil, append_assoc, drop, filter, length, map, take, refl, sym, ap, ◌∙◌, arith, subst}
 use Rattle.std.proofs.lemmas.List.Elements.{filter-append}
 use Rattle.std.proofs.lemmas.List.Sorted.{IsPermutation-append, IsPermutation-map, IsPermutation-refl, ranks_by}
 use Rattle.std.specs.Cmp.{IsStrictWeakOrder}
@@ -18,7 +18,7 @@ use Rattle.keyed_lines.specs.declared.line_order.Direction.{Direction}
 use Rattle.keyed_lines.specs.declared.line_order.LineOrder.{LineOrder}
 use Rattle.keyed_lines.specs.declared.line_places.LinePlace.{LinePlace}
 use Rattle.keyed_lines.specs.inner.PlaceOrders.{IsLinePlace, front_order, place_order}
-use Rattle.keyed_lines.specs.inner.SettledPlaces.{IsPlaceOfRun, IsSecondPlace, Settles, first_alike, first_run, front_of, second_place}
+use Rattle.keyed_lines.specs.inner.SettledPlaces.{IsPlaceOfRun, IsSecondPlace, Settles, first_run, front_of, second_place}
 
 abbrev pub front_less : Direction → LinePlace → LinePlace → Bool
 front_less d x y = is_lt (front_order d x y)

@@ -1,9 +1,8 @@
 -- Places that are sorted by numbers and then settled.
-use Rattle.std.proofs.Common.{◌≡◌, List, ℕ, filter, ◌∙◌, ap, subst}
+use Rattle.std.proofs.Common.{◌≡◌, List, ℕ, ◌∙◌, subst}
 use Rattle.std.proofs.lemmas.List.Sorted.{IsPermutation-map, IsPermutation-trans}
 use Rattle.std.specs.List.{AllByRecursion}
-use Rattle.std.specs.List.Sorted.{IsPermutation, IsStable, ties}
-use Rattle.std.specs.Ordering.{is_lt}
+use Rattle.std.specs.List.Sorted.{IsPermutation, IsStable}
 use Rattle.keyed_lines.proofs.FrontOrderLemmas.{stable_by_keys}
 use Rattle.keyed_lines.proofs.LineOrderLemmas.{keyed_total}
 use Rattle.keyed_lines.proofs.LinePlaceLemmas.{same_order}

@@ -1,5 +1,5 @@
 -- The order of places of lines with sort keys: by the numbers that the keys begin with, and then by the keys.
-use Rattle.std.specs.Prelude.{◌≡◌, ℕ, List}
+use Rattle.std.specs.Prelude.{◌≡◌}
 use Rattle.std.specs.Ordering.{nat_cmp, ordering_then}
 use Rattle.std.specs.declared.cmp.Ordering.{Ordering}
 use Rattle.icu_beginnings.specs.KeyBeginnings.{AreBytes}

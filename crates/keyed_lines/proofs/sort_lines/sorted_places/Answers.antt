@@ -1,11 +1,8 @@
 -- Places that are sorted by numbers and then settled are sorted as the lines are that stand at them.
-use Rattle.std.proofs.Common.{◌≡◌, List, subst, sym}
+use Rattle.std.proofs.Common.{List, subst}
 use Rattle.std.proofs.lemmas.Result.{IfOk-weaker}
-use Rattle.std.specs.List.{AllByRecursion}
-use Rattle.std.specs.List.Sorted.{IsSorted}
-use Rattle.keyed_lines.proofs.SortedPlaceLemmas.{lines_moved, lines_stable, still_right}
+use Rattle.keyed_lines.proofs.SortedPlaceLemmas.{lines_moved, lines_stable}
 use Rattle.keyed_lines.specs.declared.line_places.LinePlace.{LinePlace}
-use Rattle.keyed_lines.specs.inner.PlaceOrders.{IsLinePlace, front_order}
 use Rattle.keyed_lines.specs.inner.SettledPlaces.{Settles}
 use Rattle.keyed_lines.proofs.sort_lines.sorted_places.Goals as goal
 
