@@ -7,6 +7,7 @@ use Rattle.std.specs.List.Sorted.{IsStable, ties}
 use Rattle.std.specs.Ordering.{is_lt, nat_cmp, ordering_then}
 use Rattle.std.specs.declared.cmp.Ordering.{Ordering}
 use Rattle.std.specs.declared.cmp.Ordering.TheVariants.{Less, Equal, Greater}
+use Rattle.icu_levels.proofs.Order.{less_number, more_number, same_number}
 use Rattle.keyed_lines.proofs.LineOrderLemmas.{directed_total}
 use Rattle.keyed_lines.proofs.LinePlaceLemmas.{place_total, same_order}
 use Rattle.keyed_lines.proofs.MappedOrderLemmas.{tied_are_equal}
@@ -26,19 +27,10 @@ front_total d = directed_total d (λ x y. nat_cmp x.front y.front) (on_total (λ
 
 -- ---- numbers
 
-cmp_less : (x y : ℕ) → x < y → nat_cmp x y ≡ Less
-cmp_less x y h = grind arith
-
-cmp_same : (x : ℕ) → nat_cmp x x ≡ Equal
-cmp_same x = grind arith
-
-cmp_more : (x y : ℕ) → y < x → nat_cmp x y ≡ Greater
-cmp_more x y h = grind arith
-
 -- not less, and not the same
 more_by : (x y : ℕ) → (x < y) ⊎ (y ≤ x) → is_lt (nat_cmp x y) ≡ false → x ≢ y → nat_cmp x y ≡ Greater
-more_by x y (inl less) h apart = let e : is_lt (nat_cmp x y) ≡ true = ap is_lt (cmp_less x y less) in cc
-more_by x y (inr more) h apart = cmp_more x y (at (cases_lt y x)) where
+more_by x y (inl less) h apart = let e : is_lt (nat_cmp x y) ≡ true = ap is_lt (less_number x y less) in cc
+more_by x y (inr more) h apart = more_number x y (at (cases_lt y x)) where
   at : (y < x) ⊎ (x ≤ y) → y < x
   at (inl it) = it
   at (inr low) = absurd (apart (omega (arith, more, low)))
@@ -47,12 +39,12 @@ more : (x y : ℕ) → is_lt (nat_cmp x y) ≡ false → x ≢ y → nat_cmp x y
 more x y = more_by x y (cases_lt x y)
 
 not_below : (x y : ℕ) → (x < y) ⊎ (y ≤ x) → is_lt (nat_cmp x y) ≡ false → y ≤ x
-not_below x y (inl less) h = let e : is_lt (nat_cmp x y) ≡ true = ap is_lt (cmp_less x y less) in cc
+not_below x y (inl less) h = let e : is_lt (nat_cmp x y) ≡ true = ap is_lt (less_number x y less) in cc
 not_below x y (inr more) h = more
 
 same_by : (x y : ℕ) → (x < y) ⊎ (y ≤ x) → (y < x) ⊎ (x ≤ y) → nat_cmp x y ≡ Equal → x ≡ y
-same_by x y (inl less) other h = let e = cmp_less x y less in cc
-same_by x y (inr low) (inl less) h = let e = cmp_more x y less in cc
+same_by x y (inl less) other h = let e = less_number x y less in cc
+same_by x y (inr low) (inl less) h = let e = more_number x y less in cc
 same_by x y (inr low) (inr high) h = omega (arith, low, high)
 
 are_same : (x y : ℕ) → nat_cmp x y ≡ Equal → x ≡ y
@@ -104,8 +96,8 @@ module _ (k : KeyedLines) where
   same_front Descending ByBytes z w h = sym (are_same w.front z.front (first_equal _ _ (first_equal _ _ h)))
 
   fronts_tie : (d : Direction) (z w : LinePlace) → z.front ≡ w.front → ties (λ x y. is_lt (front_order d x y)) z w ≡ true
-  fronts_tie Ascending z w e = rw (e, cmp_same w.front) refl
-  fronts_tie Descending z w e = rw (e, cmp_same w.front) refl
+  fronts_tie Ascending z w e = rw (e, same_number w.front) refl
+  fronts_tie Descending z w e = rw (e, same_number w.front) refl
 
   tie_at : (o : LineOrder) (z w : LinePlace) → ties (λ x y. is_lt (place_order k o x y)) z w ≡ true
       → ties (λ x y. is_lt (front_order o.direction x y)) z w ≡ true

@@ -5,9 +5,10 @@ use Rattle.std.proofs.lemmas.Cmp.{nat_cmp_total, nat_list_cmp_total, on_total, t
 use Rattle.std.specs.Cmp.{IsTotalOrder}
 use Rattle.std.specs.Ordering.{nat_cmp, ordering_reverse, ordering_then}
 use Rattle.std.specs.declared.cmp.Ordering.{Ordering}
-use Rattle.std.specs.declared.cmp.Ordering.TheVariants.{Less, Equal, Greater}
+use Rattle.std.specs.declared.cmp.Ordering.TheVariants.{Less, Greater}
 use Rattle.icu_keyed_names.proofs.KeyPrefixLemmas.{prefix_tells}
 use Rattle.icu_keyed_names.specs.inner.NameEntries.{prefix_of}
+use Rattle.icu_levels.proofs.Order.{less_number, more_number, same_number}
 use Rattle.icu_levels.specs.ListOrder.{list_order}
 use Rattle.keyed_lines.proofs.LineOrderLemmas.{ordered_total}
 use Rattle.keyed_lines.proofs.SecondPlaceLemmas.{second_tells}
@@ -23,24 +24,15 @@ use Rattle.keyed_lines.specs.declared.line_places.LinePlace.{LinePlace}
 use Rattle.keyed_lines.specs.inner.PlaceOrders.{IsLinePlace, bytes_of_places, keys_of_places, place_order}
 use Rattle.keyed_lines.specs.inner.SettledPlaces.{IsSecondPlace}
 
-cmp_less : (x y : ℕ) → x < y → nat_cmp x y ≡ Less
-cmp_less x y h = grind arith
-
-cmp_same : (x : ℕ) → nat_cmp x x ≡ Equal
-cmp_same x = grind arith
-
-cmp_more : (x y : ℕ) → y < x → nat_cmp x y ≡ Greater
-cmp_more x y h = grind arith
-
 -- a number before an order that it tells decides nothing else
 tells : (x y : ℕ) (o : Ordering) → (x < y → o ≡ Less) → (y < x → o ≡ Greater) → ordering_then (nat_cmp x y) o ≡ o
 tells x y o less more = by (cases_lt x y) where
   by_more : (y < x) ⊎ (x ≤ y) → y ≤ x → ordering_then (nat_cmp x y) o ≡ o
-  by_more (inl h) low = ap (λ p. ordering_then p o) (cmp_more x y h) ∙ sym (more h)
-  by_more (inr h) low = let e : x ≡ y = omega arith in rw e (ap (λ p. ordering_then p o) (cmp_same y))
+  by_more (inl h) low = ap (λ p. ordering_then p o) (more_number x y h) ∙ sym (more h)
+  by_more (inr h) low = let e : x ≡ y = omega arith in rw e (ap (λ p. ordering_then p o) (same_number y))
 
   by : (x < y) ⊎ (y ≤ x) → ordering_then (nat_cmp x y) o ≡ o
-  by (inl h) = ap (λ p. ordering_then p o) (cmp_less x y h) ∙ sym (less h)
+  by (inl h) = ap (λ p. ordering_then p o) (less_number x y h) ∙ sym (less h)
   by (inr h) = by_more (cases_lt y x) h
 
 module _ (k : KeyedLines) where

@@ -2,16 +2,14 @@
 use Rattle.std.proofs.Common.{◌≡◌, ℕ, zero, suc, ◌<◌, ◌≤◌, ◌⊎◌, List, [], ◌∷◌, ◌++◌, drop, length, take, inl, inr, refl, sym, ap, ◌∙◌, arith, subst}
 use Rattle.std.proofs.lemmas.Bool.{cases_lt}
 use Rattle.std.specs.Int.{to_be_bytes, w64}
-use Rattle.std.specs.Ordering.{nat_cmp, ordering_then}
-use Rattle.std.specs.declared.cmp.Ordering.TheVariants.{Less, Equal}
+use Rattle.std.specs.Ordering.{ordering_then}
+use Rattle.std.specs.declared.cmp.Ordering.TheVariants.{Less}
 use Rattle.icu_beginnings.specs.KeyBeginnings.{AreBytes}
 use Rattle.icu_keyed_names.proofs.KeyPrefixLemmas.{prefix_tells}
 use Rattle.icu_keyed_names.proofs.TiedLemmas.{key_joined}
 use Rattle.icu_keyed_names.specs.inner.NameEntries.{prefix_of}
+use Rattle.icu_levels.proofs.Order.{same_number}
 use Rattle.icu_levels.specs.ListOrder.{list_order}
-
-cmp_same : (x : ℕ) → nat_cmp x x ≡ Equal
-cmp_same x = grind arith
 
 none_left : (n : ℕ) → ◌≡◌ {A = List ℕ} (take n []) []
 none_left zero = refl
@@ -39,7 +37,7 @@ behind_alike [] c m r s long short h =
 behind_alike (d ∷ ds) c zero r s long short h = absurd (omega (arith, long))
 behind_alike (d ∷ ds) zero (suc m) r s long short h = ap (λ ks. list_order ks (d ∷ (take m ds ++ s))) (short (omega arith))
 behind_alike (d ∷ ds) (suc c) (suc m) r s long short h =
-    ap (λ o. ordering_then o (list_order (take c ds ++ r) (take m ds ++ s))) (cmp_same d)
+    ap (λ o. ordering_then o (list_order (take c ds ++ r) (take m ds ++ s))) (same_number d)
     ∙ behind_alike ds c m r s (omega (arith, long)) (λ low. short (omega (arith, low))) h
 
 reaches : (ys : List ℕ) (n : ℕ) → n < prefix_of (drop 8 ys) → (length ys < 8) ⊎ (8 ≤ length ys) → 8 ≤ length ys

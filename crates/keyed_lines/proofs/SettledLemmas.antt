@@ -125,13 +125,13 @@ module _ (k : KeyedLines) (o : LineOrder) where
         done = h.done ++ run;
         parts = h.parts ∙ sym (append_assoc h.done run after);
         moved = subst (λ (ps : List (List ℕ × List ℕ)). IsPermutation ps (pairs_at k (settled ++ ys))) (sym (pair h.done run))
-        (subst (λ (ps : List (List ℕ × List ℕ)). IsPermutation (pairs_at k h.done ++ pairs_at k run) ps) (sym (pair settled ys))
-        (IsPermutation-append (pairs_at k h.done) (pairs_at k settled) (pairs_at k run) (pairs_at k ys) h.moved s.moved));
+            (subst (λ (ps : List (List ℕ × List ℕ)). IsPermutation (pairs_at k h.done ++ pairs_at k run) ps) (sym (pair settled ys))
+            (IsPermutation-append (pairs_at k h.done) (pairs_at k settled) (pairs_at k run) (pairs_at k ys) h.moved s.moved));
         rises = subst (λ (ps : List (List ℕ × List ℕ)). Rises less ps) (sym (pair settled ys))
-        (rises_append less (pairs_at k settled) (pairs_at k ys) h.rises (sorted_rises less weak_keys (pairs_at k ys) s.ascends)
-        (all_weaker (λ x. AllByRecursion (λ y. less y x ≡ false) (pairs_at k run ++ pairs_at k after)) (λ x. AllByRecursion (λ y. less y x ≡ false) (pairs_at k ys))
-        (λ x g. all_still (λ y. less y x ≡ false) (pairs_at k run) (pairs_at k ys) s.moved (all_front (λ y. less y x ≡ false) (pairs_at k run) (pairs_at k after) g))
-        (pairs_at k settled) behind));
+            (rises_append less (pairs_at k settled) (pairs_at k ys) h.rises (sorted_rises less weak_keys (pairs_at k ys) s.ascends)
+            (all_weaker (λ x. AllByRecursion (λ y. less y x ≡ false) (pairs_at k run ++ pairs_at k after)) (λ x. AllByRecursion (λ y. less y x ≡ false) (pairs_at k ys))
+            (λ x g. all_still (λ y. less y x ≡ false) (pairs_at k run) (pairs_at k ys) s.moved (all_front (λ y. less y x ≡ false) (pairs_at k run) (pairs_at k after) g))
+            (pairs_at k settled) behind));
         stable = λ z.
             let tie = ties less z in
             ap (filter tie) (pair settled ys)
@@ -141,10 +141,10 @@ module _ (k : KeyedLines) (o : LineOrder) where
             ∙ (sym (filter-append tie (pairs_at k h.done) (pairs_at k run))
             ∙ ap (filter tie) (sym (pair h.done run))))));
         before = subst (λ (ps : List (List ℕ × List ℕ)). Follow less ps (pairs_at k after)) (sym (pair settled ys))
-        (all_append (λ x. AllByRecursion (λ y. less y x ≡ false) (pairs_at k after)) (pairs_at k settled) (pairs_at k ys)
-        (all_weaker (λ x. AllByRecursion (λ y. less y x ≡ false) (pairs_at k run ++ pairs_at k after)) (λ x. AllByRecursion (λ y. less y x ≡ false) (pairs_at k after))
-        (λ x g. all_back (λ y. less y x ≡ false) (pairs_at k run) (pairs_at k after) g) (pairs_at k settled) behind)
-        (all_still (λ x. AllByRecursion (λ y. less y x ≡ false) (pairs_at k after)) (pairs_at k run) (pairs_at k ys) s.moved follow));
+            (all_append (λ x. AllByRecursion (λ y. less y x ≡ false) (pairs_at k after)) (pairs_at k settled) (pairs_at k ys)
+            (all_weaker (λ x. AllByRecursion (λ y. less y x ≡ false) (pairs_at k run ++ pairs_at k after)) (λ x. AllByRecursion (λ y. less y x ≡ false) (pairs_at k after))
+            (λ x g. all_back (λ y. less y x ≡ false) (pairs_at k run) (pairs_at k after) g) (pairs_at k settled) behind)
+            (all_still (λ x. AllByRecursion (λ y. less y x ≡ false) (pairs_at k after)) (pairs_at k run) (pairs_at k ys) s.moved follow));
         right = all_back (IsLinePlace k) run after h.right;
         fronts = rises_back (front_less o.direction) run after h.fronts;
       }
@@ -171,9 +171,11 @@ module _ (k : KeyedLines) (o : LineOrder) where
   run_is_right places settled rest n e h =
       let f = front_of rest in
       let right : AllByRecursion (IsLinePlace k) (take n rest ++ drop n rest) =
-      subst (λ (ps : List LinePlace). AllByRecursion (IsLinePlace k) ps) (sym (run_and_rest n rest)) h.right in
-      (f, both_hold f (take n rest) (all_front (IsLinePlace k) (take n rest) (drop n rest) right)
-      (subst (λ m. AllByRecursion (λ p. p.front ≡ f) (take m rest)) (sym e) (are_alike f rest)))
+      subst (λ (ps : List LinePlace). AllByRecursion (IsLinePlace k) ps) (sym (run_and_rest n rest)) h.right in (
+        f,
+        both_hold f (take n rest) (all_front (IsLinePlace k) (take n rest) (drop n rest) right)
+            (subst (λ m. AllByRecursion (λ p. p.front ≡ f) (take m rest)) (sym e) (are_alike f rest)),
+      )
 
   -- ---- a run
 
@@ -208,5 +210,5 @@ module _ (k : KeyedLines) (o : LineOrder) where
         moved = subst (λ (ps : List (List ℕ × List ℕ)). IsPermutation ps (pairs_at k ys)) pairs (IsPermutation-map (place_pair k) seconds ys moved);
         ascends = ascends_mapped (place_pair k) (place_order k o) (keyed_order o) (IsSecondPlace k f) (second_order k o f) ys still sorted;
         stable = subst (λ (ps : List (List ℕ × List ℕ)). IsStable (keyed_order o) ps (pairs_at k ys)) pairs
-        (stable_mapped (place_pair k) (place_order k o) (keyed_order o) (IsSecondPlace k f) (second_order k o f) (keyed_total o) seconds ys are still moved stable);
+            (stable_mapped (place_pair k) (place_order k o) (keyed_order o) (IsSecondPlace k f) (second_order k o f) (keyed_total o) seconds ys are still moved stable);
       }
