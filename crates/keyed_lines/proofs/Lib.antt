@@ -3,6 +3,11 @@ pub mod InputLineLemmas
 pub mod KeyBufferLemmas
 pub mod LineOrderLemmas
 pub mod MappedOrderLemmas
+pub mod SecondPlaceLemmas
 pub mod LinePlaceLemmas
+pub mod FrontOrderLemmas
+pub mod RunLemmas
+pub mod SettledLemmas
+pub mod SortedPlaceLemmas
 pub mod SortedLineLemmas
 pub mod WrittenLineLemmas

@@ -15,7 +15,7 @@ tied_total : {X : Type 0} (ties : Ties) (order last : X → X → Ordering) → 
 tied_total AsTheyCame order last h k = h
 tied_total ByBytes order last h k = then_total h k
 
-directed_total : {X : Type 0} (direction : Direction) (order : X → X → Ordering) → IsTotalOrder order
+pub directed_total : {X : Type 0} (direction : Direction) (order : X → X → Ordering) → IsTotalOrder order
     → IsTotalOrder (directed direction order)
 directed_total Ascending order h = h
 directed_total Descending order h = back_total h

@@ -1,15 +1,17 @@
 -- Places order as the lines do that stand at them.
-use Rattle.std.proofs.Common.{◌≡◌, ℕ, ◌<◌, ◌≤◌, ◌⊎◌, inl, inr, sym, ap, ◌∙◌, refl, arith, subst}
+use Rattle.std.proofs.Common.{◌≡◌, ℕ, drop, ◌<◌, ◌≤◌, ◌⊎◌, inl, inr, sym, ap, ◌∙◌, arith, subst}
 use Rattle.std.proofs.lemmas.Bool.{cases_lt}
 use Rattle.std.proofs.lemmas.Cmp.{nat_cmp_total, nat_list_cmp_total, on_total, then_total}
 use Rattle.std.specs.Cmp.{IsTotalOrder}
 use Rattle.std.specs.Ordering.{nat_cmp, ordering_reverse, ordering_then}
 use Rattle.std.specs.declared.cmp.Ordering.{Ordering}
-use Rattle.std.specs.declared.cmp.Ordering.TheVariants.{Less, Equal, Greater}
+use Rattle.std.specs.declared.cmp.Ordering.TheVariants.{Less, Greater}
 use Rattle.icu_keyed_names.proofs.KeyPrefixLemmas.{prefix_tells}
 use Rattle.icu_keyed_names.specs.inner.NameEntries.{prefix_of}
+use Rattle.icu_levels.proofs.Order.{less_number, more_number, same_number}
 use Rattle.icu_levels.specs.ListOrder.{list_order}
 use Rattle.keyed_lines.proofs.LineOrderLemmas.{ordered_total}
+use Rattle.keyed_lines.proofs.SecondPlaceLemmas.{second_tells}
 use Rattle.keyed_lines.specs.KeyBuffers.{place_pair}
 use Rattle.keyed_lines.specs.KeyedOrders.{bytes_of_lines_order, directed, keyed_order, keys_of_lines_order, with_ties}
 use Rattle.keyed_lines.specs.declared.keyed_lines.KeyedLines.{KeyedLines}
@@ -20,25 +22,17 @@ use Rattle.keyed_lines.specs.declared.line_order.Ties.{Ties}
 use Rattle.keyed_lines.specs.declared.line_order.Ties.TheVariants.{AsTheyCame, ByBytes}
 use Rattle.keyed_lines.specs.declared.line_places.LinePlace.{LinePlace}
 use Rattle.keyed_lines.specs.inner.PlaceOrders.{IsLinePlace, bytes_of_places, keys_of_places, place_order}
-
-cmp_less : (x y : ℕ) → x < y → nat_cmp x y ≡ Less
-cmp_less x y h = grind arith
-
-cmp_same : (x : ℕ) → nat_cmp x x ≡ Equal
-cmp_same x = grind arith
-
-cmp_more : (x y : ℕ) → y < x → nat_cmp x y ≡ Greater
-cmp_more x y h = grind arith
+use Rattle.keyed_lines.specs.inner.SettledPlaces.{IsSecondPlace}
 
 -- a number before an order that it tells decides nothing else
 tells : (x y : ℕ) (o : Ordering) → (x < y → o ≡ Less) → (y < x → o ≡ Greater) → ordering_then (nat_cmp x y) o ≡ o
 tells x y o less more = by (cases_lt x y) where
   by_more : (y < x) ⊎ (x ≤ y) → y ≤ x → ordering_then (nat_cmp x y) o ≡ o
-  by_more (inl h) low = ap (λ p. ordering_then p o) (cmp_more x y h) ∙ sym (more h)
-  by_more (inr h) low = let e : x ≡ y = omega arith in rw e (ap (λ p. ordering_then p o) (cmp_same y))
+  by_more (inl h) low = ap (λ p. ordering_then p o) (more_number x y h) ∙ sym (more h)
+  by_more (inr h) low = let e : x ≡ y = omega arith in rw e (ap (λ p. ordering_then p o) (same_number y))
 
   by : (x < y) ⊎ (y ≤ x) → ordering_then (nat_cmp x y) o ≡ o
-  by (inl h) = ap (λ p. ordering_then p o) (cmp_less x y h) ∙ sym (less h)
+  by (inl h) = ap (λ p. ordering_then p o) (less_number x y h) ∙ sym (less h)
   by (inr h) = by_more (cases_lt y x) h
 
 module _ (k : KeyedLines) where
@@ -51,22 +45,40 @@ module _ (k : KeyedLines) where
       (λ high. nat_list_cmp_total.antisymm one other
       ∙ ap ordering_reverse (prefix_tells other one g.bytes h.bytes (subst (λ n. n < prefix_of one) g.begins (subst (λ n. y.front < n) h.begins high))))
 
-  with_same_ties : (ties : Ties) (x y : LinePlace) → IsLinePlace k x → IsLinePlace k y
+  second_keys : (f : ℕ) (x y : LinePlace) → IsSecondPlace k f x → IsSecondPlace k f y → keys_of_places k x y ≡ keys_of_lines_order (place_pair k x) (place_pair k y)
+  second_keys f x y h g =
+      let one = (place_pair k x).0 in
+      let other = (place_pair k y).0 in
+      tells x.front y.front (list_order one other)
+      (λ low. second_tells one other (h.begins ∙ sym g.begins) h.bytes g.bytes
+      (subst (λ n. n < prefix_of (drop 8 other)) h.second (subst (λ n. x.front < n) g.second low)))
+      (λ high. nat_list_cmp_total.antisymm one other
+      ∙ ap ordering_reverse (second_tells other one (g.begins ∙ sym h.begins) g.bytes h.bytes
+      (subst (λ n. n < prefix_of (drop 8 one)) g.second (subst (λ n. y.front < n) h.second high))))
+
+  with_same_ties : (ties : Ties) (x y : LinePlace) → keys_of_places k x y ≡ keys_of_lines_order (place_pair k x) (place_pair k y)
       → with_ties ties (keys_of_places k) (bytes_of_places k) x y
       ≡ with_ties ties keys_of_lines_order bytes_of_lines_order (place_pair k x) (place_pair k y)
-  with_same_ties AsTheyCame x y h g = same_keys x y h g
-  with_same_ties ByBytes x y h g = ap (λ r. ordering_then r (bytes_of_places k x y)) (same_keys x y h g)
+  with_same_ties AsTheyCame x y e = e
+  with_same_ties ByBytes x y e = ap (λ r. ordering_then r (bytes_of_places k x y)) e
 
-  in_direction : (d : Direction) (ties : Ties) (x y : LinePlace) → IsLinePlace k x → IsLinePlace k y
+  in_direction : (d : Direction) (ties : Ties) (x y : LinePlace)
+      → keys_of_places k x y ≡ keys_of_lines_order (place_pair k x) (place_pair k y)
+      → keys_of_places k y x ≡ keys_of_lines_order (place_pair k y) (place_pair k x)
       → directed d (with_ties ties (keys_of_places k) (bytes_of_places k)) x y
       ≡ directed d (with_ties ties keys_of_lines_order bytes_of_lines_order) (place_pair k x) (place_pair k y)
-  in_direction Ascending ties x y h g = with_same_ties ties x y h g
-  in_direction Descending ties x y h g = with_same_ties ties y x g h
+  in_direction Ascending ties x y e i = with_same_ties ties x y e
+  in_direction Descending ties x y e i = with_same_ties ties y x i
 
   -- places order as lines with keys
   pub same_order : (o : LineOrder) (x y : LinePlace) → IsLinePlace k x → IsLinePlace k y
       → place_order k o x y ≡ keyed_order o (place_pair k x) (place_pair k y)
-  same_order o x y h g = in_direction o.direction o.ties x y h g
+  same_order o x y h g = in_direction o.direction o.ties x y (same_keys x y h g) (same_keys y x g h)
+
+  -- so do those of one run by their second numbers
+  pub second_order : (o : LineOrder) (f : ℕ) (x y : LinePlace) → IsSecondPlace k f x → IsSecondPlace k f y
+      → place_order k o x y ≡ keyed_order o (place_pair k x) (place_pair k y)
+  second_order o f x y h g = in_direction o.direction o.ties x y (second_keys f x y h g) (second_keys f y x g h)
 
   -- their order is total
   pub place_total : (o : LineOrder) → IsTotalOrder (place_order k o)

@@ -1,5 +1,5 @@
 -- Lists that are sorted by one order, and what they are mapped to, sorted by another.
-use Rattle.std.proofs.Common.{◌≡◌, ℕ, zero, suc, ◌+◌, ◌<◌, ◌⊎◌, inl, inr, Bool, true, false, not, ◌&&◌, cond, List, [], ◌∷◌, filter, get_or, length, map, refl, sym, ap, ◌∙◌, arith}
+use Rattle.std.proofs.Common.{◌≡◌, zero, suc, ◌+◌, ◌<◌, ◌⊎◌, inl, inr, Bool, true, false, not, ◌&&◌, cond, List, [], ◌∷◌, filter, get_or, length, map, refl, sym, ap, ◌∙◌, arith}
 use Rattle.std.proofs.lemmas.List.{get_or-map, length-map}
 use Rattle.std.proofs.lemmas.List.Sorted.{All-permutation}
 use Rattle.std.specs.Cmp.{IsTotalOrder}
@@ -58,7 +58,7 @@ abbrev tie : {Y : Type 0} → (Y → Y → Ordering) → Y → Y → Bool
 tie order = ties (λ x y. is_lt (order x y))
 
 module _ {Y : Type 0} (order : Y → Y → Ordering) (total : IsTotalOrder order) where
-  tied_are_equal : (z w : Y) → tie order z w ≡ true → order z w ≡ Equal
+  pub tied_are_equal : (z w : Y) → tie order z w ≡ true → order z w ≡ Equal
   tied_are_equal z w h =
       equal_if (order z w) (sym (ap (λ o. not (is_lt (order z w)) && not (is_lt o)) (total.antisymm w z)) ∙ h)
 

@@ -1,6 +1,6 @@
 //! The number that a key begins with.
 
-ghost use Rattle.std.specs.Prelude.{◌≡◌, slice_index};
+ghost use Rattle.std.specs.Prelude.{◌≡◌, drop, slice_index};
 ghost use Rattle.icu_beginnings.specs.KeyBeginnings.{AreBytes};
 ghost use Rattle.icu_keyed_names.specs.inner.NameEntries.{prefix_of};
 
@@ -14,23 +14,37 @@ fn byte_or_zero(key: &[u8], index: usize) -> u8
     }
 }
 
+/// The first eight bytes of a key that may be shorter, filled up with zeros.
+fn short_front(key: &[u8]) -> u64
+    ensures { result ≡ prefix_of key.now }
+{
+    let bytes = [
+        byte_or_zero(key, 0),
+        byte_or_zero(key, 1),
+        byte_or_zero(key, 2),
+        byte_or_zero(key, 3),
+        byte_or_zero(key, 4),
+        byte_or_zero(key, 5),
+        byte_or_zero(key, 6),
+        byte_or_zero(key, 7),
+    ];
+    u64::from_be_bytes(bytes)
+}
+
 /// The first eight bytes of a key as a number, the first one highest; a key that is shorter is filled up with zeros.
 pub(crate) fn key_front(key: &[u8]) -> u64
     ensures front { result ≡ prefix_of key.now }
     ensures bytes { AreBytes key.now }
 {
-    let bytes = match key {
-        [a, b, c, d, e, f, g, h, ..] => [*a, *b, *c, *d, *e, *f, *g, *h],
-        _ => [
-            byte_or_zero(key, 0),
-            byte_or_zero(key, 1),
-            byte_or_zero(key, 2),
-            byte_or_zero(key, 3),
-            byte_or_zero(key, 4),
-            byte_or_zero(key, 5),
-            byte_or_zero(key, 6),
-            byte_or_zero(key, 7),
-        ],
-    };
-    u64::from_be_bytes(bytes)
+    match key {
+        [a, b, c, d, e, f, g, h, ..] => u64::from_be_bytes([*a, *b, *c, *d, *e, *f, *g, *h]),
+        _ => short_front(key),
+    }
+}
+
+/// What stands behind the first eight bytes of a key.
+pub(crate) fn behind_front(key: &[u8]) -> &[u8]
+    ensures { result.now ≡ drop 8 key.now }
+{
+    if key.len() < 8 { &[] } else { &key[8..] }
 }

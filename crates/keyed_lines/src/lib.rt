@@ -8,6 +8,7 @@ pub mod keyed_text;
 pub mod line_keys;
 pub mod line_order;
 mod line_places;
+mod settled_places;
 mod sort_lines;
 pub mod sort_request;
 pub mod written_lines;

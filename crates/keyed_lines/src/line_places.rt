@@ -3,7 +3,7 @@
 ghost use Rattle.std.specs.Prelude.{◌≡◌, OnErr, OnOk};
 ghost use Rattle.std.specs.List.Sorted.{IsPermutation, IsSorted, IsStable};
 ghost use Rattle.keyed_lines.specs.KeyedOrders.{with_ties};
-ghost use Rattle.keyed_lines.specs.inner.PlaceOrders.{bytes_of_places, keys_of_places, place_order};
+ghost use Rattle.keyed_lines.specs.inner.PlaceOrders.{bytes_of_places, front_order, keys_of_places, place_order};
 
 use crate::keyed_lines::KeyedLines;
 use crate::line_order::{Direction, LineOrder, Ties};
@@ -61,6 +61,37 @@ fn compare_places(
         Direction::Ascending => tied_order(keyed, order.ties, one, other),
         Direction::Descending => tied_order(keyed, order.ties, other, one),
     }
+}
+
+/// The order of the numbers that the keys of two places begin with.
+#[inline(always)]
+fn compare_fronts(direction: Direction, one: &LinePlace, other: &LinePlace) -> Ordering
+    ensures { result ≡ front_order direction one.now other.now }
+{
+    match direction {
+        Direction::Ascending => one.front.cmp(&other.front),
+        Direction::Descending => other.front.cmp(&one.front),
+    }
+}
+
+/// Sorts places by the numbers that their keys begin with alone, stably.
+///
+/// # Errors
+///
+/// Fails only where an allocation does.
+pub(crate) fn sort_by_fronts(
+    places: &mut Vec<LinePlace>,
+    direction: Direction,
+) -> Result<(), AllocError>
+    ensures permutation { IsPermutation places.old.items places.new.items }
+    ensures sorted { OnOk result (IsSorted (front_order direction) places.new.items) }
+    ensures stable { IsStable (front_order direction) places.old.items places.new.items }
+{
+    places.sort_by(
+        |one, other| -> Ordering
+            ensures { result ≡ front_order direction one.now other.now }
+        { compare_fronts(direction, one, other) },
+    )
 }
 
 /// Sorts places, stably.

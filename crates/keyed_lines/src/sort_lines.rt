@@ -10,7 +10,8 @@ ghost use Rattle.keyed_lines.specs.inner.PlaceOrders.{IsLinePlace};
 use crate::key_front::key_front;
 use crate::keyed_lines::KeyedLines;
 use crate::line_order::LineOrder;
-use crate::line_places::{LinePlace, sort_places};
+use crate::line_places::{LinePlace, sort_by_fronts};
+use crate::settled_places::settled_places;
 use std::alloc::{AllocError, Global};
 
 /// The places of lines with keys, one behind another.
@@ -47,6 +48,6 @@ pub(crate) fn sorted_places(
         IsStable (keyed_order order) (keyed_pairs keyed.now) (pairs_at keyed.now places.items)) }
 {
     let mut places = places_of(alloc, keyed)?;
-    sort_places(&mut places, keyed, order)?;
-    Ok(places)
+    sort_by_fronts(&mut places, order.direction)?;
+    settled_places(alloc, keyed, order, places.as_slice())
 }

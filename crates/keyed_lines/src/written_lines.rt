@@ -52,8 +52,8 @@ fn first_bytes(keyed: &KeyedLines<'_>, places: &[LinePlace]) -> usize {
 }
 
 /// Before each batch of lines looks at where they stand, and then at their first bytes. Lines in order are spread over
-/// the memory: reads that don't wait for one another bring many of them near at once. It makes room for a byte, at most,
-/// by what was read, so that it is read indeed; a line to come takes that much.
+/// the memory: reads that don't wait for one another bring many of them near at once. It makes room for a byte, at
+/// most, by what was read, so that it is read indeed; a line to come takes that much.
 fn look_ahead(
     keyed: &KeyedLines<'_>,
     places: &[LinePlace],

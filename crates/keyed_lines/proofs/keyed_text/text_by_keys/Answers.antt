@@ -1,5 +1,5 @@
 -- Places of lines are sorted as the lines are, and the lines at them are written.
-use Rattle.std.proofs.Common.{◌≡◌, ℕ, List, map, ap, ◌∙◌, subst}
+use Rattle.std.proofs.Common.{map, ap, ◌∙◌, subst}
 use Rattle.std.specs.List.{zip}
 use Rattle.std.specs.List.Sorted.{IsPermutation, IsStable}
 use Rattle.keyed_lines.proofs.FirstLineLemmas.{printed_as}
