@@ -96,11 +96,11 @@ fn taken_by_a_root(rt: HostRuntime) -> Result<(), Fail> {
 }
 
 /// Rules that give "b" so many mappings besides its own: a contraction each.
-fn contractions(alloc: Global, count: u32) -> Result<String, AllocError> {
+fn contractions(alloc: Global, count: u16) -> Result<String, AllocError> {
     let mut text = String::from_str(alloc, "&a")?;
     for code in 0..count {
         text.push_str("<b")?;
-        text.push(char::from_u32(0x4E00 + code).unwrap_or('c'))?;
+        text.push(char::from_u32(0x4E00 + u32::from(code)).unwrap_or('c'))?;
     }
     Ok(text)
 }
