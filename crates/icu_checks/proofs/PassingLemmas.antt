@@ -62,7 +62,6 @@ lies_to lead p at second =
 zero_passes : (n : ℕ) (b : Bool) → n ≡ 0 → IsTrue (n == 0 || b)
 zero_passes n b is = rw is refl
 
-
 module _ (all : CollatorTables) (x : Element) (width : IsTrue (reachable_element_meets Width all x)) (backward : IsTrue (reachable_element_meets BackwardLead all x))
     (tertiary : IsTrue (reachable_element_meets TertiaryElement all x)) where
   each : PrimaryPasses all x.primary → (condition : ReachableElementCondition) → IsTrue (reachable_element_meets condition all x)

@@ -244,7 +244,13 @@ impl<'d> TablesJudge<'d> {
         ensures { result ≡ true
             → PrimaryPasses (tables_in self.now.tables) primary }
     {
-        primary == 0 || has_second_byte(primary) && self.leads[usize::from(lead_byte(primary))]
+        if primary == 0 {
+            return true;
+        }
+        if !has_second_byte(primary) {
+            return false;
+        }
+        self.leads[usize::from(lead_byte(primary))]
     }
 
     /// Whether an element fails no condition, as far as its lead byte shows it. `false` leaves that open.

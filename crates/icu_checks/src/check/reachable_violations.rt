@@ -5,9 +5,7 @@ ghost use Rattle.icu_provider.specs.TableSets.{tables_in};
 ghost use Rattle.icu_checks.specs.inner.Violations.{IsTrueViolation};
 ghost use Rattle.icu_checks.specs.inner.EntryViolations.{JamoPasses, MeetsIn, DiacriticMeets, ReachableMeets};
 
-use crate::check::entry_judge::{
-    TablesJudge, element_violation, implicit_passes, passing_leads,
-};
+use crate::check::entry_judge::{TablesJudge, element_violation, implicit_passes, passing_leads};
 use crate::check::lookups::jamo_char;
 use crate::violation::Violation;
 use icu_collation_data::violation::{earlier, first_violation, first_violation_from};
@@ -47,6 +45,7 @@ fn tailoring_violation(tables: TableSet<'_>) -> Option<Violation>
 }
 
 /// The first violation of what is reachable with one of the conjoining jamo.
+#[tactic(auto, using(crate::proofs::PassingLemmas::no_leads))]
 fn violation_of_jamo(
     tables: TableSet<'_>,
     place: usize,
