@@ -17,4 +17,5 @@ pub mod CollectedWeightLemmas
 pub mod BothLemmas
 pub mod ImplicitLemmas
 pub mod RunLemmas
+mod SpelledLemmas
 mod WorkedData

@@ -1,5 +1,5 @@
 -- A walk that remembers entries goes on: what was visited, and what is remembered with it.
-use Rattle.std.proofs.Common.{◌≡◌, ℕ, zero, suc, ◌+◌, ◌-◌, ◌<◌, ◌≤◌, Bool, true, false, ◌==◌, ◌&&◌, if◌then◌else◌, List, [], ◌∷◌, ◌++◌, ◌⊎◌, inl, inr, refl, sym, ap, ◌∙◌, subst, arith, map, take, length, get_or}
+use Rattle.std.proofs.Common.{◌≡◌, ℕ, zero, suc, ◌+◌, ◌-◌, ◌<◌, ◌≤◌, Bool, true, false, ◌==◌, ◌&&◌, if◌then◌else◌, List, [], ◌∷◌, ◌++◌, ◌⊎◌, inl, inr, refl, sym, ap, ◌∙◌, subst, arith, map, take, length, get_or, Result, Ok, Err, OnOk}
 use Rattle.std.proofs.lemmas.List.{take_more}
 use Rattle.std.specs.Char.{IsScalar}
 use Rattle.std.specs.List.{AllByRecursion, Contains}
@@ -18,6 +18,11 @@ use Rattle.icu_collation_data.specs.inner.BlockWalks.{IsReachedAlike, IsKnown, S
 use Rattle.icu_collation_data.proofs.ListLemmas.{all_append, all_where, map_all, in_map, nothing_in, in_first}
 use Rattle.icu_collation_data.proofs.ReachLemmas.{refer_trans, refer_shared, refer_reaches, goes_alone, at_within, prefix_all, in_pushed}
 use Rattle.icu_collation_data.proofs.CharLemmas.{scalar_below}
+
+-- what follows where a walk doesn't fail
+pub where_walked : {X E : Type 0} (r : Result X E) (P Q : Type 0) → (P → Q) → OnOk r P → OnOk r Q
+where_walked (Ok x) P Q f p = f p
+where_walked (Err e) P Q f p = tt
 
 -- ---- visits
 

@@ -14,7 +14,7 @@ use crate::character_walk::{Part, visit_by_character};
 use crate::context::ContextMapping;
 use crate::data::CollationData;
 use crate::visited_entries::VisitedEntries;
-use crate::walk::{Visit, visit_contraction, visit_from};
+use crate::walk::{Visit, visit_alone, visit_contraction, visit_from};
 use icu_entries::{CollationElement32, EntryKind};
 
 /// What is known of the values of a block.
@@ -156,7 +156,8 @@ fn visit_new_prefix<V: Visit>(
     Ok(())
 }
 
-/// Visits what is reachable from an entry, unless the entry is remembered.
+/// Visits what is reachable from an entry, unless the entry is remembered. One that spells its element isn't worth it.
+#[tactic(auto, using(crate::proofs::SpelledLemmas::spelled_leads))]
 fn visit_new<V: Visit>(
     visitor: &mut V,
     home: CollationData<'_>,
@@ -170,10 +171,13 @@ fn visit_new<V: Visit>(
         (V.seen visitor.old) (V.seen visitor.new)
         (Contains (reachable_from (data_of home.entry) bits))) }
 {
+    let entry = CollationElement32::new(bits);
+    if entry.is_self_contained() {
+        return visit_alone(visitor, home, c, entry);
+    }
     if seen.has(bits) {
         return Ok(());
     }
-    let entry = CollationElement32::new(bits);
     if entry.kind() == EntryKind::Prefix {
         return visit_new_prefix(visitor, home, c, bits, falls_back, seen);
     }

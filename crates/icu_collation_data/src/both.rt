@@ -41,4 +41,20 @@ impl<A: Visit, B: Visit<Error = A::Error>> Visit for Both<A, B> {
     fn passes_run(&self, home: CollationData<'_>, first: char, entry: CollationElement32) -> bool {
         self.first.passes_run(home, first, entry) && self.second.passes_run(home, first, entry)
     }
+
+    /// Where visits change nothing of one of the two, the other one visits alone.
+    fn visit_run(
+        &mut self,
+        home: CollationData<'_>,
+        first: char,
+        entry: CollationElement32,
+    ) -> Result<bool, A::Error> {
+        if self.second.passes_run(home, first, entry) {
+            return self.first.visit_run(home, first, entry);
+        }
+        if self.first.passes_run(home, first, entry) {
+            return self.second.visit_run(home, first, entry);
+        }
+        Ok(false)
+    }
 }

@@ -122,6 +122,7 @@ fn is_clear_entry(
 
 /// Whether a character leads to no entry of the part. `false` leaves that open. Contexts that lead to none are
 /// remembered.
+#[tactic(auto, using(crate::proofs::SpelledLemmas::spelled_clear))]
 pub(crate) fn is_clear(
     part: Part,
     home: CollationData<'_>,
@@ -133,5 +134,9 @@ pub(crate) fn is_clear(
     ensures none { result ≡ true
         → leads_to part (data_of home.entry) ((data_of home.entry).value c) ≡ false }
 {
-    is_clear_entry(part, home, home.bits_for_char(c), clear)
+    let bits = home.bits_for_char(c);
+    if CollationElement32::new(bits).is_self_contained() {
+        return true;
+    }
+    is_clear_entry(part, home, bits, clear)
 }

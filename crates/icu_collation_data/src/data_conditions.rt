@@ -1,7 +1,7 @@
 //! The conditions on one entry of a root or a tailoring.
 ghost use Rattle.std.specs.Prelude.{◌≡◌, Bool, IsTrue};
 ghost use Rattle.icu_entries.specs.Entries.{kind_of};
-ghost use Rattle.icu_collation_data.specs.inner.Visitors.{all_meet};
+ghost use Rattle.icu_collation_data.specs.inner.Visitors.{all_meet, first_failing_element};
 ghost use Rattle.icu_collation_data.specs.ReachableConditions.{elements_meet, first_failing};
 ghost use Rattle.icu_collation_data.specs.StoredData.{data_of};
 ghost use Rattle.icu_collation_data.specs.DataConditions.{is_inside, has_short_mappings, leads_on, has_known_members, fits_offset, is_readable};
@@ -12,6 +12,21 @@ use crate::reachable_condition::ReachableCondition;
 use icu_entries::element_conditions::ElementCondition;
 use icu_entries::{CollationElement, CollationElement32, EntryKind};
 use std::convert::Infallible;
+
+/// The first condition that one element fails.
+fn first_failing_element(element: CollationElement) -> Option<ReachableCondition>
+    ensures { result ≡ first_failing_element element }
+{
+    if !ElementCondition::Shape.holds(element) {
+        Some(ReachableCondition::Shapes)
+    } else if !ElementCondition::Leads.holds(element) {
+        Some(ReachableCondition::Leads)
+    } else if !ElementCondition::Primary.holds(element) {
+        Some(ReachableCondition::Primaries)
+    } else {
+        None
+    }
+}
 
 impl<'d> CollationData<'d> {
     /// Whether the mappings of a prefix have one character or two.
@@ -96,8 +111,24 @@ impl<'d> CollationData<'d> {
     }
 
     /// The first condition that a reachable entry fails with a character.
-    #[tactic(auto, unfolding(crate::specs::ReachableConditions::first_failing))]
+    #[tactic(auto, using(crate::proofs::SpelledLemmas::spelled_failing))]
+    #[inline(always)]
     pub fn first_failing(self, c: char, entry: CollationElement32) -> Option<ReachableCondition>
+        ensures { result ≡ first_failing (data_of self.entry) c entry }
+    {
+        if entry.is_self_contained() {
+            return first_failing_element(entry.self_contained());
+        }
+        self.first_failing_in_order(c, entry)
+    }
+
+    /// The first condition that an entry fails, asked one by one.
+    #[tactic(auto, unfolding(crate::specs::ReachableConditions::first_failing))]
+    fn first_failing_in_order(
+        self,
+        c: char,
+        entry: CollationElement32,
+    ) -> Option<ReachableCondition>
         ensures { result ≡ first_failing (data_of self.entry) c entry }
     {
         if !self.is_inside(entry) {

@@ -135,6 +135,28 @@ impl<'w, W: Weigh, H: HoldWeights> Collector<'w, W, H> {
             weights: weights.take(),
         }
     }
+
+    /// Visits the elements of an entry, if the table states them.
+    #[tactic(auto, unfolding(crate::specs::inner::Visitors::given_elements))]
+    fn visit_stated(
+        &mut self,
+        home: CollationData<'_>,
+        c: char,
+        entry: CollationElement32,
+    ) -> Result<(), AllocError>
+        ensures { OnOk result ((self.new.weigh.now, holds (H.weights self.new.weights))
+            ≡ collected_at W.weight (self.old.weigh.now, holds (H.weights self.old.weights))
+            (data_of home.entry) c entry) }
+    {
+        if goes_by_character(entry) && !self.weigh.weighs_primaries() {
+            return Ok(());
+        }
+        if is_stated(home, c, entry) {
+            visit_elements(self, home, c, entry)
+        } else {
+            Ok(())
+        }
+    }
 }
 
 impl<'w, W: Weigh, H: HoldWeights> VisitElement for Collector<'w, W, H> {
@@ -146,6 +168,7 @@ impl<'w, W: Weigh, H: HoldWeights> VisitElement for Collector<'w, W, H> {
 
     ghost after = { collected W.weight };
 
+    #[inline(always)]
     fn visit(&mut self, element: CollationElement) -> Result<(), AllocError> {
         match self.weigh.weight(element) {
             Some(weight) => self.weights.add(weight),
@@ -163,21 +186,18 @@ impl<'w, W: Weigh, H: HoldWeights> Visit for Collector<'w, W, H> {
 
     ghost after = { collected_at W.weight };
 
-    #[tactic(auto, unfolding(crate::specs::inner::Visitors::given_elements))]
+    #[tactic(auto, using(crate::proofs::SpelledLemmas::spelled_collected))]
+    #[inline(always)]
     fn visit(
         &mut self,
         home: CollationData<'_>,
         c: char,
         entry: CollationElement32,
     ) -> Result<(), AllocError> {
-        if goes_by_character(entry) && !self.weigh.weighs_primaries() {
-            return Ok(());
+        if entry.is_self_contained() {
+            return VisitElement::visit(self, entry.self_contained());
         }
-        if is_stated(home, c, entry) {
-            visit_elements(self, home, c, entry)
-        } else {
-            Ok(())
-        }
+        self.visit_stated(home, c, entry)
     }
 
     fn passes_implicit(&self) -> bool {

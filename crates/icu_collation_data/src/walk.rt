@@ -7,7 +7,9 @@ ghost use Rattle.icu_collation_data.specs.Reachable.{reachable_digit, reachable_
 ghost use Rattle.icu_collation_data.specs.StoredData.{data_of, found_context};
 ghost use Rattle.icu_collation_data.specs.Walks.{after_lead, after_run, EachOfBlock};
 ghost use Rattle.icu_collation_data.specs.inner.Visitors.{after_mappings};
+ghost use Rattle.icu_collation_data.specs.inner.BlockWalks.{leads_further};
 
+use crate::character_walk::leads_further;
 use crate::context::FoundContext;
 use crate::data::CollationData;
 use icu_entries::{CollationElement32, EntryKind};
@@ -144,6 +146,22 @@ fn visit_contraction_mappings<V: Visit>(
     Ok(())
 }
 
+/// Visits an entry that leads to no other.
+#[inline(always)]
+#[tactic(auto, using(crate::proofs::ReachLemmas::leaf_alone))]
+pub(crate) fn visit_alone<V: Visit>(
+    visitor: &mut V,
+    home: CollationData<'_>,
+    c: char,
+    entry: CollationElement32,
+) -> Result<(), V::Error>
+    requires { leads_further (kind_of entry) ≡ false }
+    ensures { OnOk result (V.seen visitor.new
+        ≡ after_lead V.after reachable_from (data_of home.entry) c entry (V.seen visitor.old)) }
+{
+    visitor.visit(home, c, entry)
+}
+
 /// Visits each entry that is reachable from this one.
 #[tactic(auto, unfolding(crate::specs::Reachable::reachable_from))]
 pub fn visit_from<V: Visit>(
@@ -155,6 +173,9 @@ pub fn visit_from<V: Visit>(
     ensures { OnOk result (V.seen visitor.new
         ≡ after_lead V.after reachable_from (data_of home.entry) c entry (V.seen visitor.old)) }
 {
+    if !leads_further(entry) {
+        return visit_alone(visitor, home, c, entry);
+    }
     if entry.kind() == EntryKind::Prefix {
         visitor.visit(home, c, entry)?;
         let context = home.context_of(entry);

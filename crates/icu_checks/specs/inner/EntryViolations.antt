@@ -1,5 +1,5 @@
 -- The violations of entries and of elements, as a check names them.
-use Rattle.std.specs.Prelude.{ℕ, ◌+◌, ◌*◌, Bool, ◌==◌, ◌&&◌, not, find, fold, length, Option, Some, None, option_map, ◌≡◌, false, slice_index, if◌then◌else◌, IsTrue}
+use Rattle.std.specs.Prelude.{ℕ, ◌+◌, ◌*◌, Bool, ◌==◌, ◌&&◌, not, find, fold, length, Option, Some, None, option_map, ◌≡◌, true, false, slice_index, slice_index_or, if◌then◌else◌, IsTrue, List, ◌⊎◌}
 use Rattle.std.specs.List.{AllByRecursion}
 use Rattle.icu_entries.specs.declared.error.DataTable.{DataTable}
 use Rattle.icu_entries.specs.declared.error.DataTable.TheVariants as tables
@@ -20,7 +20,7 @@ use Rattle.icu_provider.specs.Reorderings.{Reordering, lead_byte}
 use Rattle.icu_provider.specs.Tables.{jamo_base}
 use Rattle.icu_provider.specs.CollatorTables.{CollatorTables, reorder_by, reorder, new_lead}
 use Rattle.icu_weights.specs.Leads.{is_middle}
-use Rattle.icu_checks.specs.ElementConditions.{reachable_element_meets, element_conditions}
+use Rattle.icu_checks.specs.ElementConditions.{has_second_byte, reachable_element_meets, element_conditions}
 use Rattle.icu_checks.specs.WellFormedTables.{later, table_of_element, EachEntry, EachElement, EntryMeets, HasPlainMappings}
 use Rattle.icu_checks.specs.inner.Violations.{violation_rank}
 
@@ -47,6 +47,18 @@ HasEndsTogether all h = lead_byte (reorder all (h * 0x10000)) ≡ lead_byte (reo
 -- implicit weights fail none
 abbrev pub ImplicitPasses : CollatorTables → Type 0
 ImplicitPasses all = (c : ℕ) → first_failing_element all (of_primary (implicit_weight c)) ≡ None
+
+-- no primary weight with this lead byte fails a condition on elements, where its second byte is from 04 to FE
+abbrev pub LeadPasses : CollatorTables → ℕ → Type 0
+LeadPasses all lead = (p : ℕ) → lead_byte p ≡ lead → IsTrue (has_second_byte p) → first_failing_element all (of_primary p) ≡ None
+
+-- of the lead bytes that are marked, none does
+abbrev pub AreLeadsPassing : CollatorTables → List Bool → Type 0
+AreLeadsPassing all leads = (lead : ℕ) → slice_index_or leads lead false ≡ true → LeadPasses all lead
+
+-- an element with this primary weight fails none of the conditions on primary weights
+abbrev pub PrimaryPasses : CollatorTables → ℕ → Type 0
+PrimaryPasses all p = (p ≡ 0) ⊎ (first_failing_element all (of_primary p) ≡ None)
 
 -- a reordering takes all primary weights with a lead byte to one
 abbrev pub KeepsLeadTogether : Option Reordering → ℕ → Type 0

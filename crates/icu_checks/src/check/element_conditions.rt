@@ -39,7 +39,7 @@ fn has_low_bytes(primary: u32) -> bool
 }
 
 #[inline(always)]
-fn has_second_byte(primary: u32) -> bool
+pub(crate) fn has_second_byte(primary: u32) -> bool
     ensures { result ≡ has_second_byte primary }
 {
     let second = primary >> 16 & 0xFF;

@@ -4,15 +4,16 @@ ghost use Rattle.icu_checks.specs.declared.violation.Violation.{Violation};
 ghost use Rattle.icu_entries.specs.declared.error.DataTable.{DataTable};
 ghost use Rattle.icu_entries.specs.Elements.{Element, of_primary};
 ghost use Rattle.icu_entries.specs.Weights.{implicit_weight};
+ghost use Rattle.icu_collation_data.specs.Data.{Data};
 ghost use Rattle.icu_collation_data.specs.DataConditions.{is_readable};
 ghost use Rattle.icu_collation_data.specs.ReachableConditions.{first_failing};
 ghost use Rattle.icu_collation_data.specs.StoredData.{data_of};
 ghost use Rattle.icu_collation_data.specs.Walks.{EachOfBlock};
 ghost use Rattle.icu_provider.specs.CollatorTables.{CollatorTables};
 ghost use Rattle.icu_provider.specs.TableSets.{tables_in};
-ghost use Rattle.icu_checks.specs.inner.EntryViolations.{first_failing_element, element_violation, after_element, judged_element, elements_violation, mappings_violation, entry_violation, is_taken_apart, HasEndsApart, HasEndsTogether, ImplicitPasses, KeepsLeadTogether};
+ghost use Rattle.icu_checks.specs.inner.EntryViolations.{first_failing_element, element_violation, after_element, judged_element, elements_violation, mappings_violation, entry_violation, is_taken_apart, HasEndsApart, HasEndsTogether, ImplicitPasses, KeepsLeadTogether, LeadPasses, AreLeadsPassing, PrimaryPasses};
 
-use crate::check::element_conditions::IMPLICIT_LEAD;
+use crate::check::element_conditions::{IMPLICIT_LEAD, has_second_byte};
 use crate::check::lead_conditions::numeric_lead;
 use crate::condition::{Condition, ReachableElementCondition};
 use crate::violation::{Violation, later};
@@ -114,25 +115,27 @@ fn passes_between(tables: TableSet<'_>, least: u32, greatest: u32) -> bool
 
 /// A visitor that keeps the first violation of elements.
 #[derive(Drop)]
-struct FirstElementViolation<'d> {
-    tables: TableSet<'d>,
-    table: DataTable,
+struct FirstElementViolation<'j, 'd> {
+    judge: &'j TablesJudge<'d>,
     first: Option<Violation>,
 }
 
-impl<'d> VisitElement for FirstElementViolation<'d> {
+impl<'j, 'd> VisitElement for FirstElementViolation<'j, 'd> {
     type Error = Infallible;
 
     ghost Seen = { (CollatorTables × DataTable) × Option Violation };
 
-    ghost seen = { λ v. ((tables_in v.tables, v.table), v.first) };
+    ghost seen = { λ v. ((tables_in v.judge.now.tables, v.judge.now.table), v.first) };
 
     ghost after = { judged_element };
 
     fn visit(&mut self, element: CollationElement) -> Result<(), Infallible> {
+        if self.judge.passes_element(element) {
+            return Ok(());
+        }
         self.first = earlier(
             self.first,
-            element_violation(self.tables, self.table, element),
+            element_violation(self.judge.tables, self.judge.table, element),
         );
         Ok(())
     }
@@ -141,21 +144,16 @@ impl<'d> VisitElement for FirstElementViolation<'d> {
 /// The first violation of the elements that an entry of a table gives with a character.
 #[tactic(auto, using(crate::proofs::EntryViolationLemmas::judged_elements))]
 fn elements_violation(
-    tables: TableSet<'_>,
-    table: DataTable,
+    judge: &TablesJudge<'_>,
     home: CollationData<'_>,
     c: char,
     entry: CollationElement32,
 ) -> Option<Violation>
     requires { IsTrue (is_readable (data_of home) c entry) }
-    ensures { result
-        ≡ elements_violation (tables_in tables.entry) table (data_of home.entry) c entry }
+    ensures { result ≡ elements_violation (tables_in judge.now.tables) judge.now.table
+        (data_of home.entry) c entry }
 {
-    let mut visitor = FirstElementViolation {
-        tables,
-        table,
-        first: None,
-    };
+    let mut visitor = FirstElementViolation { judge, first: None };
     match visit_elements(&mut visitor, home, c, entry) {
         Ok(()) => visitor.first,
         Err(never) => match never {},
@@ -165,13 +163,14 @@ fn elements_violation(
 /// The condition on the mappings of a prefix as a violation.
 #[tactic(auto, unfolding(icu_provider::specs::TableSets::tables_in))]
 fn mappings_violation(
-    tables: TableSet<'_>,
+    judge: &TablesJudge<'_>,
     home: CollationData<'_>,
     entry: CollationElement32,
 ) -> Option<Violation>
-    ensures { result ≡ mappings_violation (tables_in tables.entry) (data_of home.entry) entry }
+    ensures { result
+        ≡ mappings_violation (tables_in judge.now.tables) (data_of home.entry) entry }
 {
-    if home.avoids_diacritics(tables.diacritics.secondaries().len(), entry) {
+    if home.avoids_diacritics(judge.tables.diacritics.secondaries().len(), entry) {
         None
     } else {
         Some(Violation {
@@ -198,23 +197,83 @@ fn violation_beside(
         condition: Condition::Entry(condition),
         table: judge.table,
     };
-    let found = earlier(Some(own), mappings_violation(judge.tables, home, entry));
+    let found = earlier(Some(own), mappings_violation(judge, home, entry));
     let of_elements = if home.is_readable(c, entry) {
-        elements_violation(judge.tables, judge.table, home, c, entry)
+        elements_violation(judge, home, c, entry)
     } else {
         None
     };
     earlier(found, of_elements)
 }
 
+/// Whether no primary weight with this lead byte fails a condition on elements, where its second byte is from 04 to FE.
+fn lead_passes(tables: TableSet<'_>, lead: u8) -> bool
+    ensures { result ≡ true → LeadPasses (tables_in tables.entry) lead }
+{
+    let least = u32::from(lead) * 0x0100_0000;
+    passes_between(tables, least + 0x0004_0000, least + 0x00FE_FFFF)
+}
+
+/// Of which lead bytes that is so.
+pub(crate) fn passing_leads(tables: TableSet<'_>) -> [bool; 256]
+    ensures { AreLeadsPassing (tables_in tables.entry) result }
+{
+    let mut leads = [false; 256];
+    for lead in 0..256usize {
+        leads[lead] = lead_passes(tables, lead as u8);
+    }
+    leads
+}
+
 /// What finds the violations of the entries that are reachable in a table, by all tables of a collator. Entries for
-/// implicit weights, a million of them, are passed over where reordering takes none of these to where it mustn't.
+/// implicit weights, a million of them, are passed over where reordering takes none of these to where it mustn't. Most
+/// elements have a lead byte with which none fails a condition, so that they aren't judged one by one.
 #[derive(Drop)]
 pub(crate) struct TablesJudge<'d> {
     pub(crate) tables: TableSet<'d>,
     pub(crate) table: DataTable,
     pub(crate) implicit_passes: bool,
+    pub(crate) leads: [bool; 256],
     ghost passes: { implicit_passes ≡ true → ImplicitPasses (tables_in tables) },
+    ghost leads_pass: { AreLeadsPassing (tables_in tables) leads },
+}
+
+impl<'d> TablesJudge<'d> {
+    /// Whether no primary weight that an element has fails a condition. `false` leaves that open.
+    fn passes_primary(&self, primary: u32) -> bool
+        ensures { result ≡ true
+            → PrimaryPasses (tables_in self.now.tables) primary }
+    {
+        if primary == 0 {
+            return true;
+        }
+        if !has_second_byte(primary) {
+            return false;
+        }
+        self.leads[usize::from(lead_byte(primary))]
+    }
+
+    /// Whether an element fails no condition, as far as its lead byte shows it. `false` leaves that open.
+    #[tactic(auto, using(crate::proofs::PassingLemmas::passes_by_primary))]
+    fn passes_element(&self, element: CollationElement) -> bool
+        ensures { result ≡ true
+            → first_failing_element (tables_in self.now.tables) element ≡ None }
+    {
+        ReachableElementCondition::Width.holds(self.tables, element)
+            && ReachableElementCondition::BackwardLead.holds(self.tables, element)
+            && ReachableElementCondition::TertiaryElement.holds(self.tables, element)
+            && self.passes_primary(element.primary())
+    }
+
+    /// Whether an entry spells an element that fails no condition, as far as its lead byte shows it. `false` leaves
+    /// that open.
+    #[tactic(auto, using(crate::proofs::PassingLemmas::spelled_passes))]
+    fn passes_spelled(&self, entry: CollationElement32) -> bool
+        ensures { result ≡ true → (home : Data) (c : ℕ) → first_failing home c entry ≡ None
+            → entry_violation (tables_in self.now.tables) self.now.table home c entry ≡ None }
+    {
+        entry.is_self_contained() && self.passes_element(entry.self_contained())
+    }
 }
 
 /// Whether reordering takes a primary weight to a lead byte from 03 to FE, and not to that of numbers.
@@ -332,6 +391,7 @@ impl<'d> Judge for TablesJudge<'d> {
     ghost violation = { λ j home c e. entry_violation (tables_in j.tables) j.table home c e };
 
     #[tactic(auto, using(crate::proofs::EntryViolationLemmas::is_readable_where_none_fails), unfolding(crate::specs::inner::EntryViolations::entry_violation))]
+    #[inline(always)]
     fn violation(
         &self,
         home: CollationData<'_>,
@@ -340,10 +400,15 @@ impl<'d> Judge for TablesJudge<'d> {
     ) -> Option<Violation> {
         match home.first_failing(c, entry) {
             Some(condition) => violation_beside(self, condition, home, c, entry),
-            None => earlier(
-                mappings_violation(self.tables, home, entry),
-                elements_violation(self.tables, self.table, home, c, entry),
-            ),
+            None => {
+                if self.passes_spelled(entry) {
+                    return None;
+                }
+                earlier(
+                    mappings_violation(self, home, entry),
+                    elements_violation(self, home, c, entry),
+                )
+            }
         }
     }
 

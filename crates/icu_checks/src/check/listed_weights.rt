@@ -1,4 +1,4 @@
-//! The weights that are compared with one another, all lists on two walks over a table.
+//! The weights that are compared with one another, all lists on one walk over a table.
 ghost use Rattle.std.specs.Prelude.{◌≡◌, [], IfOk, OnOk};
 ghost use Rattle.icu_collation_data.specs.CollectedWeights.{IsReachableWeight};
 ghost use Rattle.icu_collation_data.specs.StoredData.{data_of};
@@ -12,7 +12,7 @@ use crate::check::weights::WeightList;
 use icu_collation_data::CollationData;
 use icu_collation_data::block_walk::visit_chars;
 use icu_collation_data::both::Both;
-use icu_collation_data::reachable_weights::{Collector, collect_weights};
+use icu_collation_data::reachable_weights::Collector;
 use icu_entries::DataTable;
 use icu_provider::TableSet;
 use icu_weights::weight_set::WeightSet;
@@ -44,8 +44,8 @@ impl ListedWeights {
     }
 }
 
-/// Adds the weights of all that is reachable in a root or a tailoring, by a walk for primary weights and one for all
-/// others, which passes over ideographs.
+/// Adds the weights of all that is reachable in a root or a tailoring, by one walk: of ideographs the primary weights
+/// alone.
 fn collect_home(
     lists: &mut ListedWeights,
     home: CollationData<'_>,
@@ -69,31 +69,30 @@ fn collect_home(
         (data_of home.entry))
         lists.old.with_secondary.items lists.new.with_secondary.items) }
 {
-    collect_weights(
-        &mut lists.primaries,
-        &WeightList::Primaries,
-        home,
-        falls_back,
-    )?;
+    let primaries = Collector::over(&WeightList::Primaries, &mut lists.primaries);
     let secondaries = Collector::over(&WeightList::Secondaries, &mut lists.secondaries);
     let tertiaries = Collector::over(&WeightList::Tertiaries, &mut lists.tertiaries);
     let alone = Collector::over(&WeightList::TertiaryElements, &mut lists.tertiary_elements);
     let beside = Collector::over(&WeightList::WithSecondary, &mut lists.with_secondary);
     let mut visitor = Both {
-        first: Both {
-            first: secondaries,
-            second: tertiaries,
-        },
+        first: primaries,
         second: Both {
-            first: alone,
-            second: beside,
+            first: Both {
+                first: secondaries,
+                second: tertiaries,
+            },
+            second: Both {
+                first: alone,
+                second: beside,
+            },
         },
     };
     let outcome = visit_chars(&mut visitor, home, falls_back);
-    lists.secondaries = visitor.first.first.weights;
-    lists.tertiaries = visitor.first.second.weights;
-    lists.tertiary_elements = visitor.second.first.weights;
-    lists.with_secondary = visitor.second.second.weights;
+    lists.primaries = visitor.first.weights;
+    lists.secondaries = visitor.second.first.first.weights;
+    lists.tertiaries = visitor.second.first.second.weights;
+    lists.tertiary_elements = visitor.second.second.first.weights;
+    lists.with_secondary = visitor.second.second.second.weights;
     outcome
 }
 

@@ -5,7 +5,7 @@ ghost use Rattle.icu_provider.specs.TableSets.{tables_in};
 ghost use Rattle.icu_checks.specs.inner.Violations.{IsTrueViolation};
 ghost use Rattle.icu_checks.specs.inner.EntryViolations.{JamoPasses, MeetsIn, DiacriticMeets, ReachableMeets};
 
-use crate::check::entry_judge::{TablesJudge, element_violation, implicit_passes};
+use crate::check::entry_judge::{TablesJudge, element_violation, implicit_passes, passing_leads};
 use crate::check::lookups::jamo_char;
 use crate::violation::Violation;
 use icu_collation_data::violation::{earlier, first_violation, first_violation_from};
@@ -21,6 +21,7 @@ fn root_violation(tables: TableSet<'_>) -> Option<Violation>
         tables,
         table: DataTable::Root,
         implicit_passes: implicit_passes(tables),
+        leads: passing_leads(tables),
     };
     first_violation(&judge, None, tables.root, false)
 }
@@ -35,6 +36,7 @@ fn tailoring_violation(tables: TableSet<'_>) -> Option<Violation>
                 tables,
                 table: DataTable::Tailoring,
                 implicit_passes: implicit_passes(tables),
+                leads: passing_leads(tables),
             };
             first_violation(&judge, None, tailoring, true)
         }
@@ -43,6 +45,7 @@ fn tailoring_violation(tables: TableSet<'_>) -> Option<Violation>
 }
 
 /// The first violation of what is reachable with one of the conjoining jamo.
+#[tactic(auto, using(crate::proofs::PassingLemmas::no_leads))]
 fn violation_of_jamo(
     tables: TableSet<'_>,
     place: usize,
@@ -58,6 +61,7 @@ fn violation_of_jamo(
         table: DataTable::Jamo,
         // of one entry and those that it leads to, there is nothing to pass over
         implicit_passes: false,
+        leads: [false; 256],
     };
     match jamo_char(place) {
         Some(c) => first_violation_from(&judge, None, tables.root, c, entry),

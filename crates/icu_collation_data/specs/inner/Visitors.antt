@@ -1,8 +1,11 @@
 -- What the visitors of this crate add up to.
 use Rattle.std.specs.List.{list_any}
-use Rattle.std.specs.Prelude.{ℕ, ◌≡◌, ◌∷◌, IsTrue, take, drop, Bool, ◌&&◌, ◌||◌, ◌==◌, List, [], Option, Some, None, if◌then◌else◌, fold, map, flat_map}
+use Rattle.std.specs.Prelude.{ℕ, ◌≡◌, ◌∷◌, IsTrue, take, drop, Bool, not, ◌&&◌, ◌||◌, ◌==◌, List, [], Option, Some, None, if◌then◌else◌, fold, map, flat_map}
 use Rattle.icu_entries.specs.declared.element_conditions.ElementCondition.TheVariants.{Shape, Leads, Primary}
 use Rattle.icu_entries.specs.declared.entry.EntryKind.TheVariants.{Offset}
+use Rattle.icu_collation_data.specs.declared.reachable_condition.ReachableCondition.{ReachableCondition}
+use Rattle.icu_collation_data.specs.declared.reachable_condition.ReachableCondition.TheVariants as conditions
+use Rattle.icu_collation_data.specs.declared.reachable_condition.ReachableCondition.TheVariants.{Shapes, Primaries}
 use Rattle.icu_entries.specs.Elements.{Element}
 use Rattle.icu_entries.specs.Entries.{kind_of, entry_index}
 use Rattle.icu_entries.specs.EntryConditions.{has_offset_weight}
@@ -57,3 +60,11 @@ given_elements home c e = if is_stated home c e then final_elements (homed home 
 -- what collects, and which weights are held so far, after the elements of one more entry
 abbrev pub collected_at : {W : Type 0} → (W → Element → Option ℕ) → W × (ℕ → Bool) → Data → ℕ → ℕ → W × (ℕ → Bool)
 collected_at weight s home c e = fold (collected weight) s (given_elements home c e)
+
+-- the first condition that one element fails
+abbrev pub first_failing_element : Element → Option ReachableCondition
+first_failing_element x =
+    if not (element_meets Shape x) then Some Shapes
+    else if not (element_meets Leads x) then Some conditions.Leads
+    else if not (element_meets Primary x) then Some Primaries
+    else None

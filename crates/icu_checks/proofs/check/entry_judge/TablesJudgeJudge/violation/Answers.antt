@@ -15,3 +15,7 @@ returns-in-None c =
     ∙ ap (λ mappings. earlier violation_rank mappings c.elements_violation.result) c.mappings_violation.ensures
     ∙ ap (earlier violation_rank (mappings_violation all home c.args.entry)) c.elements_violation.ensures
     ∙ sym (without_own all c.args.self.now.table home c.args.c c.args.entry (sym c.first_failing.ensures ∙ c.in-None.is))
+
+pub returns-in-None-then-passes_spelled : goal.returns-in-None-then-passes_spelled
+returns-in-None-then-passes_spelled c =
+    sym (c.passes_spelled.ensures c.if-passes_spelled.true (data_of c.args.home) c.args.c (sym c.first_failing.ensures ∙ c.in-None.is))

@@ -3,7 +3,7 @@ use Rattle.icu_collation_data.specs.Reachable.{goes_by_character}
 use Rattle.icu_collation_data.specs.StoredData.{data_of}
 use Rattle.icu_collation_data.specs.inner.Visitors.{holds}
 use Rattle.icu_collation_data.proofs.CollectedWeightLemmas.{passes_primaries}
-use Rattle.icu_collation_data.proofs.reachable_weights.CollectorVisit.visit.Goals as goal
+use Rattle.icu_collation_data.proofs.reachable_weights.Collector.visit_stated.Goals as goal
 
 pub returns-then-not-weighs_primaries : goal.returns-then-not-weighs_primaries
 returns-then-not-weighs_primaries g c =
