@@ -64,11 +64,12 @@ module _ {V W : Type 0} (f : V → Data → ℕ → ℕ → V) (g : W → Data �
       ap (λ y. (v, y)) (visits is) ∙ ap (λ x. (x, after_run g w home first e 64)) (sym (same_run f false home v first e 64 passes (omega arith))) ∙ sym (run_of_both v w 64)
   run_by_second (Err x) v w u passes visits = tt
 
-  -- what is left as it was, of both
-  pub left_by_first : {X : Type 0} (r : Result Bool X) (v t : V) (w : W) → IfOk r (λ done. done ≡ false → t ≡ v) → IfOk r (λ done. done ≡ false → (t, w) ≡ (v, w))
+-- what is left as it was, of both
+module _ {V W : Type 0} where
+  pub left_by_first : {X : Type 0} (r : Result Bool X) (v t : V) (w : W) → IfOk r (λ done. done ≡ false → t ≡ v) → IfOk r (λ done. done ≡ false → ◌≡◌ {A = V × W} (t, w) (v, w))
   left_by_first (Ok done) v t w leaves = λ is. ap (λ x. (x, w)) (leaves is)
   left_by_first (Err x) v t w leaves = tt
 
-  pub left_by_second : {X : Type 0} (r : Result Bool X) (v : V) (w u : W) → IfOk r (λ done. done ≡ false → u ≡ w) → IfOk r (λ done. done ≡ false → (v, u) ≡ (v, w))
+  pub left_by_second : {X : Type 0} (r : Result Bool X) (v : V) (w u : W) → IfOk r (λ done. done ≡ false → u ≡ w) → IfOk r (λ done. done ≡ false → ◌≡◌ {A = V × W} (v, u) (v, w))
   left_by_second (Ok done) v w u leaves = λ is. ap (λ y. (v, y)) (leaves is)
   left_by_second (Err x) v w u leaves = tt

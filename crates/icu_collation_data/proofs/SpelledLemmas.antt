@@ -1,7 +1,6 @@
 -- Entries that spell their element: they lead to no other, can be read, and fail what that element fails.
-use Rattle.std.proofs.Common.{◌≡◌, ℕ, Bool, true, false, not, ◌&&◌, ◌∷◌, [], Option, Some, None, refl, ap, ◌∙◌, cases_Bool, IsTrue}
-use Rattle.std.specs.Prelude.{find, if◌then◌else◌, List, fold}
-use Rattle.std.specs.List.{list_all}
+use Rattle.std.proofs.Common.{◌≡◌, ℕ, Bool, true, false, not, ◌&&◌, ◌∷◌, [], Option, Some, None, refl, ◌∙◌}
+use Rattle.std.specs.Prelude.{if◌then◌else◌}
 use Rattle.icu_entries.specs.declared.entry.EntryKind.{EntryKind}
 use Rattle.icu_entries.specs.declared.entry.EntryKind.TheVariants.{Simple, LongPrimary, LongSecondary}
 use Rattle.icu_entries.specs.declared.element_conditions.ElementCondition.TheVariants as of_element
@@ -11,12 +10,11 @@ use Rattle.icu_entries.specs.Entries.{kind_of, is_self_contained, self_contained
 use Rattle.icu_entries.specs.EntryConditions.{has_digit, has_known_byte}
 use Rattle.icu_collation_data.specs.declared.character_walk.Part.{Part}
 use Rattle.icu_collation_data.specs.declared.character_walk.Part.TheVariants.{Counted, Implicit}
-use Rattle.icu_collation_data.specs.declared.reachable_condition.ReachableCondition.{ReachableCondition}
-use Rattle.icu_collation_data.specs.declared.reachable_condition.ReachableCondition.TheVariants.{Indices, PrefixMappings, Chains, Digits, Bytes, Offsets, Shapes, Leads, Primaries}
+use Rattle.icu_collation_data.specs.declared.reachable_condition.ReachableCondition.TheVariants.{Shapes, Leads, Primaries}
 use Rattle.icu_collation_data.specs.Data.{Data, homed}
 use Rattle.icu_collation_data.specs.Final.{final_elements}
 use Rattle.icu_collation_data.specs.DataConditions.{is_inside, has_short_mappings, leads_on, has_known_members, fits_offset, is_readable}
-use Rattle.icu_collation_data.specs.ReachableConditions.{first_failing, meets}
+use Rattle.icu_collation_data.specs.ReachableConditions.{first_failing}
 use Rattle.icu_collation_data.specs.CollectedWeights.{is_stated}
 use Rattle.icu_collation_data.specs.inner.BlockWalks.{is_wanted, leads_to, leads_further}
 use Rattle.icu_collation_data.specs.inner.Visitors.{first_failing_element, given_elements, collected, collected_at}

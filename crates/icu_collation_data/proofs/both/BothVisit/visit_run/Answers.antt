@@ -11,7 +11,7 @@ returns-then-passes_run-clause-leaves g c = left_by_first c.visit_run.result _ _
 
 pub returns-then-passes_run-2-clause-visits : goal.returns-then-passes_run-2-clause-visits
 returns-then-passes_run-2-clause-visits g c =
-    run_by_second g.A.Visit.after g.B.Visit.after (data_of c.args.home) c.args.first c.args.entry c.visit_run-2.result _ _ _ (c.passes_run-2.ensures c.if-passes_run-2.true) c.visit_run-2.ensures.visits
+    run_by_second g.A.Visit.after g.B.Visit.after (data_of c.args.home) c.args.first c.args.entry c.visit_run-then-passes_run-2.result _ _ _ (c.passes_run-2.ensures c.if-passes_run-2.true) c.visit_run-then-passes_run-2.ensures.visits
 
 pub returns-then-passes_run-2-clause-leaves : goal.returns-then-passes_run-2-clause-leaves
-returns-then-passes_run-2-clause-leaves g c = left_by_second c.visit_run-2.result _ _ _ c.visit_run-2.ensures.leaves
+returns-then-passes_run-2-clause-leaves g c = left_by_second c.visit_run-then-passes_run-2.result _ _ _ c.visit_run-then-passes_run-2.ensures.leaves
