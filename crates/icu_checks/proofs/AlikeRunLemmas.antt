@@ -1,8 +1,7 @@
 -- Implicit weights that share their two highest bytes, which reordering takes to one lead byte, first fail the same
 -- condition.
-use Rattle.std.proofs.Common.{◌≡◌, ◌≢◌, ℕ, ◌+◌, ◌*◌, ◌/◌, ◌%◌, ◌^◌, ◌<◌, ◌≤◌, Bool, true, false, not, ◌==◌, nat_eq, nat_lt, fold, List, [], ◌∷◌, Option, Some, None, if◌then◌else◌, IsTrue, inl, inr, refl, sym, ap, ◌∙◌, subst, arith, option_map}
+use Rattle.std.proofs.Common.{◌≡◌, ◌≢◌, ℕ, ◌+◌, ◌*◌, ◌/◌, ◌%◌, ◌^◌, ◌<◌, ◌≤◌, Bool, true, false, not, nat_eq, nat_lt, fold, List, [], ◌∷◌, Some, None, if◌then◌else◌, refl, sym, ap, ◌∙◌, arith, option_map}
 use Rattle.std.specs.Prelude.{find}
-use Rattle.std.proofs.lemmas.Bool.{cases_eq}
 use Rattle.std.proofs.lemmas.Bool.Decides.{nat_tests}
 use Rattle.icu_entries.specs.declared.error.DataTable.{DataTable}
 use Rattle.icu_entries.specs.Elements.{of_primary}
@@ -13,10 +12,10 @@ use Rattle.icu_collation_data.specs.Data.{Data}
 use Rattle.icu_collation_data.specs.Violations.{earlier}
 use Rattle.icu_collation_data.proofs.ImplicitLemmas.{implicit_passes}
 use Rattle.icu_provider.specs.Reorderings.{lead_byte}
-use Rattle.icu_provider.specs.CollatorTables.{CollatorTables, reorder, reorder_by}
+use Rattle.icu_provider.specs.CollatorTables.{CollatorTables, reorder}
 use Rattle.icu_checks.specs.declared.condition.ReachableElementCondition.{ReachableElementCondition}
 use Rattle.icu_checks.specs.declared.condition.ReachableElementCondition.TheVariants.{Width, BackwardLead, TertiaryElement, MiddleLead, ImplicitLength, NumericLead, SharedLead, SecondByte}
-use Rattle.icu_checks.specs.ElementConditions.{has_low_bytes, has_second_byte, reachable_element_meets, element_conditions}
+use Rattle.icu_checks.specs.ElementConditions.{reachable_element_meets, element_conditions}
 use Rattle.icu_checks.specs.inner.Violations.{violation_rank}
 use Rattle.icu_checks.specs.inner.EntryViolations.{first_failing_element, of_element, after_element, mappings_violation, entry_violation, HasEndsTogether}
 use Rattle.icu_checks.proofs.ImplicitLemmas.{AreBytes, implicit_bytes, implicit_high, high_enough, where_ends}

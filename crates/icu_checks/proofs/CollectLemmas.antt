@@ -1,5 +1,5 @@
 -- The weights that a list comes to hold, table by table.
-use Rattle.std.proofs.Common.{◌≡◌, ◌↔◌, ◌⊎◌, ℕ, ◌+◌, ◌-◌, ◌<◌, ◌++◌, false, true, Bool, Result, OnOk, List, [], ◌∷◌, length, slice_index, Option, Some, None, IsTrue, refl, sym, ap, ◌∙◌, subst, inl, inr, arith, option_map}
+use Rattle.std.proofs.Common.{◌≡◌, ◌↔◌, ◌⊎◌, ℕ, ◌+◌, ◌-◌, ◌<◌, false, true, Bool, Result, OnOk, List, length, slice_index, Option, Some, None, IsTrue, refl, sym, ap, ◌∙◌, subst, inl, inr, arith, option_map}
 use Rattle.std.proofs.lemmas.Bool.Decides.{nat_tests}
 use Rattle.std.specs.List.{Contains}
 use Rattle.icu_collation_data.proofs.WalkLemmas.{on_ok}

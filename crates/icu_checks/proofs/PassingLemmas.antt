@@ -1,9 +1,8 @@
 -- Lead bytes with which no primary weight fails a condition on elements, and what they say of entries.
-use Rattle.std.proofs.Common.{◌≡◌, ◌≢◌, ℕ, ◌+◌, ◌*◌, ◌/◌, ◌%◌, ◌≤◌, ◌<◌, Bool, true, false, not, ◌==◌, ◌&&◌, nat_eq, nat_le, List, [], ◌∷◌, ◌⊎◌, inl, inr, get_or, set, replicate, length, Option, Some, None, IsTrue, refl, sym, ap, ◌∙◌, subst, arith}
+use Rattle.std.proofs.Common.{◌≡◌, ℕ, zero, suc, ◌+◌, ◌*◌, ◌/◌, ◌%◌, ◌≤◌, ◌<◌, Bool, true, false, not, ◌==◌, nat_le, List, [], ◌∷◌, inl, inr, get_or, set, replicate, length, Option, Some, None, IsTrue, refl, sym, ap, ◌∙◌, subst, arith}
 use Rattle.std.specs.Prelude.{◌||◌, slice_index_or}
 use Rattle.std.proofs.lemmas.Bool.{and_parts, cases_eq, false≢true}
 use Rattle.std.proofs.lemmas.Bool.Decides.{nat_tests}
-use Rattle.std.proofs.lemmas.Grind.{common_steps}
 use Rattle.std.proofs.lemmas.List.{get_or-set_same, get_or-set_other}
 use Rattle.icu_entries.specs.declared.entry.EntryKind.{EntryKind}
 use Rattle.icu_entries.specs.declared.entry.EntryKind.TheVariants.{Simple, LongPrimary, LongSecondary}
@@ -21,15 +20,17 @@ use Rattle.icu_provider.specs.CollatorTables.{CollatorTables}
 use Rattle.icu_checks.specs.declared.condition.ReachableElementCondition.{ReachableElementCondition}
 use Rattle.icu_checks.specs.declared.condition.ReachableElementCondition.TheVariants.{Width, BackwardLead, TertiaryElement, MiddleLead, ImplicitLength, NumericLead, SharedLead, SecondByte}
 use Rattle.icu_checks.specs.declared.violation.Violation.{Violation}
-use Rattle.icu_checks.specs.ElementConditions.{has_second_byte, primary_meets, reachable_element_meets, element_conditions}
+use Rattle.icu_checks.specs.ElementConditions.{has_second_byte, reachable_element_meets, element_conditions}
 use Rattle.icu_checks.specs.inner.Violations.{violation_rank}
-use Rattle.icu_checks.specs.inner.EntryViolations.{first_failing_element, element_violation, after_element, judged_element, entry_violation, LeadPasses, AreLeadsPassing, PrimaryPasses}
+use Rattle.icu_checks.specs.inner.EntryViolations.{first_failing_element, judged_element, entry_violation, LeadPasses, AreLeadsPassing, PrimaryPasses}
 use Rattle.icu_checks.proofs.EntryViolationLemmas.{passes_element, without_own}
 
 -- ---- which lead bytes are marked
 
 unmarked : (n l : ℕ) → get_or (replicate n false) l false ≡ false
-unmarked n l = grind (arith, common_steps)
+unmarked zero l = refl
+unmarked (suc n) zero = refl
+unmarked (suc n) (suc l) = unmarked n l
 
 -- at first none is
 pub no_leads : (all : CollatorTables) → AreLeadsPassing all (replicate 256 false)
@@ -41,7 +42,7 @@ one_lead_more all leads b passes inside known each lead marked =
     elim (cases_eq lead b) [
       | inl same ↦
           let is : passes ≡ true = sym (get_or-set_same leads b passes false inside) ∙ ap (λ k. slice_index_or (set leads b passes) k false) (sym same) ∙ marked in
-          subst (LeadPasses all) (sym same) (known is)
+          subst (λ k. LeadPasses all k) (sym same) (known is)
       | inr other ↦ each lead (sym (get_or-set_other leads b lead passes false other) ∙ marked)
     ]
 

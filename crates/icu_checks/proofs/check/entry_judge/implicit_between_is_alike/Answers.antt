@@ -1,5 +1,4 @@
-use Rattle.std.proofs.Common.{rules, ◌≡◌, ◌/◌, ◌∙◌, sym, subst}
-use Rattle.icu_entries.specs.Weights.{implicit_weight}
+use Rattle.std.proofs.Common.{rules, ◌≡◌, ◌∙◌, sym, subst}
 use Rattle.icu_provider.specs.TableSets.{tables_in}
 use Rattle.icu_checks.specs.inner.EntryViolations.{HasEndsTogether}
 use Rattle.icu_checks.proofs.AlikeRunLemmas.{run_alike}

@@ -1,4 +1,4 @@
-use Rattle.std.proofs.Common.{◌/◌, subst}
+use Rattle.std.proofs.Common.{subst}
 use Rattle.icu_provider.specs.TableSets.{tables_in}
 use Rattle.icu_checks.specs.inner.EntryViolations.{HasEndsApart}
 use Rattle.icu_checks.proofs.check.entry_judge.implicit_ends_apart.Goals as goal

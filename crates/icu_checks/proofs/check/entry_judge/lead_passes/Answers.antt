@@ -1,4 +1,4 @@
-use Rattle.std.proofs.Common.{rules, ◌≡◌, ◌*◌, ◌+◌, ◌≤◌, arith, sym, subst}
+use Rattle.std.proofs.Common.{◌*◌, ◌+◌, ◌≤◌, arith}
 use Rattle.icu_checks.proofs.PassingLemmas.{lies_from, lies_to}
 use Rattle.icu_checks.proofs.check.entry_judge.lead_passes.Goals as goal
 

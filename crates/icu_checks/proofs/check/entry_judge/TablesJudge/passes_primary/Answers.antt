@@ -4,8 +4,8 @@ use Rattle.icu_provider.specs.Reorderings.{lead_byte}
 use Rattle.icu_checks.specs.ElementConditions.{has_second_byte}
 use Rattle.icu_checks.proofs.check.entry_judge.TablesJudge.passes_primary.Goals as goal
 
-pub returns-then-eq : goal.returns-then-eq
-returns-then-eq c is = inl (search rules)
+pub returns-then-primary-eq0 : goal.returns-then-primary-eq0
+returns-then-primary-eq0 c is = inl (search rules)
 
 pub returns : goal.returns
 returns c is =

@@ -7,8 +7,8 @@ use Rattle.icu_checks.specs.inner.EntryViolations.{mappings_violation}
 use Rattle.icu_checks.proofs.EntryViolationLemmas.{without_own}
 use Rattle.icu_checks.proofs.check.entry_judge.TablesJudgeJudge.violation.Goals as goal
 
-pub returns-in-None : goal.returns-in-None
-returns-in-None c =
+pub returns-else-passes_spelled : goal.returns-else-passes_spelled
+returns-else-passes_spelled c =
     let all = tables_in c.args.self.now.tables in
     let home = data_of c.args.home in
     c.earlier.ensures
@@ -16,6 +16,6 @@ returns-in-None c =
     ∙ ap (earlier violation_rank (mappings_violation all home c.args.entry)) c.elements_violation.ensures
     ∙ sym (without_own all c.args.self.now.table home c.args.c c.args.entry (sym c.first_failing.ensures ∙ c.in-None.is))
 
-pub returns-in-None-then-passes_spelled : goal.returns-in-None-then-passes_spelled
-returns-in-None-then-passes_spelled c =
+pub returns-then-passes_spelled : goal.returns-then-passes_spelled
+returns-then-passes_spelled c =
     sym (c.passes_spelled.ensures c.if-passes_spelled.true (data_of c.args.home) c.args.c (sym c.first_failing.ensures ∙ c.in-None.is))
