@@ -20,8 +20,18 @@ use icu_keys::parts::end_key;
 use icu_keys::primaries::PrimaryCompression;
 use icu_keys::{CollationKeySink, SortKeyError};
 use icu_levels::forms::KeyForm;
-use icu_weighting::HandledSource;
+use icu_weighting::{Handled, HandledSource};
 use std::alloc::Global;
+
+/// Tells a compression the lead of the primary of an element, where it stayed.
+#[inline(always)]
+fn expect_lead<C: PrimaryCompression>(compression: &mut C, element: Handled)
+    ensures { C.compression compression.new ≡ C.compression compression.old }
+{
+    if let Handled::Stayed(element) = element {
+        compression.expect((element.primary() >> 24) as u8);
+    }
+}
 
 /// Writes the rest of a key, of the elements that are still to come.
 #[inline(always)]
@@ -43,8 +53,10 @@ fn write_elements<F: WrittenForm, S: CollationKeySink, C: PrimaryCompression, H:
         characters.now (H.handled_left elements.old))
         result sink.new state.new }
 {
+    let mut known = *compression;
     'writing: while let Some(element) = next_element(elements)? {
-        writer.push(form, sink, state, compression, element)?;
+        expect_lead(&mut known, element);
+        writer.push(form, sink, state, &known, element)?;
     }
     writer.close(form, sink, state, characters)
 }
