@@ -1,5 +1,5 @@
 -- Keys of three levels whose elements had common weights so far.
-use Rattle.std.proofs.Common.{◌≡◌, ◌×◌, ℕ, zero, suc, ◌+◌, Bool, true, false, List, ◌∷◌, ◌++◌, Some, refl, sym, ap, ◌∙◌, replicate, IfSome, arith}
+use Rattle.std.proofs.Common.{◌≡◌, ℕ, zero, suc, ◌+◌, Bool, true, false, List, [], ◌∷◌, ◌++◌, Some, refl, ap, ◌∙◌, append-nil, replicate, arith}
 use Rattle.icu_levels.specs.Keys.{LevelPart, absent, closed, later_parts}
 use Rattle.icu_levels.specs.Secondaries.{secondary_level}
 use Rattle.icu_levels.specs.Tertiaries.{tertiary_level, tertiary_runs}
@@ -7,11 +7,9 @@ use Rattle.icu_levels.specs.declared.forms.TertiaryForm.{TertiaryForm}
 use Rattle.icu_levels.specs.declared.forms.SecondaryForm.TheVariants.{Forward}
 use Rattle.icu_entries.specs.Elements.{Element}
 use Rattle.icu_keys.specs.HeldRests.{held_secondaries, held_tertiaries, held_tertiary_form}
-use Rattle.icu_keys.specs.declared.held_secondaries.HeldSecondaries.{HeldSecondaries}
-use Rattle.icu_keys.specs.declared.held_tertiaries.HeldTertiaries.{HeldTertiaries}
 use Rattle.icu_weighting.specs.Handled.{HandledElement, stayed_elements}
-use Rattle.icu_weighting.specs.Levels.{level_lists, secondaries, tertiaries}
-use Rattle.icu_text_keys.specs.LevelRests.{characters_left, counted_left, levels_after, secondaries_after, tertiaries_after}
+use Rattle.icu_weighting.specs.Levels.{level_lists, secondaries, tertiaries, weights}
+use Rattle.icu_text_keys.specs.LevelRests.{characters_left, counted_left, levels_after}
 use Rattle.icu_text_keys.specs.CommonRests.{parts_after_commons}
 use Rattle.icu_text_keys.specs.UsualForms.{three_levels}
 use Rattle.icu_text_keys.specs.declared.counted_levels.CountedLevels.{CountedLevels}
@@ -30,7 +28,7 @@ two_parts : (a b c d : LevelPart) (rest : List LevelPart) → a ≡ b → c ≡ 
 two_parts a b c d rest p q = rw (p, q) refl
 
 one_secondary : (n p : ℕ) (es : List Element) → replicate n 0x500 ++ secondaries (with_common p ∷ es) ≡ replicate (suc n) 0x500 ++ secondaries es
-unfolding icu_weighting.specs.Levels.weights
+unfolding weights
 one_secondary n p es = shifted 0x500 n (secondaries es)
 
 one_tertiary : (t : TertiaryForm) (n p : ℕ) (es : List Element)
@@ -63,3 +61,12 @@ levels_go_on t identical reorder l n cs hs e s h f =
     ∙ two_parts _ _ _ _ (characters_left identical cs ∷ []) (ap closed (s (replicate n 0x500 ++ secondaries (stayed_elements hs))))
     (ap closed (h (replicate n (tertiary_runs (held_tertiary_form l.levels.tertiaries)).common ++ tertiaries t (stayed_elements hs))
     ∙ ap (λ (k : TertiaryForm). tertiary_level t (replicate n (tertiary_runs k).common ++ tertiaries t (stayed_elements hs))) f))
+
+-- ---- the end
+
+pub parts_at_end : (t : TertiaryForm) (identical : Bool) (n : ℕ) (cs : List ℕ)
+    → parts_after_commons t identical n cs [] ≡ (closed (secondary_level (replicate n 0x500)) ∷ absent ∷ closed (tertiary_level t (replicate n (tertiary_runs t).common)) ∷ absent ∷ characters_left identical cs ∷ [])
+unfolding weights
+parts_at_end t identical n cs =
+    two_parts _ _ _ _ (characters_left identical cs ∷ []) (ap (λ ws. closed (secondary_level ws)) (append-nil (replicate n 0x500)))
+    (ap (λ ws. closed (tertiary_level t ws)) (append-nil (replicate n (tertiary_runs t).common)))

@@ -1,13 +1,14 @@
 //! The beginning of a key, as long as elements have common weights beside their primaries.
 
-ghost use Rattle.std.specs.Prelude.{◌≡◌, ◌<◌, ℕ, Bool, List, [], ◌∷◌, IfSome};
-ghost use Rattle.std.specs.List.{AllByRecursion};
-ghost use Rattle.icu_levels.specs.Keys.{key_bytes};
+ghost use Rattle.std.specs.Prelude.{◌≡◌, ◌<◌, ℕ, Bool, List, [], ◌∷◌, replicate, IfSome};
+ghost use Rattle.icu_levels.specs.Keys.{closed, key_bytes, part_bytes};
 ghost use Rattle.icu_levels.specs.Primaries.{Compression};
+ghost use Rattle.icu_levels.specs.Secondaries.{secondary_level};
+ghost use Rattle.icu_levels.specs.Tertiaries.{tertiary_level, tertiary_runs};
 ghost use Rattle.icu_levels.specs.declared.forms.TertiaryForm.{TertiaryForm};
 ghost use Rattle.icu_keys.specs.KeyWrites.{KeyWrites, KeyFeeds};
 ghost use Rattle.icu_weighting.specs.Handled.{HandledElement, stayed};
-ghost use Rattle.icu_weighting.specs.HandledSources.{HasCase, handled_as};
+ghost use Rattle.icu_weighting.specs.HandledSources.{handled_as};
 ghost use Rattle.icu_weighting.specs.Levels.{level_lists};
 
 use crate::counted_levels::is_common;
@@ -21,6 +22,44 @@ use icu_keys::{CollationKeySink, SortKeyError};
 use icu_levels::forms::TertiaryForm;
 use icu_weighting::Handled;
 use std::alloc::Global;
+
+/// Writes a secondary level of so many common weights.
+#[inline(always)]
+fn write_secondaries<S: CollationKeySink>(
+    count: u32,
+    sink: &mut S,
+    state: &mut S::State,
+) -> Result<(), SortKeyError<S::Error>>
+    requires { S.is_sound sink.old state.old }
+    ensures sound { S.is_sound sink.new state.new }
+    ensures bytes { KeyWrites S.effects sink.old state.old
+        (part_bytes (closed (secondary_level (replicate count 0x500)))) result sink.new state.new }
+{
+    match write_common_secondaries(sink, state, count) {
+        Ok(()) => Ok(()),
+        Err(error) => Err(SortKeyError::Sink(error)),
+    }
+}
+
+/// Writes a tertiary level of so many common weights of its form.
+#[inline(always)]
+fn write_tertiaries<S: CollationKeySink>(
+    count: u32,
+    form: TertiaryForm,
+    sink: &mut S,
+    state: &mut S::State,
+) -> Result<(), SortKeyError<S::Error>>
+    requires { S.is_sound sink.old state.old }
+    ensures sound { S.is_sound sink.new state.new }
+    ensures bytes { KeyWrites S.effects sink.old state.old
+        (part_bytes (closed (tertiary_level form (replicate count (tertiary_runs form).common))))
+        result sink.new state.new }
+{
+    match write_common_tertiaries(form, sink, state, count) {
+        Ok(()) => Ok(()),
+        Err(error) => Err(SortKeyError::Sink(error)),
+    }
+}
 
 /// Elements of a key of three levels that all had common weights, beside their primaries: these are written, and the
 /// elements are counted. No level is held as long as this goes on, which is mostly to the end of a text.
@@ -119,12 +158,8 @@ impl CommonElements {
         ensures bytes { (c : Compression) → KeyWrites S.effects sink.old state.old
             (common_rest c tertiary identical self characters.now []) result sink.new state.new }
     {
-        if let Err(error) = write_common_secondaries(sink, state, self.count) {
-            return Err(SortKeyError::Sink(error));
-        }
-        if let Err(error) = write_common_tertiaries(tertiary, sink, state, self.count) {
-            return Err(SortKeyError::Sink(error));
-        }
+        write_secondaries(self.count, sink, state)?;
+        write_tertiaries(self.count, tertiary, sink, state)?;
         write_identical(identical, sink, state, characters)
     }
 }
