@@ -1,4 +1,4 @@
-use Rattle.std.proofs.Common.{length}
+use Rattle.std.proofs.Common.{◌≡◌, length}
 use Rattle.std.specs.List.{AllByRecursion}
 use Rattle.icu_keys.proofs.Writing.{Owes}
 use Rattle.icu_weighting.specs.HandledSources.{HasCase}
@@ -8,6 +8,7 @@ use Rattle.icu_text_keys.proofs.whole_key.write_elements.Given as goal
 -- what the elements that are left give is still owed
 abbrev pub invariant-writing : goal.invariant-writing
 invariant-writing g l = record {
+  known : g.C.PrimaryCompression.compression l.known ≡ g.C.PrimaryCompression.compression l.compression;
   sound : g.S.CollationKeySink.is_sound l.sink l.state;
   form : HasForm (g.F.WrittenForm.form_written l.form) l.writer.levels;
   cases : AllByRecursion HasCase (g.H.HandledSource.handled_left l.elements);
