@@ -1,5 +1,5 @@
 -- Keys of three levels whose elements had common weights so far.
-use Rattle.std.proofs.Common.{◌≡◌, ℕ, zero, suc, ◌+◌, Bool, true, false, List, [], ◌∷◌, ◌++◌, Some, refl, ap, ◌∙◌, append-nil, replicate, arith, sym, subst, Result}
+use Rattle.std.proofs.Common.{◌≡◌, ℕ, suc, ◌+◌, Bool, true, false, List, [], ◌∷◌, ◌++◌, Some, refl, ap, ◌∙◌, append-nil, replicate, arith, sym, subst, Result}
 use Rattle.icu_levels.specs.Keys.{LevelPart, absent, closed, later_parts, parts_bytes}
 use Rattle.icu_levels.specs.Secondaries.{secondary_level}
 use Rattle.icu_levels.specs.Tertiaries.{tertiary_level, tertiary_runs}

@@ -13,7 +13,6 @@ use Rattle.icu_weighting.specs.Handled.{HandledElement, stayed}
 use Rattle.icu_weighting.specs.HandledSources.{HasCase, handled_as}
 use Rattle.icu_weighting.specs.Levels.{level_lists}
 use Rattle.icu_text_keys.specs.CommonRests.{common_rest}
-use Rattle.icu_text_keys.specs.KeyRests.{key_rest}
 use Rattle.icu_text_keys.proofs.KeySourceLemmas.{one_given, none_given, stopped}
 use Rattle.icu_text_keys.proofs.whole_key.write_three_levels.Goals as goal
 

@@ -1,4 +1,4 @@
-use Rattle.std.proofs.Common.{◌≡◌, Bool, ℕ, List, Some, ◌∙◌, ap, ap₂, ◌++◌, subst, IfSome}
+use Rattle.std.proofs.Common.{◌≡◌, ℕ, List, ◌∙◌, ap, ap₂, ◌++◌, subst, IfSome}
 use Rattle.icu_levels.specs.Keys.{parts_bytes}
 use Rattle.icu_levels.specs.Tertiaries.{tertiary_level}
 use Rattle.icu_levels.specs.declared.forms.KeyForm.{KeyForm}
