@@ -1,11 +1,14 @@
 -- Keys of three levels whose elements had common weights so far.
-use Rattle.std.proofs.Common.{◌≡◌, ℕ, zero, suc, ◌+◌, Bool, true, false, List, [], ◌∷◌, ◌++◌, Some, refl, ap, ◌∙◌, append-nil, replicate, arith}
-use Rattle.icu_levels.specs.Keys.{LevelPart, absent, closed, later_parts}
+use Rattle.std.proofs.Common.{◌≡◌, ℕ, suc, ◌+◌, Bool, true, false, List, [], ◌∷◌, ◌++◌, Some, refl, ap, ◌∙◌, append-nil, replicate, arith, sym, subst, Result}
+use Rattle.icu_levels.specs.Keys.{LevelPart, absent, closed, later_parts, parts_bytes}
 use Rattle.icu_levels.specs.Secondaries.{secondary_level}
 use Rattle.icu_levels.specs.Tertiaries.{tertiary_level, tertiary_runs}
 use Rattle.icu_levels.specs.declared.forms.TertiaryForm.{TertiaryForm}
 use Rattle.icu_levels.specs.declared.forms.SecondaryForm.TheVariants.{Forward}
 use Rattle.icu_entries.specs.Elements.{Element}
+use Rattle.icu_keys.specs.Sinks.{SinkEffects}
+use Rattle.icu_keys.specs.KeyWrites.{KeyWrites}
+use Rattle.icu_keys.specs.declared.error.SortKeyError.{SortKeyError}
 use Rattle.icu_keys.specs.HeldRests.{held_secondaries, held_tertiaries, held_tertiary_form}
 use Rattle.icu_weighting.specs.Handled.{HandledElement, stayed_elements}
 use Rattle.icu_weighting.specs.Levels.{level_lists, secondaries, tertiaries, weights}
@@ -70,3 +73,11 @@ unfolding weights
 parts_at_end t identical n cs =
     two_parts _ _ _ _ (characters_left identical cs ∷ []) (ap (λ ws. closed (secondary_level ws)) (append-nil (replicate n 0x500)))
     (ap (λ ws. closed (tertiary_level t ws)) (append-nil (replicate n (tertiary_runs t).common)))
+
+-- a call that writes the levels of counted elements, where no element is left
+pub ends : {X St F E O : Type 0} (effects : SinkEffects X St F E) (x y : X) (s u : St) (t : TertiaryForm) (identical : Bool) (n : ℕ) (cs : List ℕ)
+    (r : Result O (SortKeyError E))
+    → KeyWrites effects x s (parts_bytes (closed (secondary_level (replicate n 0x500)) ∷ absent ∷ closed (tertiary_level t (replicate n (tertiary_runs t).common)) ∷ absent ∷ characters_left identical cs ∷ [])) r y u
+    → KeyWrites effects x s (parts_bytes (parts_after_commons t identical n cs [])) r y u
+ends effects x y s u t identical n cs r w =
+    subst (λ (ps : List LevelPart). KeyWrites effects x s (parts_bytes ps) r y u) (sym (parts_at_end t identical n cs)) w

@@ -12,8 +12,8 @@ ghost use Rattle.icu_weighting.specs.HandledSources.{handled_as};
 ghost use Rattle.icu_weighting.specs.Levels.{level_lists};
 
 use crate::counted_levels::is_common;
-use crate::written_form::WrittenForm;
 use crate::writer::{KeyWriter, push_primary};
+use crate::written_form::WrittenForm;
 use crate::written_levels::write_identical;
 use icu_entries::CollationElement;
 use icu_keys::common_levels::{write_common_secondaries, write_common_tertiaries};
@@ -90,12 +90,12 @@ impl CommonElements {
 
     /// The next element, where it stayed and has common weights beside its primary, and can be counted.
     #[inline(always)]
-    pub(crate) fn takes(&self, element: Handled) -> Option<CollationElement>
-        ensures stayed { IfSome result (λ e. handled_as element ≡ stayed e) }
+    pub(crate) fn takes(&self, element: &Handled) -> Option<CollationElement>
+        ensures stayed { IfSome result (λ e. handled_as element.now ≡ stayed e) }
         ensures common { IfSome result (λ e. (e.secondary ≡ 0x500) × (e.lower ≡ 0x500)) }
         ensures few { IfSome result (λ _. self.now.count < u32.MAX) }
     {
-        match element {
+        match *element {
             Handled::Stayed(element) if is_common(element) && self.count < u32::MAX => {
                 Some(element)
             }
@@ -132,13 +132,13 @@ impl CommonElements {
 
     /// A writer of all levels, which goes on from here.
     #[inline(always)]
-    pub(crate) fn with_levels<F: WrittenForm>(self, alloc: Global, form: &F) -> KeyWriter
+    pub(crate) fn with_levels<F: WrittenForm>(&self, alloc: Global, form: &F) -> KeyWriter
         ensures form { HasForm (F.form_written form.now) result.levels }
         ensures goes_on { (t : TertiaryForm) →
             F.form_written form.now ≡ three_levels t (F.form_written form.now).identical →
             (c : Compression) (cs : List ℕ) (hs : List HandledElement) →
             key_rest c (F.form_written form.now) result cs hs
-            ≡ common_rest c t (F.form_written form.now).identical self cs hs }
+            ≡ common_rest c t (F.form_written form.now).identical self.now cs hs }
     {
         KeyWriter::after_commons(alloc, form, self.primaries, self.count)
     }
@@ -146,7 +146,7 @@ impl CommonElements {
     /// Writes the rest of the key, where no element is left, given all characters of the decomposed text.
     #[inline(always)]
     pub(crate) fn close<S: CollationKeySink>(
-        self,
+        &self,
         tertiary: TertiaryForm,
         identical: bool,
         sink: &mut S,
@@ -156,7 +156,7 @@ impl CommonElements {
         requires { S.is_sound sink.old state.old }
         ensures sound { S.is_sound sink.new state.new }
         ensures bytes { (c : Compression) → KeyWrites S.effects sink.old state.old
-            (common_rest c tertiary identical self characters.now []) result sink.new state.new }
+            (common_rest c tertiary identical self.now characters.now []) result sink.new state.new }
     {
         write_secondaries(self.count, sink, state)?;
         write_tertiaries(self.count, tertiary, sink, state)?;

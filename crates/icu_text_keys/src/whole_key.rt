@@ -10,7 +10,7 @@ ghost use Rattle.icu_text_keys.specs.KeyRests.{key_rest, HasForm};
 ghost use Rattle.icu_text_keys.specs.UsualForms.{form_of, three_levels};
 
 use crate::common_elements::CommonElements;
-use crate::next_element::next_element;
+use crate::next_element::next_expected;
 use crate::usual_forms::{UsualForm, tertiary_of_three, usual_form};
 use crate::writer::KeyWriter;
 use crate::written_form::{
@@ -24,23 +24,13 @@ use icu_levels::forms::{KeyForm, TertiaryForm};
 use icu_weighting::{Handled, HandledSource};
 use std::alloc::Global;
 
-/// Tells a compression the lead of the primary of an element, where it stayed.
-#[inline(always)]
-fn expect_lead<C: PrimaryCompression>(compression: &mut C, element: Handled)
-    ensures { C.compression compression.new ≡ C.compression compression.old }
-{
-    if let Handled::Stayed(element) = element {
-        compression.expect((element.primary() >> 24) as u8);
-    }
-}
-
 /// Writes the rest of a key, of the elements that are still to come.
 #[inline(always)]
 fn write_elements<F: WrittenForm, S: CollationKeySink, C: PrimaryCompression, H: HandledSource>(
     form: &F,
     sink: &mut S,
     state: &mut S::State,
-    compression: &C,
+    compression: &mut C,
     writer: &mut KeyWriter,
     elements: &mut H,
     characters: &[char],
@@ -50,14 +40,12 @@ fn write_elements<F: WrittenForm, S: CollationKeySink, C: PrimaryCompression, H:
     requires cases { AllByRecursion HasCase (H.handled_left elements.old) }
     ensures sound { S.is_sound sink.new state.new }
     ensures bytes { KeyWrites S.effects sink.old state.old
-        (key_rest (C.compression compression.now) (F.form_written form.now) writer.old
+        (key_rest (C.compression compression.old) (F.form_written form.now) writer.old
         characters.now (H.handled_left elements.old))
         result sink.new state.new }
 {
-    let mut known = *compression;
-    'writing: while let Some(element) = next_element(elements)? {
-        expect_lead(&mut known, element);
-        writer.push(form, sink, state, &known, element)?;
+    'writing: while let Some(element) = next_expected(elements, compression)? {
+        writer.push(form, sink, state, compression, element)?;
     }
     writer.close(form, sink, state, characters)
 }
@@ -68,7 +56,7 @@ fn write_from<F: WrittenForm, S: CollationKeySink, C: PrimaryCompression, H: Han
     form: &F,
     sink: &mut S,
     state: &mut S::State,
-    compression: &C,
+    compression: &mut C,
     begun: KeyWriter,
     element: Handled,
     elements: &mut H,
@@ -80,7 +68,7 @@ fn write_from<F: WrittenForm, S: CollationKeySink, C: PrimaryCompression, H: Han
     requires cases { AllByRecursion HasCase (H.handled_left elements.old) }
     ensures sound { S.is_sound sink.new state.new }
     ensures bytes { KeyWrites S.effects sink.old state.old
-        (key_rest (C.compression compression.now) (F.form_written form.now) begun characters.now
+        (key_rest (C.compression compression.old) (F.form_written form.now) begun characters.now
         (handled_as element ∷ H.handled_left elements.old))
         result sink.new state.new }
 {
@@ -106,7 +94,7 @@ fn write_three_levels<F: WrittenForm, S: CollationKeySink, C: PrimaryCompression
     tertiary: TertiaryForm,
     sink: &mut S,
     state: &mut S::State,
-    compression: &C,
+    compression: &mut C,
     elements: &mut H,
     characters: &[char],
 ) -> Result<(), SortKeyError<S::Error>>
@@ -115,20 +103,27 @@ fn write_three_levels<F: WrittenForm, S: CollationKeySink, C: PrimaryCompression
         ≡ three_levels tertiary (F.form_written form.now).identical }
     requires cases { AllByRecursion HasCase (H.handled_left elements.old) }
     ensures sound { S.is_sound sink.new state.new }
-    ensures bytes { let c = C.compression compression.now in let f = F.form_written form.now in
+    ensures bytes { let c = C.compression compression.old in let f = F.form_written form.now in
         KeyWrites S.effects sink.old state.old
         (key_bytes c f (level_lists c.reorder f (H.handled_left elements.old) characters.now))
         result sink.new state.new }
 {
-    let mut known = *compression;
     let mut commons = CommonElements::new();
-    'counting: while let Some(next) = next_element(elements)? {
-        expect_lead(&mut known, next);
-        let Some(element) = commons.takes(next) else {
+    'counting: while let Some(next) = next_expected(elements, compression)? {
+        let Some(element) = commons.takes(&next) else {
             let begun = commons.with_levels(alloc, form);
-            return write_from(form, sink, state, &known, begun, next, elements, characters);
+            return write_from(
+                form,
+                sink,
+                state,
+                compression,
+                begun,
+                next,
+                elements,
+                characters,
+            );
         };
-        commons.push(sink, state, &known, element)?;
+        commons.push(sink, state, compression, element)?;
     }
     commons.close(tertiary, form.form().identical, sink, state, characters)
 }
@@ -152,16 +147,10 @@ fn write_in_form<F: WrittenForm, S: CollationKeySink, C: PrimaryCompression, H: 
         (key_bytes c f (level_lists c.reorder f (H.handled_left elements.old) characters.now))
         result sink.new state.new }
 {
+    let mut known = *compression;
     if let Some(tertiary) = tertiary_of_three(form.form()) {
         return write_three_levels(
-            alloc,
-            form,
-            tertiary,
-            sink,
-            state,
-            compression,
-            elements,
-            characters,
+            alloc, form, tertiary, sink, state, &mut known, elements, characters,
         );
     }
     let mut writer = KeyWriter::begin(alloc, form);
@@ -169,7 +158,7 @@ fn write_in_form<F: WrittenForm, S: CollationKeySink, C: PrimaryCompression, H: 
         form,
         sink,
         state,
-        compression,
+        &mut known,
         &mut writer,
         elements,
         characters,

@@ -10,12 +10,12 @@ use Rattle.icu_text_keys.proofs.whole_key.write_three_levels.Given as goal
 -- what the elements that are left give is still owed
 abbrev pub invariant-counting : goal.invariant-counting
 invariant-counting g l = record {
-  known : g.C.PrimaryCompression.compression l.known ≡ g.C.PrimaryCompression.compression l.compression;
+  known : g.C.PrimaryCompression.compression l.compression ≡ g.C.PrimaryCompression.compression l.fn.compression;
   sound : g.S.CollationKeySink.is_sound l.sink l.state;
   cases : AllByRecursion HasCase (g.H.HandledSource.handled_left l.elements);
   owes : Owes g.S.CollationKeySink.effects l.fn.sink l.fn.state
-      (key_bytes (g.C.PrimaryCompression.compression l.compression) (g.F.WrittenForm.form_written l.form) (level_lists (g.C.PrimaryCompression.compression l.compression).reorder (g.F.WrittenForm.form_written l.form) (g.H.HandledSource.handled_left l.fn.elements) l.characters))
-      (common_rest (g.C.PrimaryCompression.compression l.compression) l.tertiary (g.F.WrittenForm.form_written l.form).identical l.commons l.characters (g.H.HandledSource.handled_left l.elements)) l.sink l.state;
+      (key_bytes (g.C.PrimaryCompression.compression l.fn.compression) (g.F.WrittenForm.form_written l.form) (level_lists (g.C.PrimaryCompression.compression l.fn.compression).reorder (g.F.WrittenForm.form_written l.form) (g.H.HandledSource.handled_left l.fn.elements) l.characters))
+      (common_rest (g.C.PrimaryCompression.compression l.fn.compression) l.tertiary (g.F.WrittenForm.form_written l.form).identical l.commons l.characters (g.H.HandledSource.handled_left l.elements)) l.sink l.state;
 }
 
 abbrev pub decreases-counting : goal.decreases-counting

@@ -1,4 +1,4 @@
-use Rattle.std.proofs.Common.{◌≡◌, Bool, ℕ, List, Some, ◌∙◌, ap, ap₂, ◌++◌, subst, IfSome}
+use Rattle.std.proofs.Common.{◌≡◌, ℕ, List, ◌∙◌, ap, ap₂, ◌++◌, subst, IfSome}
 use Rattle.icu_levels.specs.Keys.{parts_bytes}
 use Rattle.icu_levels.specs.Tertiaries.{tertiary_level}
 use Rattle.icu_levels.specs.declared.forms.KeyForm.{KeyForm}
@@ -19,4 +19,4 @@ returns-clause-goes_on g c = λ t three k cs hs.
     let tertiaries = subst (λ (m : KeyForm). IfSome m.tertiary (λ t. (ws : List ℕ) → held_tertiaries w.levels.levels.tertiaries ws ≡ tertiary_level t ws)) three c.after_commons.ensures.tertiaries in
     ap (λ (m : KeyForm). key_rest k m w cs hs) three
     ∙ ap₂ (λ (a b : List ℕ). a ++ b) (ap (λ (p : PrimaryWriter). primary_rest k p (primaries (stayed_elements hs))) c.after_commons.ensures.primaries)
-    (ap parts_bytes (levels_go_on t f.identical k.reorder w.levels c.args.self.count cs hs c.after_commons.ensures.commons c.after_commons.ensures.secondaries tertiaries form))
+    (ap parts_bytes (levels_go_on t f.identical k.reorder w.levels c.args.self.now.count cs hs c.after_commons.ensures.commons c.after_commons.ensures.secondaries tertiaries form))
