@@ -14,14 +14,14 @@ use Rattle.icu_weighting.specs.Handled.{HandledElement, stayed_elements}
 use Rattle.icu_weighting.specs.Levels.{level_lists, secondaries, tertiaries, weights}
 use Rattle.icu_text_keys.specs.LevelRests.{characters_left, counted_left, levels_after}
 use Rattle.icu_text_keys.specs.CommonRests.{parts_after_commons}
-use Rattle.icu_text_keys.specs.UsualForms.{three_levels}
+use Rattle.icu_text_keys.specs.UsualForms.{form_of_three}
 use Rattle.icu_text_keys.specs.declared.counted_levels.CountedLevels.{CountedLevels}
 use Rattle.icu_text_keys.proofs.CommonElementLemmas.{counted_some, common_tertiary, shifted, same_weights, with_common}
 
 -- ---- none
 
 pub none_counted : (t : TertiaryForm) (identical : Bool) (reorder : ℕ → ℕ) (cs : List ℕ) (hs : List HandledElement)
-    → parts_after_commons t identical 0 cs (stayed_elements hs) ≡ later_parts (three_levels t identical) (level_lists reorder (three_levels t identical) hs cs)
+    → parts_after_commons t identical 0 cs (stayed_elements hs) ≡ later_parts (form_of_three t identical) (level_lists reorder (form_of_three t identical) hs cs)
 none_counted t true reorder cs hs = refl
 none_counted t false reorder cs hs = refl
 
@@ -58,9 +58,9 @@ one_counted t identical n cs x es p q =
 pub levels_go_on : (t : TertiaryForm) (identical : Bool) (reorder : ℕ → ℕ) (l : CountedLevels) (n : ℕ) (cs : List ℕ) (hs : List HandledElement)
     → l.commons ≡ n → ((ws : List ℕ) → held_secondaries l.levels.secondaries ws ≡ secondary_level ws)
     → ((ws : List ℕ) → held_tertiaries l.levels.tertiaries ws ≡ tertiary_level t ws) → held_tertiary_form l.levels.tertiaries ≡ t
-    → counted_left reorder (three_levels t identical) l cs hs ≡ parts_after_commons t identical n cs (stayed_elements hs)
+    → counted_left reorder (form_of_three t identical) l cs hs ≡ parts_after_commons t identical n cs (stayed_elements hs)
 levels_go_on t identical reorder l n cs hs e s h f =
-    ap (λ (m : ℕ). levels_after reorder (three_levels t identical) l.levels m cs hs) (counted_some l.commons (Some Forward) refl ∙ e)
+    ap (λ (m : ℕ). levels_after reorder (form_of_three t identical) l.levels m cs hs) (counted_some l.commons (Some Forward) refl ∙ e)
     ∙ two_parts _ _ _ _ (characters_left identical cs ∷ []) (ap closed (s (replicate n 0x500 ++ secondaries (stayed_elements hs))))
     (ap closed (h (replicate n (tertiary_runs (held_tertiary_form l.levels.tertiaries)).common ++ tertiaries t (stayed_elements hs))
     ∙ ap (λ (k : TertiaryForm). tertiary_level t (replicate n (tertiary_runs k).common ++ tertiaries t (stayed_elements hs))) f))

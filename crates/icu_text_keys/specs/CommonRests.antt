@@ -1,4 +1,4 @@
--- What is still to be written of a key of three levels whose elements had common weights so far, beside their primaries.
+-- What is left of a key of three levels whose elements had common weights so far, beside their primaries.
 use Rattle.std.specs.Prelude.{ℕ, Bool, List, [], ◌∷◌, ◌++◌, replicate}
 use Rattle.icu_levels.specs.Primaries.{Compression}
 use Rattle.icu_levels.specs.Secondaries.{secondary_level}
@@ -13,14 +13,14 @@ use Rattle.icu_weighting.specs.Levels.{primaries, secondaries, tertiaries}
 use Rattle.icu_text_keys.specs.LevelRests.{characters_left}
 use Rattle.icu_text_keys.specs.declared.common_elements.CommonElements.{CommonElements}
 
--- the levels after the primary one: after so many elements with common weights, given all characters and the further elements
+-- the levels after the primary one, after so many common elements, by all characters and the further elements
 abbrev pub parts_after_commons : TertiaryForm → Bool → ℕ → List ℕ → List Element → List LevelPart
 parts_after_commons t identical n cs es =
     closed (secondary_level (replicate n SECONDARY_RUNS.common ++ secondaries es)) ∷ absent
     ∷ closed (tertiary_level t (replicate n (tertiary_runs t).common ++ tertiaries t es)) ∷ absent
     ∷ characters_left identical cs ∷ []
 
--- how primaries are written, the form of the tertiaries, whether there is the identical level, all characters, and the further elements, as they are handled
+-- what is left, by all characters and the further elements, as they are handled
 abbrev pub common_rest : Compression → TertiaryForm → Bool → CommonElements → List ℕ → List HandledElement → List ℕ
 common_rest c t identical w cs hs =
     primary_rest c w.primaries (primaries (stayed_elements hs))

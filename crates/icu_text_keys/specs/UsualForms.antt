@@ -29,5 +29,5 @@ form_of Unshifted identical = levels_form (Some Forward) None (Some tertiaries.W
 form_of CaseLevel identical = levels_form (Some Forward) (Some cases.LowerFirst) (Some tertiaries.WithoutCase) None identical
 
 -- three levels, the second from the front, and the identical level where it is asked for
-abbrev pub three_levels : TertiaryForm → Bool → KeyForm
-three_levels t identical = levels_form (Some Forward) None (Some t) None identical
+abbrev pub form_of_three : TertiaryForm → Bool → KeyForm
+form_of_three t identical = levels_form (Some Forward) None (Some t) None identical

@@ -71,7 +71,7 @@ pub(crate) struct CommonElements {
 
 impl CommonElements {
     ghost use Rattle.icu_text_keys.specs.CommonRests.{common_rest};
-    ghost use Rattle.icu_text_keys.specs.UsualForms.{three_levels};
+    ghost use Rattle.icu_text_keys.specs.UsualForms.{form_of_three};
     ghost use Rattle.icu_text_keys.specs.KeyRests.{key_rest, HasForm};
 
     /// No element, with nothing written.
@@ -79,8 +79,8 @@ impl CommonElements {
     pub(crate) fn new() -> CommonElements
         ensures { (c : Compression) (t : TertiaryForm) (identical : Bool) (cs : List ℕ)
             (hs : List HandledElement) → common_rest c t identical result cs hs
-            ≡ key_bytes c (three_levels t identical)
-            (level_lists c.reorder (three_levels t identical) hs cs) }
+            ≡ key_bytes c (form_of_three t identical)
+            (level_lists c.reorder (form_of_three t identical) hs cs) }
     {
         CommonElements {
             primaries: PrimaryWriter::new(),
@@ -135,7 +135,7 @@ impl CommonElements {
     pub(crate) fn with_levels<F: WrittenForm>(&self, alloc: Global, form: &F) -> KeyWriter
         ensures form { HasForm (F.form_written form.now) result.levels }
         ensures goes_on { (t : TertiaryForm) →
-            F.form_written form.now ≡ three_levels t (F.form_written form.now).identical →
+            F.form_written form.now ≡ form_of_three t (F.form_written form.now).identical →
             (c : Compression) (cs : List ℕ) (hs : List HandledElement) →
             key_rest c (F.form_written form.now) result cs hs
             ≡ common_rest c t (F.form_written form.now).identical self.now cs hs }
@@ -156,7 +156,8 @@ impl CommonElements {
         requires { S.is_sound sink.old state.old }
         ensures sound { S.is_sound sink.new state.new }
         ensures bytes { (c : Compression) → KeyWrites S.effects sink.old state.old
-            (common_rest c tertiary identical self.now characters.now []) result sink.new state.new }
+            (common_rest c tertiary identical self.now characters.now [])
+            result sink.new state.new }
     {
         write_secondaries(self.count, sink, state)?;
         write_tertiaries(self.count, tertiary, sink, state)?;

@@ -66,7 +66,7 @@ impl<'d> TableCompression<'d> {
         }
     }
 
-    /// The same, once this lead was asked of.
+    /// This compression, once this lead was asked of.
     #[inline(always)]
     fn asked_of(self, lead: u8) -> TableCompression<'d>
         ensures { table_compression result ≡ table_compression self.entry }

@@ -1,7 +1,7 @@
 //! The forms that keys mostly have.
 
 ghost use Rattle.std.specs.Prelude.{◌≡◌, IfSome};
-ghost use Rattle.icu_text_keys.specs.UsualForms.{form_of, three_levels};
+ghost use Rattle.icu_text_keys.specs.UsualForms.{form_of, form_of_three};
 
 use icu_levels::forms::{CaseForm, KeyForm, QuaternaryForm, SecondaryForm, TertiaryForm};
 
@@ -100,7 +100,7 @@ pub(crate) fn usual_form(form: KeyForm) -> Option<UsualForm>
 /// level.
 #[inline(always)]
 pub(crate) fn tertiary_of_three(form: KeyForm) -> Option<TertiaryForm>
-    ensures { IfSome result (λ t. form ≡ three_levels t form.identical) }
+    ensures { IfSome result (λ t. form ≡ form_of_three t form.identical) }
 {
     match (form.secondary, form.cases, form.tertiary, form.quaternary) {
         (Some(SecondaryForm::Forward), None, Some(tertiary), None) => Some(tertiary),

@@ -7,7 +7,7 @@ ghost use Rattle.icu_keys.specs.KeyWrites.{KeyWrites, WritesKey};
 ghost use Rattle.icu_weighting.specs.Levels.{level_lists};
 ghost use Rattle.icu_weighting.specs.HandledSources.{HasCase, handled_as};
 ghost use Rattle.icu_text_keys.specs.KeyRests.{key_rest, HasForm};
-ghost use Rattle.icu_text_keys.specs.UsualForms.{form_of, three_levels};
+ghost use Rattle.icu_text_keys.specs.UsualForms.{form_of, form_of_three};
 
 use crate::common_elements::CommonElements;
 use crate::next_element::next_expected;
@@ -100,7 +100,7 @@ fn write_three_levels<F: WrittenForm, S: CollationKeySink, C: PrimaryCompression
 ) -> Result<(), SortKeyError<S::Error>>
     requires sound { S.is_sound sink.old state.old }
     requires form { F.form_written form.now
-        ≡ three_levels tertiary (F.form_written form.now).identical }
+        ≡ form_of_three tertiary (F.form_written form.now).identical }
     requires cases { AllByRecursion HasCase (H.handled_left elements.old) }
     ensures sound { S.is_sound sink.new state.new }
     ensures bytes { let c = C.compression compression.old in let f = F.form_written form.now in
