@@ -1,28 +1,62 @@
 //! The matches that are found in a text, one after another.
 
-ghost use Rattle.std.specs.Prelude.{◌≡◌, ◌++◌, ◌<◌, ◌≤◌, [], option_to_list, IfOk, IfSome, OnErr};
+ghost use Rattle.std.specs.Prelude.{◌≡◌, ◌++◌, ◌<◌, ◌≤◌, [], option_to_list, IfOk, IfSome, IsTrue, OnErr};
 ghost use Rattle.icu_search.specs.Selections.{first_span, found_from};
-ghost use Rattle.icu_search.specs.inner.HeldSpans.{TellsLeastSpan, from_behind, joined_to_held, last_to_try, stops_before};
+ghost use Rattle.icu_search.specs.BarrenParts.{SaysBarren};
+ghost use Rattle.icu_search.specs.inner.HeldSpans.{IsSure, PassedTo, TellsLeastSpan, from_behind, joined_to_held, last_to_try, stops_before};
 ghost use Rattle.icu_search.specs.LeastMatches.{found_matches};
 
+use crate::barren_part::BarrenPart;
 use crate::char_span::CharSpan;
 use crate::match_ends::MatchEnds;
 use std::alloc::AllocError;
 
 /// The match that begins at an offset and ends first, of those that end at `last` or before; none where each of them
-/// holds one that begins behind it.
+/// holds one that begins behind it. No least match begins before `next`.
+#[inline(always)]
 fn least_at<M: MatchEnds>(
     ends: &M,
     start: usize,
     last: usize,
+    next: usize,
+    barren: &mut BarrenPart,
 ) -> Result<Option<CharSpan>, AllocError>
     requires ordered { start ≤ last }
     requires within { last ≤ M.char_len ends.now }
-    ensures { IfOk result (λ m. TellsLeastSpan (M.matches ends.now) start last m) }
+    requires passed { PassedTo (M.matches ends.now) (M.char_len ends.now) start next }
+    requires known { SaysBarren (M.is_barren ends.now) barren.old }
+    ensures tells { IfOk result (λ m. TellsLeastSpan (M.matches ends.now) start last m) }
+    ensures known { SaysBarren (M.is_barren ends.now) barren.new }
 {
-    match ends.least_stop(start, last)? {
+    if start < next {
+        return Ok(None);
+    }
+    match ends.least_stop(start, last, barren)? {
         Some(stop) => Ok(Some(CharSpan::new(start, stop))),
         None => Ok(None),
+    }
+}
+
+/// An offset up to which no start begins a least match: this one, or one behind it.
+#[inline(always)]
+fn next_from<M: MatchEnds>(ends: &M, start: usize, next: usize) -> usize
+    requires { PassedTo (M.matches ends.now) (M.char_len ends.now) start next }
+    ensures { PassedTo (M.matches ends.now) (M.char_len ends.now) start result }
+{
+    if start < next {
+        next
+    } else {
+        ends.next_start(start)
+    }
+}
+
+/// Whether a match was found that surely is least. False says nothing.
+fn is_sure<M: MatchEnds>(ends: &M, found: Option<CharSpan>) -> bool
+    ensures { IsTrue result → IsSure (M.matches ends.now) found }
+{
+    match found {
+        Some(m) => ends.holds_no_other(m),
+        None => false,
     }
 }
 
@@ -64,7 +98,8 @@ fn stops_before(held: Option<CharSpan>, offset: usize) -> bool
 }
 
 /// The first least match that begins at an offset or after it. Along the starts from there on, the last one is held of
-/// those matches that end first, and no start behind its end is looked at. Fails only where an allocation does.
+/// those matches that end first, and no start behind its end is looked at. A match that holds no other is returned at
+/// once. Fails only where an allocation does.
 pub fn first_least<M: MatchEnds>(ends: &M, offset: usize) -> Result<Option<CharSpan>, AllocError>
     ensures least { IfOk result (λ m. m
         ≡ first_span (found_from (M.matches ends.now) (M.char_len ends.now) offset)) }
@@ -72,12 +107,19 @@ pub fn first_least<M: MatchEnds>(ends: &M, offset: usize) -> Result<Option<CharS
 {
     let count = ends.char_count();
     let mut held: Option<CharSpan> = None;
+    let mut barren = BarrenPart::none();
+    let mut next = offset;
     for start in offset..count + 1 {
         if stops_before(held, start) {
             return Ok(held);
         }
+        next = next_from(ends, start, next);
         let last = last_stop(held, count);
-        held = joined(held, least_at(ends, start, last)?);
+        let found = least_at(ends, start, last, next, &mut barren)?;
+        if is_sure(ends, found) {
+            return Ok(found);
+        }
+        held = joined(held, found);
     }
     Ok(held)
 }

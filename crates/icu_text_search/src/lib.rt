@@ -8,6 +8,7 @@
 mod allowed_offsets;
 mod apart_leads;
 mod ascii_marks;
+mod barren_parts;
 mod boundary;
 mod counted_walk;
 mod encoded_searches;
@@ -19,6 +20,7 @@ mod part_match;
 mod part_outcome;
 mod part_walk;
 mod pattern_weights;
+mod passed_starts;
 mod search_calls;
 mod searched_text;
 mod searcher;
