@@ -98,7 +98,7 @@ impl IndexedText {
 fn written(alloc: Global, characters: &[char]) -> Result<String, AllocError>
     ensures { IfOk result (λ s. chars (string_bytes s) ≡ characters.now) }
 {
-    let mut text = String::new(alloc);
+    let mut text = String::with_capacity(alloc, characters.len())?;
     for c in characters {
         text.push(*c)?;
     }

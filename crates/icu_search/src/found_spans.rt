@@ -12,9 +12,42 @@ use crate::match_ends::MatchEnds;
 use std::alloc::AllocError;
 
 /// The match that begins at an offset and ends first, of those that end at `last` or before; none where each of them
-/// holds one that begins behind it. No least match begins before `next`.
-#[inline(always)]
+/// holds one that begins behind it.
 fn least_at<M: MatchEnds>(
+    ends: &M,
+    start: usize,
+    last: usize,
+    barren: &mut BarrenPart,
+) -> Result<Option<CharSpan>, AllocError>
+    requires ordered { start ≤ last }
+    requires within { last ≤ M.char_len ends.now }
+    requires known { SaysBarren (M.is_barren ends.now) barren.old }
+    ensures tells { IfOk result (λ m. TellsLeastSpan (M.matches ends.now) start last m) }
+    ensures known { SaysBarren (M.is_barren ends.now) barren.new }
+{
+    match ends.least_stop(start, last, barren)? {
+        Some(stop) => Ok(Some(CharSpan::new(start, stop))),
+        None => Ok(None),
+    }
+}
+
+/// An offset up to which no start from another one on begins a least match: the one that is known, or one behind it.
+#[inline(always)]
+fn next_from<M: MatchEnds>(ends: &M, start: usize, next: usize) -> usize
+    requires { PassedTo (M.matches ends.now) (M.char_len ends.now) start next }
+    ensures { PassedTo (M.matches ends.now) (M.char_len ends.now) start result }
+{
+    if start < next {
+        next
+    } else {
+        ends.next_start(start)
+    }
+}
+
+/// The match that begins at an offset and ends first, of those that end at `last` or before, unless no least match
+/// begins there, as no start does up to `next`.
+#[inline(always)]
+fn least_from<M: MatchEnds>(
     ends: &M,
     start: usize,
     last: usize,
@@ -31,23 +64,8 @@ fn least_at<M: MatchEnds>(
     if start < next {
         return Ok(None);
     }
-    match ends.least_stop(start, last, barren)? {
-        Some(stop) => Ok(Some(CharSpan::new(start, stop))),
-        None => Ok(None),
-    }
-}
-
-/// An offset up to which no start begins a least match: this one, or one behind it.
-#[inline(always)]
-fn next_from<M: MatchEnds>(ends: &M, start: usize, next: usize) -> usize
-    requires { PassedTo (M.matches ends.now) (M.char_len ends.now) start next }
-    ensures { PassedTo (M.matches ends.now) (M.char_len ends.now) start result }
-{
-    if start < next {
-        next
-    } else {
-        ends.next_start(start)
-    }
+    let found = least_at(ends, start, last, barren)?;
+    Ok(found)
 }
 
 /// Whether a match was found that surely is least. False says nothing.
@@ -115,7 +133,7 @@ pub fn first_least<M: MatchEnds>(ends: &M, offset: usize) -> Result<Option<CharS
         }
         next = next_from(ends, start, next);
         let last = last_stop(held, count);
-        let found = least_at(ends, start, last, next, &mut barren)?;
+        let found = least_from(ends, start, last, next, &mut barren)?;
         if is_sure(ends, found) {
             return Ok(found);
         }

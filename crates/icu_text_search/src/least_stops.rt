@@ -1,9 +1,8 @@
 //! Where the least matches of a text end: starts are passed over where little tells that none begins there.
 
-ghost use Rattle.std.specs.Prelude.{◌≡◌, ◌+◌, ◌-◌, ◌<◌, ◌≤◌, ℕ, [], false, true, None, IfOk, IsTrue};
-ghost use Rattle.std.specs.Option.{option_map};
+ghost use Rattle.std.specs.Prelude.{◌≡◌, ◌+◌, ◌<◌, ◌≤◌, ℕ, [], false, true, None, IfOk, IsTrue};
 ghost use Rattle.icu_search.specs.BarrenParts.{SaysBarren};
-ghost use Rattle.icu_search.specs.LeastMatches.{TellsLeastStop, shortest_from, span};
+ghost use Rattle.icu_search.specs.LeastMatches.{TellsLeastStop};
 ghost use Rattle.icu_text_search.specs.inner.BarrenParts.{is_barren_in};
 ghost use Rattle.icu_text_search.specs.inner.PartOutcomes.{equals_pattern};
 
@@ -78,24 +77,6 @@ impl<'s, 'c> SearchedText<'s, 'c> {
         self.searcher.begins_otherwise(piece, most)
     }
 
-    /// Where the match ends that begins at an offset and ends first, where the empty part doesn't match. Their first
-    /// weights may tell that there is none.
-    fn first_stop(&self, start: usize) -> Result<Option<usize>, AllocError>
-        requires within { start ≤ char_len_in self.now }
-        requires some { equals_pattern (searched_in self.now) [] ≡ false }
-        ensures { IfOk result (λ stop. option_map (span start) stop
-            ≡ shortest_from (matches_in self.now) start start (char_len_in self.now - start)) }
-    {
-        let rest = self.piece_from(start, self.text.char_count());
-        if self
-            .searcher
-            .begins_otherwise(rest, self.searcher.looks_at())
-        {
-            return Ok(None);
-        }
-        self.shortest_stop(start)
-    }
-
     /// Of the matches that begin at an offset, and end at `last` or before, where the one ends that ends first. A part
     /// with which no match begins is handed on.
     pub(crate) fn least_stop_to(
@@ -119,7 +100,7 @@ impl<'s, 'c> SearchedText<'s, 'c> {
         if self.passes_over(start, last) {
             return Ok(None);
         }
-        match self.first_stop(start)? {
+        match self.shortest_stop(start)? {
             Some(stop) => {
                 if stop <= last {
                     Ok(Some(stop))

@@ -1,5 +1,5 @@
 -- The match that is held while the least one is looked for.
-use Rattle.std.specs.Prelude.{ℕ, ◌+◌, ◌<◌, ◌≤◌, Bool, false, nat_le, nat_lt, List, Option, Some, None, if◌then◌else◌}
+use Rattle.std.specs.Prelude.{ℕ, ◌≡◌, ◌+◌, ◌<◌, ◌≤◌, Bool, false, nat_le, nat_lt, List, Option, Some, None, if◌then◌else◌}
 use Rattle.icu_search.specs.LeastMatches.{Span, HoldsNoOther, TellsLeastStop}
 use Rattle.icu_search.specs.Selections.{found_from}
 
