@@ -1,8 +1,9 @@
 -- Marks of ASCII characters, and what those tell with which a text begins.
-use Rattle.std.proofs.Common.{◌≡◌, ◌⊎◌, ℕ, Bool, true, false, nat_lt, List, [], ◌∷◌, ◌++◌, get_or, ◌<◌, ◌≤◌, length, set, replicate, refl, sym, ap, ◌∙◌, subst, arith, inl, inr}
-use Rattle.std.proofs.lemmas.Bool.{cases_eq, and_from, and_parts, and_right, false≢true}
+use Rattle.std.proofs.Common.{◌≡◌, ◌⊎◌, ℕ, Bool, true, false, ◌==◌, nat_lt, List, [], ◌∷◌, ◌++◌, Option, Some, None, if◌then◌else◌, get_or, ◌<◌, ◌≤◌, length, set, replicate, refl, sym, ap, ◌∙◌, subst, arith, inl, inr}
+use Rattle.std.specs.Prelude.{not, IfSome}
+use Rattle.std.proofs.lemmas.Bool.{cases_Bool, cases_eq, and_from, and_parts, and_right, false≢true}
 use Rattle.std.proofs.lemmas.Grind.{common_steps}
-use Rattle.std.proofs.lemmas.List.{get_or-set_other}
+use Rattle.std.proofs.lemmas.List.{get_or-set_other, get_or-set_same}
 use Rattle.ucd_normal.specs.declared.forms.Form.TheVariants.{Nfd}
 use Rattle.unicode_normalization.specs.Decompose.{decompose}
 use Rattle.unicode_normalization.specs.Forms.{nfd}
@@ -11,10 +12,11 @@ use Rattle.icu_boundaries.proofs.CutLemmas.{boundary_cut}
 use Rattle.icu_entries.specs.Elements.{Element}
 use Rattle.icu_elements.specs.TextElements.{Reading, elements_of}
 use Rattle.icu_weighting.specs.Collations.{Collation}
-use Rattle.icu_text_order.specs.TextOrder.{reading_by}
+use Rattle.icu_text_order.specs.TextOrder.{reading_by, lists_by}
 use Rattle.icu_search.specs.PieceLaws.{BeginsPieces}
 use Rattle.icu_search.specs.SearchPlaces.{leads}
-use Rattle.icu_text_search.specs.inner.AsciiMarks.{has_mark, AllMarked, BeginsWithOther, LeadsPieces, OpensOtherwise}
+use Rattle.icu_text_search.specs.inner.AsciiMarks.{has_mark, count_of, AllMarked, BeginsCut, BeginsWithOther, CountChars, GivesNothing, LeadsPieces, LeadsWithPrimary, OpensOtherwise, OpensSilently}
+use Rattle.icu_text_search.specs.inner.SilentStarts.{begins_with_primary}
 use Rattle.icu_text_search.specs.inner.FirstWeights.{BeginsOtherwise}
 use Rattle.icu_text_search.proofs.FirstWeightLemmas.{first_read, reads_other}
 
@@ -79,3 +81,60 @@ pub first_two : (l : List ℕ) (x y d e : ℕ) → 2 ≤ length l → x ≡ get_
 first_two [] x y d e long first second = absurd (omega (arith, long))
 first_two (a ∷ []) x y d e long first second = absurd (omega (arith, long))
 first_two (a ∷ b ∷ t) x y d e long first second = (t, ap (λ (k : ℕ). k ∷ b ∷ t) (sym first) ∙ ap (λ (k : ℕ). x ∷ k ∷ t) (sym second))
+
+-- ---- characters that give nothing
+
+leads_by : (e : Element) (rest : List Element) (es : List Element) → es ≡ e ∷ rest → (e.primary == 0) ≡ false → begins_with_primary es ≡ true
+leads_by e rest es is some = ap begins_with_primary is ∙ ap not some
+
+leads_on : (c : Collation) (y : ℕ) (tail : List ℕ) → LeadsWithPrimary c y → BeginsCut (reading_by c) tail → begins_with_primary (elements_of (reading_by c) (nfd (y ∷ tail))) ≡ true
+leads_on c y [] l cut = leads_by l.element l.rest _ l.elements l.some
+leads_on c y (z ∷ zs) l cut =
+    let reading = reading_by c in
+    let later : List Element = l.rest ++ elements_of reading (nfd (z ∷ zs)) in
+    let all : elements_of reading (nfd (y ∷ z ∷ zs)) ≡ l.element ∷ later =
+    boundary_cut reading z cut.first cut.more zs cut.decomposes cut.boundary [] (y ∷ [])
+    ∙ ap (λ (es : List Element). es ++ elements_of reading (nfd (z ∷ zs))) l.elements in
+    leads_by l.element later _ all l.some
+
+pub opens_silently : (c : Collation) (text : List ℕ) (x y : ℕ) (tail : List ℕ) → text ≡ x ∷ y ∷ tail → GivesNothing c x → LeadsWithPrimary c y → BeginsPieces (reading_by c) y → BeginsCut (reading_by c) tail
+    → OpensSilently c text
+opens_silently c text x y tail is nothing leading cut next = record {
+  char = x;
+  next = y;
+  tail = tail;
+  text_is = is;
+  silent = record { pieces = cut; silent = nothing.silent; either = inr (leads_on c y tail leading next) };
+  ends = nothing.ends;
+}
+
+-- ---- how many weights each has
+
+pub no_counts : (c : Collation) → CountChars c (replicate 128 None)
+no_counts c = λ x. none_counted c x (count_of (replicate 128 None) x) (unknown x)
+  where
+    none_counted : (c : Collation) (x : ℕ) (o : Option ℕ) → o ≡ None → IfSome o (λ n. n ≡ length (lists_by c (nfd (x ∷ []))).primaries)
+    none_counted c x None is = tt
+    none_counted c x (Some n) is = cc
+    uncounted : (n l : ℕ) → get_or (replicate n (None {A = ℕ})) l None ≡ None
+    uncounted n l = grind (arith, common_steps)
+    unknown : (x : ℕ) → count_of (replicate 128 None) x ≡ None
+    unknown x = elim (cases_Bool (nat_lt x 0x80)) [
+      | inl is ↦ ap (λ b. if b then get_or (replicate 128 None) x None else None) is ∙ uncounted 128 x
+      | inr not ↦ ap (λ b. if b then get_or (replicate 128 None) x None else None) not
+    ]
+
+pub one_more_count : (c : Collation) (old : List (Option ℕ)) (k : ℕ) (o : Option ℕ) → CountChars c old → IfSome o (λ n. n ≡ length (lists_by c (nfd (k ∷ []))).primaries) → k < length old → CountChars c (set old k o)
+one_more_count c old k o all this inside = λ x.
+    elim (cases_eq x k) as (λ _. IfSome (count_of (set old k o) x) (λ n. n ≡ length (lists_by c (nfd (x ∷ []))).primaries)) [
+      | inl same ↦ subst (λ x. IfSome (count_of (set old k o) x) (λ n. n ≡ length (lists_by c (nfd (x ∷ []))).primaries)) (sym same) here
+      | inr other ↦
+          subst (λ (o : Option ℕ). IfSome o (λ n. n ≡ length (lists_by c (nfd (x ∷ []))).primaries))
+          (ap (λ (o : Option ℕ). if nat_lt x 0x80 then o else None) (sym (get_or-set_other old k x o None other))) (all x)
+    ]
+  where
+    by : (b : Bool) (p : Option ℕ) → p ≡ o → IfSome (if b then p else None) (λ n. n ≡ length (lists_by c (nfd (k ∷ []))).primaries)
+    by true p is = subst (λ (p : Option ℕ). IfSome p (λ n. n ≡ length (lists_by c (nfd (k ∷ []))).primaries)) (sym is) this
+    by false p is = tt
+    here : IfSome (count_of (set old k o) k) (λ n. n ≡ length (lists_by c (nfd (k ∷ []))).primaries)
+    here = by (nat_lt k 0x80) (get_or (set old k o) k None) (get_or-set_same old k o None inside)

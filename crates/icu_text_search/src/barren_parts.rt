@@ -17,7 +17,10 @@ fn known_reach(part: BarrenPart, start: usize, step: usize) -> usize
     ensures repeats { (text : List ℕ) → Repeats text part.start part.step part.reach
         → Repeats text part.start step result }
 {
-    if part.step == step && start < part.reach {
+    if part.step != step {
+        return start;
+    }
+    if start < part.reach {
         part.reach
     } else {
         start
@@ -35,7 +38,7 @@ impl<'s, 'c> SearchedText<'s, 'c> {
         ensures { (start : ℕ) → Repeats (text_searched self.now) start step reach
             → Repeats (text_searched self.now) start step result }
     {
-        if stop <= reach {
+        if stop < reach {
             return reach;
         }
         let text = self.text.characters();
@@ -57,7 +60,10 @@ impl<'s, 'c> SearchedText<'s, 'c> {
         ensures known { SaysBarren (is_barren_in self.now) barren.new }
     {
         let part = *barren;
-        if part.stop <= part.start || start <= part.start {
+        if part.stop <= part.start {
+            return false;
+        }
+        if start <= part.start {
             return false;
         }
         let size = part.stop - part.start;
@@ -67,7 +73,10 @@ impl<'s, 'c> SearchedText<'s, 'c> {
         let step = start - part.start;
         let stop = start + size;
         let reach = self.repeats_to(step, known_reach(part, start, step), stop);
-        if reach < stop || !self.ends_piece(stop) {
+        if reach < stop {
+            return false;
+        }
+        if !self.ends_piece(stop) {
             return false;
         }
         *barren = BarrenPart {

@@ -85,7 +85,10 @@ impl<'s, 'c> SearchedText<'s, 'c> {
     pub(crate) fn holds_none(&self, start: usize, stop: usize) -> bool
         ensures { IsTrue result → HoldsNoOther (matches_in self.now) (span start stop) }
     {
-        if start >= stop || stop > self.text.char_count() {
+        if start >= stop {
+            return false;
+        }
+        if stop > self.text.char_count() {
             return false;
         }
         let mut met: usize = 0;

@@ -1,0 +1,7 @@
+use Rattle.std.proofs.Common.{◌≡◌, ℕ, List, ◌+◌, ◌≤◌, sym, ap, subst, ◌∙◌, arith}
+use Rattle.icu_text_search.specs.inner.BarrenParts.{Repeats}
+use Rattle.icu_text_search.proofs.BarrenLemmas.{repeats_none}
+use Rattle.icu_text_search.proofs.barren_parts.known_reach.Goals as goal
+
+pub returns-then-step-step-clause-repeats : goal.returns-then-step-step-clause-repeats
+returns-then-step-step-clause-repeats c = λ text so_far. repeats_none text c.args.part.start c.args.step c.args.start (omega (arith, c.requires.again))
