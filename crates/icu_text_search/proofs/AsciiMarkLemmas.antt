@@ -116,8 +116,10 @@ no_counts c = λ x. none_counted c x (count_of (replicate 128 None) x) (unknown 
     none_counted : (c : Collation) (x : ℕ) (o : Option ℕ) → o ≡ None → IfSome o (λ n. n ≡ length (lists_by c (nfd (x ∷ []))).primaries)
     none_counted c x None is = tt
     none_counted c x (Some n) is = cc
+
     uncounted : (n l : ℕ) → get_or (replicate n (None {A = ℕ})) l None ≡ None
     uncounted n l = grind (arith, common_steps)
+
     unknown : (x : ℕ) → count_of (replicate 128 None) x ≡ None
     unknown x = elim (cases_Bool (nat_lt x 0x80)) [
       | inl is ↦ ap (λ b. if b then get_or (replicate 128 None) x None else None) is ∙ uncounted 128 x
@@ -136,5 +138,6 @@ one_more_count c old k o all this inside = λ x.
     by : (b : Bool) (p : Option ℕ) → p ≡ o → IfSome (if b then p else None) (λ n. n ≡ length (lists_by c (nfd (k ∷ []))).primaries)
     by true p is = subst (λ (p : Option ℕ). IfSome p (λ n. n ≡ length (lists_by c (nfd (k ∷ []))).primaries)) (sym is) this
     by false p is = tt
+
     here : IfSome (count_of (set old k o) k) (λ n. n ≡ length (lists_by c (nfd (k ∷ []))).primaries)
     here = by (nat_lt k 0x80) (get_or (set old k o) k None) (get_or-set_same old k o None inside)

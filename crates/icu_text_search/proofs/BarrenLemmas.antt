@@ -45,11 +45,11 @@ same_part text start step reach n repeats known within =
     let size : length (take n later) ≡ n = length-take-le n later (omega (arith, length-drop (start + step) text, within)) in
     let size_front : length (take n front) ≡ n = length-take-le n front (omega (arith, length-drop start text, within)) in
     ext_get_or 0 (take n later) (take n front) (size ∙ sym size_front) (λ i inside.
-      let fits : i < n = omega (arith, inside, size) in
-      let at : (start + step) + i ≡ (start + i) + step = omega arith in
-      get_or-take n later i 0 fits ∙ get_or-drop (start + step) text i 0 ∙ ap (λ k. get_or text k 0) at
-      ∙ repeats (start + i) (omega arith) (omega (arith, known, fits))
-      ∙ sym (get_or-take n front i 0 fits ∙ get_or-drop start text i 0))
+    let fits : i < n = omega (arith, inside, size) in
+    let at : (start + step) + i ≡ (start + i) + step = omega arith in
+    get_or-take n later i 0 fits ∙ get_or-drop (start + step) text i 0 ∙ ap (λ k. get_or text k 0) at
+    ∙ repeats (start + i) (omega arith) (omega (arith, known, fits))
+    ∙ sym (get_or-take n front i 0 fits ∙ get_or-drop start text i 0))
 
 -- ---- where no match begins
 

@@ -1,6 +1,6 @@
 //! Parts of a text with whose characters no match begins: where the same characters come again, none begins either.
 
-ghost use Rattle.std.specs.Prelude.{◌≡◌, ◌+◌, ◌<◌, ◌≤◌, ℕ, List, false, true, IfSome, IsTrue};
+ghost use Rattle.std.specs.Prelude.{◌≡◌, ◌+◌, ◌-◌, ◌<◌, ◌≤◌, ℕ, List, false, true, length, slice_index_or, IfSome, IsTrue};
 ghost use Rattle.icu_search.specs.BarrenParts.{SaysBarren};
 ghost use Rattle.icu_search.specs.LeastMatches.{span};
 ghost use Rattle.icu_text_search.specs.inner.BarrenParts.{is_barren_in, IsBarren, Repeats};
@@ -27,6 +27,17 @@ fn known_reach(part: BarrenPart, start: usize, step: usize) -> usize
     }
 }
 
+/// Whether a character is the one that stands some characters before it.
+#[inline(always)]
+fn is_repeated(text: &[char], at: usize, step: usize) -> bool
+    requires within { at < length text.now }
+    requires steps { step ≤ at }
+    ensures { IsTrue result
+        → slice_index_or text.now at 0 ≡ slice_index_or text.now (at - step) 0 }
+{
+    text[at] == text[at - step]
+}
+
 impl<'s, 'c> SearchedText<'s, 'c> {
     ghost use Rattle.icu_text_search.specs.SearchedTexts.{char_len_in, matches_in, searched_in, text_searched};
 
@@ -43,7 +54,7 @@ impl<'s, 'c> SearchedText<'s, 'c> {
         }
         let text = self.text.characters();
         for at in reach..stop {
-            if text[at] != text[at - step] {
+            if !is_repeated(text, at, step) {
                 return at;
             }
         }

@@ -36,4 +36,4 @@ returns-then-allows_each c = λ is.
     let rest_is : slice_range chars at (length chars) ≡ drop at text =
     take_all (length chars - at) (drop at chars) (omega (arith, length-drop at chars)) ∙ ap (drop at) c.characters.ensures in
     told_silent s text at (length text) c.requires.some (λ stop longer match.
-      silent_start s text at o.char o.next o.tail (sym rest_is ∙ o.text_is) o.silent o.ends (c.allows_each.ensures c.if-allows_each.true (at + 1)) stop longer match)
+    silent_start s text at o.char o.next o.tail (sym rest_is ∙ o.text_is) o.silent o.ends (c.allows_each.ensures c.if-allows_each.true (at + 1)) stop longer match)
