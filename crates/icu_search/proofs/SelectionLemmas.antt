@@ -1,8 +1,8 @@
 -- How the matches that are found come one after another.
-use Rattle.std.proofs.Common.{◌≡◌, ℕ, zero, suc, ◌<◌, ◌≤◌, ◌+◌, ◌-◌, Bool, true, false, nat_le, nat_lt, List, [], ◌∷◌, ◌++◌, Option, Some, None, if◌then◌else◌, refl, sym, ap, ◌∙◌, arith, inl, inr, subst}
+use Rattle.std.proofs.Common.{◌≡◌, ℕ, zero, suc, ◌<◌, ◌≤◌, ◌+◌, ◌-◌, Bool, true, false, ◌||◌, nat_le, nat_lt, List, [], ◌∷◌, ◌++◌, Option, Some, None, if◌then◌else◌, refl, sym, ap, ◌∙◌, arith, inl, inr, subst}
 use Rattle.std.specs.Prelude.{IfSome, option_to_list}
 use Rattle.std.specs.List.{AllByRecursion, Contains}
-use Rattle.std.proofs.lemmas.Bool.{cases_Bool, cases_lt, le-leb, lt-leb, lt-ltb, le-ltb, ltb-true, ltb-false, false≢true, true≢false}
+use Rattle.std.proofs.lemmas.Bool.{cases_Bool, cases_lt, le-leb, lt-leb, lt-ltb, le-ltb, ltb-true, ltb-false, or_cases, false≢true, true≢false}
 use Rattle.std.proofs.lemmas.Option.{same_Some}
 use Rattle.icu_search.specs.LeastMatches.{Span, span, HoldsNoOther, TellsLeastStop, shortest_from, narrowed, least_from, apart_from, HoldsSpan, RisesTo}
 use Rattle.icu_search.specs.LeastMatchLaws.{IsMatchWithin, IsLeastWithin}
@@ -380,16 +380,6 @@ module _ (matches : ℕ → ℕ → Bool) (n : ℕ) where
 
   -- ---- a match that holds no other
 
-  takes_place : (held : Option Span) (m : Span) → m.stop ≤ last_to_try held n → joined_to_held held (Some m) ≡ Some m
-  takes_place None m fits = refl
-  takes_place (Some h) m fits =
-      elim (cases_lt h.stop n) [
-        | inl below ↦
-            let ends : m.stop ≤ h.stop = omega (arith, fits, ap (λ b. if b then h.stop else n) (lt-ltb h.stop n below)) in rw (le-leb m.stop h.stop ends) refl
-        | inr above ↦
-            let ends : m.stop ≤ h.stop = omega (arith, fits, above, ap (λ b. if b then h.stop else n) (le-ltb h.stop n above)) in rw (le-leb m.stop h.stop ends) refl
-      ]
-
   none_within : (m : Span) (start : ℕ) (spans : List Span) → HoldsNoOther matches m → m.start < start → AllByRecursion (IsMatchWithin matches start n) spans
       → joined_to_held (Some m) (first_span spans) ≡ Some m
   none_within m start [] none behind all = refl
@@ -400,12 +390,32 @@ module _ (matches : ℕ → ℕ → Bool) (n : ℕ) where
             absurd (true≢false (sym all.0.is_match ∙ none l.start l.stop (omega (arith, behind, all.0.from_low)) all.0.ordered inner))
       ]
 
-  -- it is what the one that is held and all that follow make
-  pub surely_first : (held : Option Span) (start : ℕ) (o : Option Span) → start ≤ last_to_try held n → TellsLeastSpan matches start (last_to_try held n) o → IsSure matches o
-      → o ≡ joined_to_held held (first_span (least_to matches n start))
-  surely_first held start None ordered tells none = absurd none
-  surely_first held start (Some m) ordered tells none =
-      let later = first_span (least_to matches n (start + 1)) in
-      sym (none_within m (start + 1) (least_to matches n (start + 1)) none (omega (arith, tells.0)) (within (start + 1)))
-      ∙ ap (λ (o : Option Span). joined_to_held o later) (sym (takes_place held m tells.1.0))
-      ∙ told held start (Some m) ordered tells
+  -- it stays, whatever begins behind it
+  pub sure_stays : (held : Option Span) (start : ℕ) → IsSure matches start held → held ≡ joined_to_held held (first_span (least_to matches n (start + 1)))
+  sure_stays None start sure = absurd sure
+  sure_stays (Some m) start sure = sym (none_within m (start + 1) (least_to matches n (start + 1)) sure.1 (omega (arith, sure.0)) (within (start + 1)))
+
+  -- ---- where no start is left
+
+  over_cases : (held : Option Span) (here : ℕ) → (nat_lt n here || stops_before held here) ≡ true → joined_to_held held (first_span (least_to matches n here)) ≡ held
+  over_cases held here is =
+      elim (or_cases (nat_lt n here) (stops_before held here) is) [
+        | inl past ↦ ap (λ (l : List Span). joined_to_held held (first_span l)) (least_to-past here (ltb-true n here past)) ∙ joined_to_held-none held
+        | inr stops ↦ held_stays held here stops
+      ]
+
+  pub over : (held : Option Span) (start here : ℕ) → start ≤ here → PassedTo matches n start here → (nat_lt n here || stops_before held here) ≡ true
+      → held ≡ joined_to_held held (first_span (least_to matches n start))
+  over held start here behind passed is = sym (over_cases held here is) ∙ passed_over held start here behind passed
+
+  pub over_not : (held : Option Span) (here : ℕ) → (nat_lt n here || stops_before held here) ≡ false → here ≤ last_to_try held n
+  over_not held here is =
+      tries_there held here (or_right_false (nat_lt n here) (stops_before held here) is) (ltb-false n here (or_left_false (nat_lt n here) (stops_before held here) is))
+    where
+      or_left_false : (a b : Bool) → (a || b) ≡ false → a ≡ false
+      or_left_false true b h = absurd (true≢false h)
+      or_left_false false b h = refl
+
+      or_right_false : (a b : Bool) → (a || b) ≡ false → b ≡ false
+      or_right_false true b h = absurd (true≢false h)
+      or_right_false false b h = h

@@ -1,6 +1,6 @@
 //! The matches that are found in a text, one after another.
 
-ghost use Rattle.std.specs.Prelude.{◌≡◌, ◌++◌, ◌<◌, ◌≤◌, [], option_to_list, IfOk, IfSome, IsTrue, OnErr};
+ghost use Rattle.std.specs.Prelude.{◌≡◌, ◌++◌, ◌||◌, ◌<◌, ◌≤◌, [], nat_lt, option_to_list, IfOk, IfSome, IsTrue, OnErr};
 ghost use Rattle.icu_search.specs.Selections.{first_span, found_from};
 ghost use Rattle.icu_search.specs.BarrenParts.{SaysBarren};
 ghost use Rattle.icu_search.specs.inner.HeldSpans.{IsSure, PassedTo, TellsLeastSpan, from_behind, joined_to_held, last_to_try, stops_before};
@@ -31,49 +31,22 @@ fn least_at<M: MatchEnds>(
     }
 }
 
-/// An offset up to which no start from another one on begins a least match: the one that is known, or one behind it.
+/// The first offset from another one on at which a least match may begin.
 #[inline(always)]
-fn next_from<M: MatchEnds>(ends: &M, start: usize, next: usize) -> usize
-    requires { PassedTo (M.matches ends.now) (M.char_len ends.now) start next }
-    ensures { PassedTo (M.matches ends.now) (M.char_len ends.now) start result }
+fn passed_from<M: MatchEnds>(ends: &M, start: usize) -> usize
+    ensures behind { start ≤ result }
+    ensures passed { PassedTo (M.matches ends.now) (M.char_len ends.now) start result }
 {
-    if start < next {
-        next
-    } else {
-        ends.next_start(start)
-    }
+    let next = ends.next_start(start);
+    if start < next { next } else { start }
 }
 
-/// The match that begins at an offset and ends first, of those that end at `last` or before, unless no least match
-/// begins there, as no start does up to `next`.
-#[inline(always)]
-fn least_from<M: MatchEnds>(
-    ends: &M,
-    start: usize,
-    last: usize,
-    next: usize,
-    barren: &mut BarrenPart,
-) -> Result<Option<CharSpan>, AllocError>
-    requires ordered { start ≤ last }
-    requires within { last ≤ M.char_len ends.now }
-    requires passed { PassedTo (M.matches ends.now) (M.char_len ends.now) start next }
-    requires known { SaysBarren (M.is_barren ends.now) barren.old }
-    ensures tells { IfOk result (λ m. TellsLeastSpan (M.matches ends.now) start last m) }
-    ensures known { SaysBarren (M.is_barren ends.now) barren.new }
+/// Whether the match that is held begins at an offset, and surely is least. False says nothing.
+fn is_sure<M: MatchEnds>(ends: &M, held: Option<CharSpan>, start: usize) -> bool
+    ensures { IsTrue result → IsSure (M.matches ends.now) start held }
 {
-    if start < next {
-        return Ok(None);
-    }
-    let found = least_at(ends, start, last, barren)?;
-    Ok(found)
-}
-
-/// Whether a match was found that surely is least. False says nothing.
-fn is_sure<M: MatchEnds>(ends: &M, found: Option<CharSpan>) -> bool
-    ensures { IsTrue result → IsSure (M.matches ends.now) found }
-{
-    match found {
-        Some(m) => ends.holds_no_other(m),
+    match held {
+        Some(m) => m.start() == start && ends.holds_no_other(m),
         None => false,
     }
 }
@@ -115,6 +88,13 @@ fn stops_before(held: Option<CharSpan>, offset: usize) -> bool
     }
 }
 
+/// Whether no start is left to try from an offset on: the text ends before it, or the match that is held.
+fn is_over(held: Option<CharSpan>, offset: usize, count: usize) -> bool
+    ensures { result ≡ (nat_lt count offset || stops_before held offset) }
+{
+    count < offset || stops_before(held, offset)
+}
+
 /// The first least match that begins at an offset or after it. Along the starts from there on, the last one is held of
 /// those matches that end first, and no start behind its end is looked at. A match that holds no other is returned at
 /// once. Fails only where an allocation does.
@@ -126,18 +106,18 @@ pub fn first_least<M: MatchEnds>(ends: &M, offset: usize) -> Result<Option<CharS
     let count = ends.char_count();
     let mut held: Option<CharSpan> = None;
     let mut barren = BarrenPart::none();
-    let mut next = offset;
-    for start in offset..count + 1 {
-        if stops_before(held, start) {
+    let mut start = offset;
+    'starts: while start <= count {
+        let here = passed_from(ends, start);
+        if is_over(held, here, count) {
             return Ok(held);
         }
-        next = next_from(ends, start, next);
         let last = last_stop(held, count);
-        let found = least_from(ends, start, last, next, &mut barren)?;
-        if is_sure(ends, found) {
-            return Ok(found);
+        held = joined(held, least_at(ends, here, last, &mut barren)?);
+        if is_sure(ends, held, here) {
+            return Ok(held);
         }
-        held = joined(held, found);
+        start = here + 1;
     }
     Ok(held)
 }

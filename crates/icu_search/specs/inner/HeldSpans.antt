@@ -34,10 +34,10 @@ abbrev pub found_behind : (ℕ → ℕ → Bool) → ℕ → ℕ → Option Span
 found_behind matches n offset None = found_from matches n offset
 found_behind matches n offset (Some m) = found_from matches n (from_behind m)
 
--- one was found, and holds no other match that begins behind its start
-abbrev pub IsSure : (ℕ → ℕ → Bool) → Option Span → Type 0
-IsSure matches None = ⊥
-IsSure matches (Some m) = HoldsNoOther matches m
+-- a match is held that begins at an offset, and holds no other that begins behind that
+abbrev pub IsSure : (ℕ → ℕ → Bool) → ℕ → Option Span → Type 0
+IsSure matches start None = ⊥
+IsSure matches start (Some m) = (m.start ≡ start) × HoldsNoOther matches m
 
 -- no least match begins at an offset, or at one from there on that is below another
 abbrev pub PassedTo : (ℕ → ℕ → Bool) → ℕ → ℕ → ℕ → Type 0
