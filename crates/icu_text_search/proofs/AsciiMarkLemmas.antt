@@ -1,9 +1,9 @@
 -- Marks of ASCII characters, and what those tell with which a text begins.
-use Rattle.std.proofs.Common.{◌≡◌, ◌⊎◌, ℕ, Bool, true, false, ◌==◌, nat_lt, List, [], ◌∷◌, ◌++◌, Option, Some, None, if◌then◌else◌, get_or, ◌<◌, ◌≤◌, length, set, replicate, refl, sym, ap, ◌∙◌, subst, arith, inl, inr}
-use Rattle.std.specs.Prelude.{not, IfSome}
-use Rattle.std.proofs.lemmas.Bool.{cases_Bool, cases_eq, and_from, and_parts, and_right, false≢true}
+use Rattle.std.proofs.Common.{◌≡◌, ◌⊎◌, ℕ, Bool, true, false, nat_lt, List, [], ◌∷◌, ◌++◌, Option, Some, None, if◌then◌else◌, get_or, ◌<◌, ◌≤◌, length, set, replicate, refl, sym, ap, ◌∙◌, subst, arith, inl, inr}
+use Rattle.std.specs.Prelude.{IfSome}
+use Rattle.std.proofs.lemmas.Bool.{cases_eq, cases_lt, and_from, and_parts, and_right, false≢true}
 use Rattle.std.proofs.lemmas.Grind.{common_steps}
-use Rattle.std.proofs.lemmas.List.{get_or-set_other, get_or-set_same}
+use Rattle.std.proofs.lemmas.List.{append-nil, get_or-set_other, get_or-set_same, get_or_past, length-set}
 use Rattle.ucd_normal.specs.declared.forms.Form.TheVariants.{Nfd}
 use Rattle.unicode_normalization.specs.Decompose.{decompose}
 use Rattle.unicode_normalization.specs.Forms.{nfd}
@@ -15,7 +15,7 @@ use Rattle.icu_weighting.specs.Collations.{Collation}
 use Rattle.icu_text_order.specs.TextOrder.{reading_by, lists_by}
 use Rattle.icu_search.specs.PieceLaws.{BeginsPieces}
 use Rattle.icu_search.specs.SearchPlaces.{leads}
-use Rattle.icu_text_search.specs.inner.AsciiMarks.{has_mark, count_of, AllMarked, BeginsCut, BeginsWithOther, CountChars, GivesNothing, LeadsPieces, LeadsWithPrimary, OpensOtherwise, OpensSilently}
+use Rattle.icu_text_search.specs.inner.AsciiMarks.{has_mark, count_of, opens_with_primary, AllMarked, BeginsCut, BeginsWithOther, CountChars, GivesNothing, LeadsPieces, LeadsWithPrimary, OpensOtherwise, OpensSilently}
 use Rattle.icu_text_search.specs.inner.SilentStarts.{begins_with_primary}
 use Rattle.icu_text_search.specs.inner.FirstWeights.{BeginsOtherwise}
 use Rattle.icu_text_search.proofs.FirstWeightLemmas.{first_read, reads_other}
@@ -84,18 +84,20 @@ first_two (a ∷ b ∷ t) x y d e long first second = (t, ap (λ (k : ℕ). k �
 
 -- ---- characters that give nothing
 
-leads_by : (e : Element) (rest : List Element) (es : List Element) → es ≡ e ∷ rest → (e.primary == 0) ≡ false → begins_with_primary es ≡ true
-leads_by e rest es is some = ap begins_with_primary is ∙ ap not some
+opens_still : (es more : List Element) → opens_with_primary es ≡ true → begins_with_primary (es ++ more) ≡ true
+opens_still [] more h = absurd (false≢true h)
+opens_still (x ∷ xs) more h = h
 
 leads_on : (c : Collation) (y : ℕ) (tail : List ℕ) → LeadsWithPrimary c y → BeginsCut (reading_by c) tail → begins_with_primary (elements_of (reading_by c) (nfd (y ∷ tail))) ≡ true
-leads_on c y [] l cut = leads_by l.element l.rest _ l.elements l.some
+leads_on c y [] l cut =
+    let own : List Element = elements_of (reading_by c) (nfd (y ∷ [])) in
+    ap begins_with_primary (sym (append-nil own)) ∙ opens_still own [] l
 leads_on c y (z ∷ zs) l cut =
     let reading = reading_by c in
-    let later : List Element = l.rest ++ elements_of reading (nfd (z ∷ zs)) in
-    let all : elements_of reading (nfd (y ∷ z ∷ zs)) ≡ l.element ∷ later =
-    boundary_cut reading z cut.first cut.more zs cut.decomposes cut.boundary [] (y ∷ [])
-    ∙ ap (λ (es : List Element). es ++ elements_of reading (nfd (z ∷ zs))) l.elements in
-    leads_by l.element later _ all l.some
+    let own : List Element = elements_of reading (nfd (y ∷ [])) in
+    let more : List Element = elements_of reading (nfd (z ∷ zs)) in
+    let all : elements_of reading (nfd (y ∷ z ∷ zs)) ≡ own ++ more = boundary_cut reading z cut.first cut.more zs cut.decomposes cut.boundary [] (y ∷ []) in
+    ap begins_with_primary all ∙ opens_still own more l
 
 pub opens_silently : (c : Collation) (text : List ℕ) (x y : ℕ) (tail : List ℕ) → text ≡ x ∷ y ∷ tail → GivesNothing c x → LeadsWithPrimary c y → BeginsPieces (reading_by c) y → BeginsCut (reading_by c) tail
     → OpensSilently c text
@@ -110,34 +112,38 @@ opens_silently c text x y tail is nothing leading cut next = record {
 
 -- ---- how many weights each has
 
+none_some : (n : ℕ) → None ≡ Some n → ⊥
+none_some n e = cc
+
+uncounted : (n l : ℕ) → get_or (replicate n (None {A = ℕ})) l None ≡ None
+uncounted n l = grind (arith, common_steps)
+
+count_there : (b : Bool) (p : Option ℕ) (n : ℕ) → (if b then p else None) ≡ Some n → p ≡ Some n
+count_there true p n is = is
+count_there false p n is = absurd (none_some n is)
+
 pub no_counts : (c : Collation) → CountChars c (replicate 128 None)
-no_counts c = λ x. none_counted c x (count_of (replicate 128 None) x) (unknown x)
-  where
-    none_counted : (c : Collation) (x : ℕ) (o : Option ℕ) → o ≡ None → IfSome o (λ n. n ≡ length (lists_by c (nfd (x ∷ []))).primaries)
-    none_counted c x None is = tt
-    none_counted c x (Some n) is = cc
+no_counts c = λ x n is.
+    absurd (none_some n (sym (uncounted 128 x) ∙ count_there (nat_lt x 0x80) (get_or (replicate 128 (None {A = ℕ})) x None) n is))
 
-    uncounted : (n l : ℕ) → get_or (replicate n (None {A = ℕ})) l None ≡ None
-    uncounted n l = grind (arith, common_steps)
-
-    unknown : (x : ℕ) → count_of (replicate 128 None) x ≡ None
-    unknown x = elim (cases_Bool (nat_lt x 0x80)) [
-      | inl is ↦ ap (λ b. if b then get_or (replicate 128 None) x None else None) is ∙ uncounted 128 x
-      | inr not ↦ ap (λ b. if b then get_or (replicate 128 None) x None else None) not
-    ]
-
-pub one_more_count : (c : Collation) (old : List (Option ℕ)) (k : ℕ) (o : Option ℕ) → CountChars c old → IfSome o (λ n. n ≡ length (lists_by c (nfd (k ∷ []))).primaries) → k < length old → CountChars c (set old k o)
-one_more_count c old k o all this inside = λ x.
-    elim (cases_eq x k) as (λ _. IfSome (count_of (set old k o) x) (λ n. n ≡ length (lists_by c (nfd (x ∷ []))).primaries)) [
-      | inl same ↦ subst (λ x. IfSome (count_of (set old k o) x) (λ n. n ≡ length (lists_by c (nfd (x ∷ []))).primaries)) (sym same) here
-      | inr other ↦
-          subst (λ (o : Option ℕ). IfSome o (λ n. n ≡ length (lists_by c (nfd (x ∷ []))).primaries))
-          (ap (λ (o : Option ℕ). if nat_lt x 0x80 then o else None) (sym (get_or-set_other old k x o None other))) (all x)
+pub one_more_count : (c : Collation) (old : List (Option ℕ)) (k : ℕ) (o : Option ℕ) → CountChars c old → IfSome o (λ n. n ≡ length (lists_by c (nfd (k ∷ []))).primaries) → CountChars c (set old k o)
+one_more_count c old k o all this = λ x n is.
+    elim (cases_eq x k) as (λ _. n ≡ length (lists_by c (nfd (x ∷ []))).primaries) [
+      | inl same ↦
+          let there : get_or (set old k o) k None ≡ Some n = ap (λ i. get_or (set old k o) i None) (sym same) ∙ count_there (nat_lt x 0x80) (get_or (set old k o) x None) n is in
+          let it : o ≡ Some n = stored n there in
+          let count : n ≡ length (lists_by c (nfd (k ∷ []))).primaries = subst (λ (o : Option ℕ). IfSome o (λ n. n ≡ length (lists_by c (nfd (k ∷ []))).primaries)) it this in
+          count ∙ ap (λ (y : ℕ). length (lists_by c (nfd (y ∷ []))).primaries) (sym same)
+      | inr other ↦ all x n (ap (λ (o : Option ℕ). if nat_lt x 0x80 then o else None) (sym (get_or-set_other old k x o None other)) ∙ is)
     ]
   where
-    by : (b : Bool) (p : Option ℕ) → p ≡ o → IfSome (if b then p else None) (λ n. n ≡ length (lists_by c (nfd (k ∷ []))).primaries)
-    by true p is = subst (λ (p : Option ℕ). IfSome p (λ n. n ≡ length (lists_by c (nfd (k ∷ []))).primaries)) (sym is) this
-    by false p is = tt
+    stored : (n : ℕ) → get_or (set old k o) k None ≡ Some n → o ≡ Some n
+    stored n there =
+        elim (cases_lt k (length old)) as (λ _. o ≡ Some n) [
+          | inl inside ↦ sym (get_or-set_same old k o None inside) ∙ there
+          | inr past ↦ absurd (none_some n (sym (get_or_past (set old k o) k None (omega (arith, past, length-set old k o))) ∙ there))
+        ]
 
-    here : IfSome (count_of (set old k o) k) (λ n. n ≡ length (lists_by c (nfd (k ∷ []))).primaries)
-    here = by (nat_lt k 0x80) (get_or (set old k o) k None) (get_or-set_same old k o None inside)
+pub counted_if : (c : Collation) (counts : List (Option ℕ)) (x : ℕ) (o : Option ℕ) → CountChars c counts → o ≡ count_of counts x → IfSome o (λ n. n ≡ length (lists_by c (nfd (x ∷ []))).primaries)
+counted_if c counts x None all is = tt
+counted_if c counts x (Some n) all is = all x n (sym is)

@@ -1,5 +1,5 @@
 -- What is marked of ASCII characters.
-use Rattle.std.specs.Prelude.{◌≡◌, ℕ, ◌<◌, Bool, true, false, ◌&&◌, ◌==◌, nat_lt, slice_index_or, List, [], ◌∷◌, length, Option, None, IfSome, ⊤, if◌then◌else◌}
+use Rattle.std.specs.Prelude.{◌≡◌, ℕ, ◌<◌, Bool, true, false, ◌&&◌, ◌==◌, nat_lt, slice_index_or, List, [], ◌∷◌, length, Option, Some, None, not, ⊤, if◌then◌else◌}
 use Rattle.ucd_normal.specs.declared.forms.Form.TheVariants.{Nfd}
 use Rattle.unicode_normalization.specs.Decompose.{decompose}
 use Rattle.unicode_normalization.specs.Forms.{nfd}
@@ -52,12 +52,14 @@ MarkCuts reading = AllMarked (LeadsPieces reading)
 abbrev pub MarkOthers : Collation → List ℕ → List Bool → Type 0
 MarkOthers c front = AllMarked (OpensOtherwise c front)
 
--- the elements of a character by itself begin with a primary weight
-pub record LeadsWithPrimary (c : Collation) (x : ℕ) : Type 0 where
-  pub element : Element
-  pub rest : List Element
-  pub elements : elements_of (reading_by c) (nfd (x ∷ [])) ≡ element ∷ rest
-  pub some : (element.primary == 0) ≡ false
+-- elements begin with a primary weight: there is a first one
+abbrev pub opens_with_primary : List Element → Bool
+opens_with_primary [] = false
+opens_with_primary (x ∷ xs) = not (x.primary == 0)
+
+-- those of a character by itself do
+abbrev pub LeadsWithPrimary : Collation → ℕ → Type 0
+LeadsWithPrimary c x = opens_with_primary (elements_of (reading_by c) (nfd (x ∷ []))) ≡ true
 
 -- a character is silent, and no level counts from the quaternary one on
 pub record GivesNothing (c : Collation) (x : ℕ) : Type 0 where
@@ -79,7 +81,7 @@ count_of counts x = if nat_lt x 0x80 then slice_index_or counts x None else None
 -- so many it has
 abbrev pub CountChars : Collation → List (Option ℕ) → Type 0
 CountChars c counts =
-    (x : ℕ) → IfSome (count_of counts x) (λ n. n ≡ length (lists_by c (nfd (x ∷ []))).primaries)
+    (x n : ℕ) → count_of counts x ≡ Some n → n ≡ length (lists_by c (nfd (x ∷ []))).primaries
 
 -- a text begins with a character that is silent before what follows
 pub record OpensSilently (c : Collation) (text : List ℕ) : Type 0 where
