@@ -115,7 +115,10 @@ opens_silently c text x y tail is nothing leading cut next = record {
 none_some : (n : ℕ) → None ≡ Some n → ⊥
 none_some n e = cc
 
-uncounted : (n l : ℕ) → get_or (replicate n (None {A = ℕ})) l None ≡ None
+abbrev unknown : Option ℕ
+unknown = None
+
+uncounted : (n l : ℕ) → get_or (replicate n unknown) l unknown ≡ unknown
 uncounted n l = grind (arith, common_steps)
 
 count_there : (b : Bool) (p : Option ℕ) (n : ℕ) → (if b then p else None) ≡ Some n → p ≡ Some n
@@ -124,7 +127,7 @@ count_there false p n is = absurd (none_some n is)
 
 pub no_counts : (c : Collation) → CountChars c (replicate 128 None)
 no_counts c = λ x n is.
-    absurd (none_some n (sym (uncounted 128 x) ∙ count_there (nat_lt x 0x80) (get_or (replicate 128 (None {A = ℕ})) x None) n is))
+    absurd (none_some n (sym (uncounted 128 x) ∙ count_there (nat_lt x 0x80) (get_or (replicate 128 unknown) x unknown) n is))
 
 pub one_more_count : (c : Collation) (old : List (Option ℕ)) (k : ℕ) (o : Option ℕ) → CountChars c old → IfSome o (λ n. n ≡ length (lists_by c (nfd (k ∷ []))).primaries) → CountChars c (set old k o)
 one_more_count c old k o all this = λ x n is.
@@ -147,3 +150,9 @@ one_more_count c old k o all this = λ x n is.
 pub counted_if : (c : Collation) (counts : List (Option ℕ)) (x : ℕ) (o : Option ℕ) → CountChars c counts → o ≡ count_of counts x → IfSome o (λ n. n ≡ length (lists_by c (nfd (x ∷ []))).primaries)
 counted_if c counts x None all is = tt
 counted_if c counts x (Some n) all is = all x n (sym is)
+
+-- ---- texts that begin with a cut
+
+pub cut_first : (reading : Reading) (l : List ℕ) (x d : ℕ) → 1 ≤ length l → x ≡ get_or l 0 d → BeginsPieces reading x → BeginsCut reading l
+cut_first reading [] x d some is cut = absurd (omega (arith, some))
+cut_first reading (y ∷ ys) x d some is cut = subst (BeginsPieces reading) is cut

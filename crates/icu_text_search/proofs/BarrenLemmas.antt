@@ -135,7 +135,7 @@ module _ (s : Search) where
   places_in_front : (front tail : List ℕ) (k : ℕ) → IsPiece s tail → k ≤ length front → is_place reading (front ++ tail) k ≡ is_place reading front k
   places_in_front front tail k (inl none) fits = ap (λ (l : List ℕ). is_place reading (front ++ l) k) none ∙ ap (λ (l : List ℕ). is_place reading l k) (append-nil front)
   places_in_front front tail k (inr piece) fits =
-      ap (λ (l : List ℕ). is_place reading (front ++ l) k) piece.1.1.0 ∙ place_before reading piece.0 piece.1.1.1 piece.1.0 front k fits
+      ap (λ (l : List ℕ). is_place reading (front ++ l) k) piece.2 ∙ place_before reading piece.0 piece.3 piece.1 front k fits
 
   module _ (text : List ℕ) (start stop : ℕ) (ordered : start < stop) (within : stop ≤ length text) (allowed : (k : ℕ) → s.allowed k ≡ true)
       (begins : BeginsPieceAt reading text start) (ends : EndsPieceAt reading text stop)

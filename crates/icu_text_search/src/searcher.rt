@@ -14,7 +14,7 @@ ghost use Rattle.unicode_normalization.specs.Forms.{nfd};
 ghost use Rattle.icu_search.specs.PieceLaws.{BeginsPieces};
 ghost use Rattle.icu_text_search.specs.inner.SilentStarts.{EndsAtTertiaries};
 ghost use Rattle.icu_text_search.specs.inner.SilentTexts.{StartsSilently};
-ghost use Rattle.icu_text_search.specs.inner.AsciiMarks.{BeginsCut, CountChars, MarkCuts, MarkLeading, MarkOthers, MarkSilent, OpensSilently};
+ghost use Rattle.icu_text_search.specs.inner.AsciiMarks.{BeginsCut, CountChars, GivesNothing, LeadsWithPrimary, MarkCuts, MarkLeading, MarkOthers, MarkSilent, OpensSilently};
 ghost use Rattle.icu_text_search.specs.inner.FirstWeights.{AreApart, BeginsOtherwise, BeginsWith};
 ghost use Rattle.icu_text_search.specs.inner.PartOutcomes.{equals_pattern};
 
@@ -256,13 +256,26 @@ impl<'c> Searcher<'c> {
     {
         match text {
             [first, next, others @ ..] => {
-                has_mark(&self.silent, *first)
-                    && has_mark(&self.leading, *next)
-                    && has_mark(&self.cuts, *next)
-                    && self.begins_cut(others)
+                self.gives_nothing_before(*first, *next) && self.begins_cut(others)
             }
             _ => false,
         }
+    }
+
+    /// Whether a character gives nothing below the quaternary level before another one, which begins with a primary
+    /// weight where the text is cut behind it. False says nothing.
+    #[inline(always)]
+    fn gives_nothing_before(&self, first: char, next: char) -> bool
+        ensures { let c = (search_of self.now).collation in IsTrue result
+            → GivesNothing c first × LeadsWithPrimary c next × BeginsPieces (reading_by c) next }
+    {
+        if !has_mark(&self.silent, first) {
+            return false;
+        }
+        if !has_mark(&self.leading, next) {
+            return false;
+        }
+        has_mark(&self.cuts, next)
     }
 
     /// Whether a text is empty, or begins with a character before which texts may be cut. False says nothing.

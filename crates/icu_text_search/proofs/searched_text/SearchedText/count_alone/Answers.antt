@@ -14,8 +14,8 @@ returns c =
     let text = text_searched t in
     let collation = (searched_in t).collation in
     let at = c.args.at in
-    let x = c.text-item.result in
-    let here : x ≡ get_or text at x = c.text-item.is ∙ ap (λ (l : List ℕ). get_or l at x) c.characters-text.ensures in
+    let x = c.index-text-at.result in
+    let here : x ≡ get_or text at x = c.index-text-at.is ∙ ap (λ (l : List ℕ). get_or l at x) c.characters-text.ensures in
     let size : (at + 1) - at ≡ 1 = omega arith in
     let one : slice_range text at (at + 1) ≡ x ∷ [] =
     ap (λ n. take n (drop at text)) size ∙ ap (take 1) (drop_more text at x c.requires) ∙ ap (λ (y : ℕ). y ∷ []) (sym here) in

@@ -16,7 +16,7 @@ loop-at-preserved c =
     let at = c.loop-at.at in
     let from : start + 1 ≤ at = search rules in
     let before : at < c.args.stop = search rules in
-    let inside : at < length text = omega (arith, before, c.char_count.ensures.count, c.if-branch.false) in
+    let inside : at < length text = omega (arith, before, c.char_count.ensures.count, c.if-stop-char_count.false) in
     let sum : c.in-Some-checked_add.total ≡ c.loop-at.met + c.in-Some.more = omega (arith, c.in-Some-checked_add.ensures.1) in
     subst (HasAtMost s.collation text start (at + 1)) (sym sum)
     (at_most_more s.collation text start at c.loop-at.met c.in-Some.more inside (omega (arith, from)) c.loop-at.invariant c.in-Some.ensures)

@@ -12,14 +12,19 @@ returns-then-recurs-clause-tells c =
 pub returns-then-stop-last-clause-tells : goal.returns-then-stop-last-clause-tells
 returns-then-stop-last-clause-tells c =
     let t = c.args.self.now in
-    told_in_time (matches_in t) c.args.start c.args.last (char_len_in t) c.in-Some.stop c.requires.ordered c.requires.within (rw c.in-Some.is at c.in_ok-shortest_stop.ensures) c.if-stop-last.true
+    told_in_time (matches_in t) c.args.start c.args.last (char_len_in t) c.in-Some.stop c.requires.ordered c.requires.within (rw c.in-Some.is at c.in_ok-stop.ensures) c.if-stop-last.true
 
 pub returns-else-stop-last-clause-tells : goal.returns-else-stop-last-clause-tells
 returns-else-stop-last-clause-tells c =
     let t = c.args.self.now in
-    told_too_late (matches_in t) c.args.start c.args.last (char_len_in t) c.in-Some.stop c.requires.ordered c.requires.within (rw c.in-Some.is at c.in_ok-shortest_stop.ensures) (omega (arith, c.if-stop-last.false))
+    told_too_late (matches_in t) c.args.start c.args.last (char_len_in t) c.in-Some.stop c.requires.ordered c.requires.within (rw c.in-Some.is at c.in_ok-stop.ensures) (omega (arith, c.if-stop-last.false))
 
 pub returns-in-None-clause-tells : goal.returns-in-None-clause-tells
 returns-in-None-clause-tells c =
     let t = c.args.self.now in
-    told_none (matches_in t) c.args.start c.args.last (char_len_in t) c.requires.ordered c.requires.within (rw c.in-None.is at c.in_ok-shortest_stop.ensures)
+    told_none (matches_in t) c.args.start c.args.last (char_len_in t) c.requires.ordered c.requires.within (rw c.in-None.is at c.in_ok-stop.ensures)
+
+pub keep_barren-requires-clause-none : goal.keep_barren-requires-clause-none
+keep_barren-requires-clause-none c =
+    let t = c.args.self.now in
+    none_of_shortest (matches_in t) c.args.start (char_len_in t) (omega (arith, c.requires.ordered, c.requires.within)) (rw c.in-None.is at c.in_ok-stop.ensures)

@@ -8,8 +8,8 @@ use Rattle.icu_text_search.proofs.BarrenLemmas.{none_from_there}
 use Rattle.icu_text_search.proofs.TextCutLemmas.{none_matches}
 use Rattle.icu_text_search.proofs.searched_text.SearchedText.looked_stop.Goals as goal
 
-pub requires-walk_along-rest : goal.requires-walk_along-rest
-requires-walk_along-rest c =
+pub walk_along-requires-clause-rest : goal.walk_along-requires-clause-rest
+walk_along-requires-clause-rest c =
     let chars = c.characters.result.now in
     take_all (length chars - c.args.start) (drop c.args.start chars) (omega (arith, length-drop c.args.start chars)) ∙ ap (drop c.args.start) c.characters.ensures
 

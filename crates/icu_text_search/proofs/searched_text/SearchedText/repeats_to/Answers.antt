@@ -7,8 +7,8 @@ use Rattle.icu_text_search.proofs.searched_text.SearchedText.repeats_to.Goals as
 pub loop-at-init : goal.loop-at-init
 loop-at-init c = λ start so_far. so_far
 
-pub requires-is_repeated-within : goal.requires-is_repeated-within
-requires-is_repeated-within c =
+pub is_repeated-requires-clause-within : goal.is_repeated-requires-clause-within
+is_repeated-requires-clause-within c =
     let before : c.loop-at.at < c.args.stop = search rules in
     omega (arith, before, c.requires.within, ap length c.characters-text.ensures)
 
