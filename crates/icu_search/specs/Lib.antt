@@ -7,6 +7,6 @@ pub mod SearchLaws
 pub mod PieceLaws
 pub mod EquivalentTextLaws
 pub mod Selections
-pub mod BarrenParts
+pub mod KnownParts
 pub mod SpansLeft
 pub mod inner

@@ -2,7 +2,7 @@
 
 ghost use Rattle.std.specs.Prelude.{◌≡◌, ◌++◌, ◌||◌, ◌<◌, ◌≤◌, [], nat_lt, option_to_list, IfOk, IfSome, IsTrue, OnErr};
 ghost use Rattle.icu_search.specs.Selections.{first_span, found_from};
-ghost use Rattle.icu_search.specs.BarrenParts.{SaysBarren};
+ghost use Rattle.icu_search.specs.KnownParts.{SaysBarren};
 ghost use Rattle.icu_search.specs.inner.HeldSpans.{IsSure, PassedTo, TellsLeastSpan, from_behind, joined_to_held, last_to_try, stops_before};
 ghost use Rattle.icu_search.specs.LeastMatches.{found_matches};
 

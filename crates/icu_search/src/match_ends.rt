@@ -2,7 +2,7 @@
 
 ghost use Rattle.std.specs.Prelude.{◌≡◌, ◌<◌, ◌≤◌, ℕ, Bool, None, IfOk, IsTrue};
 ghost use Rattle.icu_search.specs.LeastMatches.{HoldsNoOther, TellsLeastStop};
-ghost use Rattle.icu_search.specs.BarrenParts.{SaysBarren};
+ghost use Rattle.icu_search.specs.KnownParts.{SaysBarren};
 ghost use Rattle.icu_search.specs.declared.barren_part.BarrenPart.{BarrenPart as Barren};
 
 use crate::barren_part::BarrenPart;

@@ -15,7 +15,7 @@ use Rattle.icu_weighting.specs.Collations.{Collation}
 use Rattle.icu_text_order.specs.TextOrder.{reading_by, lists_by}
 use Rattle.icu_search.specs.PieceLaws.{BeginsPieces}
 use Rattle.icu_search.specs.SearchPlaces.{leads}
-use Rattle.icu_text_search.specs.inner.AsciiMarks.{has_mark, count_of, opens_with_primary, AllMarked, BeginsCut, BeginsWithOther, CountChars, GivesNothing, LeadsPieces, LeadsWithPrimary, OpensOtherwise, OpensSilently}
+use Rattle.icu_text_search.specs.inner.AsciiMarks.{has_mark, counted_char, opens_with_primary, AllMarked, BeginsCut, BeginsWithOther, CountChars, GivesNothing, LeadsPieces, LeadsWithPrimary, OpensOtherwise, OpensSilently}
 use Rattle.icu_text_search.specs.inner.SilentStarts.{begins_with_primary}
 use Rattle.icu_text_search.specs.inner.FirstWeights.{BeginsOtherwise}
 use Rattle.icu_text_search.proofs.FirstWeightLemmas.{first_read, reads_other}
@@ -147,7 +147,7 @@ one_more_count c old k o all this = λ x n is.
           | inr past ↦ absurd (none_some n (sym (get_or_past (set old k o) k None (omega (arith, past, length-set old k o))) ∙ there))
         ]
 
-pub counted_if : (c : Collation) (counts : List (Option ℕ)) (x : ℕ) (o : Option ℕ) → CountChars c counts → o ≡ count_of counts x → IfSome o (λ n. n ≡ length (lists_by c (nfd (x ∷ []))).primaries)
+pub counted_if : (c : Collation) (counts : List (Option ℕ)) (x : ℕ) (o : Option ℕ) → CountChars c counts → o ≡ counted_char counts x → IfSome o (λ n. n ≡ length (lists_by c (nfd (x ∷ []))).primaries)
 counted_if c counts x None all is = tt
 counted_if c counts x (Some n) all is = all x n (sym is)
 

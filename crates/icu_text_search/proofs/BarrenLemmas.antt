@@ -12,7 +12,7 @@ use Rattle.icu_search.specs.Searches.{Search, is_match}
 use Rattle.icu_search.specs.declared.barren_part.BarrenPart.{BarrenPart}
 use Rattle.icu_search.proofs.LeastLemmas.{ShortestOf, ShortestOf-shortest_from}
 use Rattle.icu_search.proofs.SearchPieceLemmas.{place_before}
-use Rattle.icu_text_search.specs.inner.BarrenParts.{IsBarren, IsPiece, NoneBegins, Repeats}
+use Rattle.icu_text_search.specs.inner.BarrenParts.{IsBarren, GoesOnAtCut, NoneBegins, Repeats}
 use Rattle.icu_text_search.specs.inner.CountedChars.{CountsAlone}
 use Rattle.icu_text_search.specs.inner.PartOutcomes.{ends_match, equals_pattern}
 use Rattle.icu_text_search.specs.inner.SearchCuts.{BeginsPieceAt, EndsPieceAt}
@@ -86,11 +86,11 @@ module _ (s : Search) where
 
   -- ---- the same characters again
 
-  pub tail_piece : (text : List ℕ) (k : ℕ) → EndsPieceAt reading text k → IsPiece s (drop k text)
+  pub tail_piece : (text : List ℕ) (k : ℕ) → EndsPieceAt reading text k → GoesOnAtCut s (drop k text)
   tail_piece text k (inl end) = inl (drop_all k text (omega (arith, end)))
   tail_piece text k (inr at) = inr (at.char, at.tail, ap (drop k) at.text_is ∙ drop_at at.front (at.char ∷ at.tail) k at.offset_is, at.begins)
 
-  none_there : (text front tail : List ℕ) (start : ℕ) → NoneBegins s front → IsPiece s tail → drop start text ≡ front ++ tail
+  none_there : (text front tail : List ℕ) (start : ℕ) → NoneBegins s front → GoesOnAtCut s tail → drop start text ≡ front ++ tail
       → (t : ℕ) → start < t → t ≤ length text → is_match s text start t ≡ false
   none_there text front tail start none piece is t after within =
       let k = t - start in
@@ -111,7 +111,7 @@ module _ (s : Search) where
       let stop : part.start + n ≡ part.stop = omega (arith, b.some) in
       let tail : drop n rest ≡ drop part.stop text = drop-drop n part.start text ∙ ap (λ k. drop k text) stop in
       none_there text (slice_range text part.start part.stop) (drop n rest) part.start b.none
-      (subst (IsPiece s) (sym tail) (tail_piece text part.stop ends)) (sym (take-append-drop n rest))
+      (subst (GoesOnAtCut s) (sym tail) (tail_piece text part.stop ends)) (sym (take-append-drop n rest))
 
   -- and where its characters come again
   pub recurs : (text : List ℕ) (part : BarrenPart) → IsBarren s text part → (start step n reach : ℕ) → start ≡ part.start + step → n ≡ part.stop - part.start
@@ -132,7 +132,7 @@ module _ (s : Search) where
 
   -- ---- a part that was looked at
 
-  places_in_front : (front tail : List ℕ) (k : ℕ) → IsPiece s tail → k ≤ length front → is_place reading (front ++ tail) k ≡ is_place reading front k
+  places_in_front : (front tail : List ℕ) (k : ℕ) → GoesOnAtCut s tail → k ≤ length front → is_place reading (front ++ tail) k ≡ is_place reading front k
   places_in_front front tail k (inl none) fits = ap (λ (l : List ℕ). is_place reading (front ++ l) k) none ∙ ap (λ (l : List ℕ). is_place reading l k) (append-nil front)
   places_in_front front tail k (inr piece) fits =
       ap (λ (l : List ℕ). is_place reading (front ++ l) k) piece.2 ∙ place_before reading piece.0 piece.3 piece.1 front k fits

@@ -7,7 +7,7 @@ ghost use Rattle.icu_collator.specs.Collators.{collation_borrowed};
 ghost use Rattle.icu_search.specs.PieceLaws.{BeginsPieces};
 ghost use Rattle.icu_text_order.specs.Forms.{form_by, last_variable_by};
 ghost use Rattle.icu_text_order.specs.TextOrder.{reading_by};
-ghost use Rattle.icu_text_search.specs.inner.AsciiMarks.{AllMarked, BeginsWithOther, CountChars, MarkCuts, LeadsWithPrimary, MarkLeading, MarkOthers, MarkSilent, count_of, has_mark};
+ghost use Rattle.icu_text_search.specs.inner.AsciiMarks.{AllMarked, BeginsWithOther, CountChars, MarkCuts, LeadsWithPrimary, MarkLeading, MarkOthers, MarkSilent, counted_char, has_mark};
 ghost use Rattle.icu_text_search.specs.inner.FirstWeights.{AreApart};
 ghost use Rattle.icu_text_search.specs.inner.SilentStarts.{EndsAtTertiaries};
 
@@ -194,7 +194,7 @@ pub(crate) fn leading_marks(collator: &CollatorBorrowed<'_>) -> [bool; 128]
 /// How many primary weights an ASCII character has by itself, if that is known. Of none beyond ASCII it is.
 #[inline(always)]
 pub(crate) fn count_of_char(counts: &[Option<usize>; 128], c: char) -> Option<usize>
-    ensures { result ≡ count_of counts.now c }
+    ensures { result ≡ counted_char counts.now c }
 {
     if (c as u32) < 0x80 {
         counts[(c as u32) as usize]

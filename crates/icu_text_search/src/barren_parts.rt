@@ -1,7 +1,7 @@
 //! Parts of a text with whose characters no match begins: where the same characters come again, none begins either.
 
 ghost use Rattle.std.specs.Prelude.{◌≡◌, ◌+◌, ◌-◌, ◌<◌, ◌≤◌, ℕ, List, false, true, length, slice_index_or, IfSome, IsTrue};
-ghost use Rattle.icu_search.specs.BarrenParts.{SaysBarren};
+ghost use Rattle.icu_search.specs.KnownParts.{SaysBarren};
 ghost use Rattle.icu_search.specs.LeastMatches.{span};
 ghost use Rattle.icu_text_search.specs.inner.BarrenParts.{is_barren_in, IsBarren, Repeats};
 ghost use Rattle.icu_text_search.specs.inner.SearchCuts.{BeginsPieceAt};

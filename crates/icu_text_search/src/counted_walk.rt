@@ -80,8 +80,8 @@ impl<'s, 'c> SearchedText<'s, 'c> {
         Ok(Some(None))
     }
 
-    /// Whether no match begins behind the start of a part and ends within it, as there are fewer primary weights than in
-    /// the pattern. False says nothing.
+    /// Whether no match begins behind the start of a part and ends within it, as there are fewer primary weights than
+    /// in the pattern. False says nothing.
     pub(crate) fn holds_none(&self, start: usize, stop: usize) -> bool
         ensures { IsTrue result → HoldsNoOther (matches_in self.now) (span start stop) }
     {

@@ -1,7 +1,7 @@
 //! Where the least matches of a text end: starts are passed over where little tells that none begins there.
 
 ghost use Rattle.std.specs.Prelude.{◌≡◌, ◌+◌, ◌<◌, ◌≤◌, ℕ, [], false, true, None, IfOk, IsTrue};
-ghost use Rattle.icu_search.specs.BarrenParts.{SaysBarren};
+ghost use Rattle.icu_search.specs.KnownParts.{SaysBarren};
 ghost use Rattle.icu_search.specs.LeastMatches.{TellsLeastStop};
 ghost use Rattle.icu_text_search.specs.inner.BarrenParts.{is_barren_in};
 ghost use Rattle.icu_text_search.specs.inner.PartOutcomes.{equals_pattern};

@@ -102,8 +102,8 @@ impl<'s, 'c> SearchedText<'s, 'c> {
         self.walk(start, places)
     }
 
-    /// Where the first match behind an offset ends that begins there, where the empty part doesn't match: a walk, unless
-    /// the first weights there tell that there is none. A place is there.
+    /// Where the first match behind an offset ends that begins there, where the empty part doesn't match: a walk,
+    /// unless the first weights there tell that there is none. A place is there.
     fn looked_stop(&self, start: usize) -> Result<Option<usize>, AllocError>
         requires within { start ≤ char_len_in self.now }
         requires some { equals_pattern (searched_in self.now) [] ≡ false }

@@ -75,13 +75,13 @@ abbrev pub MarkLeading : Collation → List Bool → Type 0
 MarkLeading c = AllMarked (LeadsWithPrimary c)
 
 -- how many primary weights an ASCII character has by itself, if that is known
-abbrev pub count_of : List (Option ℕ) → ℕ → Option ℕ
-count_of counts x = if nat_lt x 0x80 then slice_index_or counts x None else None
+abbrev pub counted_char : List (Option ℕ) → ℕ → Option ℕ
+counted_char counts x = if nat_lt x 0x80 then slice_index_or counts x None else None
 
 -- so many it has
 abbrev pub CountChars : Collation → List (Option ℕ) → Type 0
 CountChars c counts =
-    (x n : ℕ) → count_of counts x ≡ Some n → n ≡ length (lists_by c (nfd (x ∷ []))).primaries
+    (x n : ℕ) → counted_char counts x ≡ Some n → n ≡ length (lists_by c (nfd (x ∷ []))).primaries
 
 -- a text begins with a character that is silent before what follows
 pub record OpensSilently (c : Collation) (text : List ℕ) : Type 0 where

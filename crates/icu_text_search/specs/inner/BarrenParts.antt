@@ -10,13 +10,13 @@ use Rattle.icu_text_search.specs.declared.searched_text.SearchedText.{SearchedTe
 use Rattle.icu_text_search.specs.inner.PartOutcomes.{equals_pattern}
 
 -- a text has no characters, or begins with one before which texts may be cut
-abbrev pub IsPiece : Search → List ℕ → Type 0
-IsPiece s tail = (tail ≡ []) ⊎ ((x : ℕ) × (xs : List ℕ) × (tail ≡ x ∷ xs) × BeginsPieces (reading_by s.collation) x)
+abbrev pub GoesOnAtCut : Search → List ℕ → Type 0
+GoesOnAtCut s tail = (tail ≡ []) ⊎ ((x : ℕ) × (xs : List ℕ) × (tail ≡ x ∷ xs) × BeginsPieces (reading_by s.collation) x)
 
 -- whatever follows these characters, if the text may be cut behind them, no part from them on is equal to the pattern
 abbrev pub NoneBegins : Search → List ℕ → Type 0
 NoneBegins s front =
-    (tail : List ℕ) → IsPiece s tail → (k : ℕ) → 0 < k → k ≤ length (front ++ tail)
+    (tail : List ℕ) → GoesOnAtCut s tail → (k : ℕ) → 0 < k → k ≤ length (front ++ tail)
     → is_place (reading_by s.collation) (front ++ tail) k ≡ true → equals_pattern s (take k (front ++ tail)) ≡ false
 
 -- from an offset on, up to before another one, each character stands so many characters before the same one
@@ -31,5 +31,6 @@ pub record IsBarren (s : Search) (text : List ℕ) (part : BarrenPart) : Type 0 
   pub none : NoneBegins s (slice_range text part.start part.stop)
   pub repeats : Repeats text part.start part.step part.reach
 
+-- of the text that is searched
 abbrev pub is_barren_in : SearchedText → BarrenPart → Type 0
 is_barren_in t = IsBarren (searched_in t) (text_searched t)

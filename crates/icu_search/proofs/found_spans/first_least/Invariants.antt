@@ -1,5 +1,5 @@
 use Rattle.std.proofs.Common.{◌≡◌, ◌+◌, ◌-◌}
-use Rattle.icu_search.specs.BarrenParts.{SaysBarren}
+use Rattle.icu_search.specs.KnownParts.{SaysBarren}
 use Rattle.icu_search.specs.Selections.{first_span, found_from}
 use Rattle.icu_search.specs.inner.HeldSpans.{joined_to_held}
 use Rattle.icu_search.proofs.SelectionLemmas.{least_to}
