@@ -24,9 +24,9 @@ impl IndexedText {
         ensures offsets { IfOk result (λ t. indexed_offsets t ≡ offsets_along 0 (T.sizes text)) }
     {
         text.takes_all_units();
-        let _count = text.unit_count();
-        let mut characters = Vec::new(alloc);
-        let mut offsets = Vec::new(alloc);
+        let room = text.unit_count();
+        let mut characters = Vec::with_capacity(alloc, room)?;
+        let mut offsets = Vec::with_capacity(alloc, room)?;
         let mut offset = 0;
         let mut rest = text;
         'characters: while let Some(first) = rest.split_first_sized() {
@@ -98,7 +98,7 @@ impl IndexedText {
 fn written(alloc: Global, characters: &[char]) -> Result<String, AllocError>
     ensures { IfOk result (λ s. chars (string_bytes s) ≡ characters.now) }
 {
-    let mut text = String::new(alloc);
+    let mut text = String::with_capacity(alloc, characters.len())?;
     for c in characters {
         text.push(*c)?;
     }

@@ -1,12 +1,12 @@
 -- How the matches that are found come one after another.
-use Rattle.std.proofs.Common.{◌≡◌, ℕ, zero, suc, ◌<◌, ◌≤◌, ◌+◌, ◌-◌, Bool, true, false, nat_le, nat_lt, List, [], ◌∷◌, ◌++◌, Option, Some, None, if◌then◌else◌, refl, sym, ap, ◌∙◌, arith, inl, inr, subst}
+use Rattle.std.proofs.Common.{◌≡◌, ℕ, zero, suc, ◌<◌, ◌≤◌, ◌+◌, ◌-◌, Bool, true, false, ◌||◌, nat_le, nat_lt, List, [], ◌∷◌, ◌++◌, Option, Some, None, if◌then◌else◌, refl, sym, ap, ◌∙◌, arith, inl, inr, subst}
 use Rattle.std.specs.Prelude.{IfSome, option_to_list}
 use Rattle.std.specs.List.{AllByRecursion, Contains}
-use Rattle.std.proofs.lemmas.Bool.{cases_Bool, cases_lt, le-leb, lt-leb, lt-ltb, le-ltb, ltb-true, ltb-false, false≢true}
+use Rattle.std.proofs.lemmas.Bool.{cases_Bool, cases_lt, le-leb, lt-leb, lt-ltb, le-ltb, ltb-true, ltb-false, or_cases, false≢true, true≢false}
 use Rattle.std.proofs.lemmas.Option.{same_Some}
-use Rattle.icu_search.specs.LeastMatches.{Span, span, shortest_from, narrowed, least_from, apart_from, HoldsSpan, RisesTo}
+use Rattle.icu_search.specs.LeastMatches.{Span, span, HoldsNoOther, TellsLeastStop, shortest_from, narrowed, least_from, apart_from, HoldsSpan, RisesTo}
 use Rattle.icu_search.specs.LeastMatchLaws.{IsMatchWithin, IsLeastWithin}
-use Rattle.icu_search.specs.inner.HeldSpans.{TellsLeastSpan, joined_to_held, stops_before, last_to_try, from_behind, found_behind}
+use Rattle.icu_search.specs.inner.HeldSpans.{IsSure, PassedTo, TellsLeastSpan, joined_to_held, stops_before, last_to_try, from_behind, found_behind}
 use Rattle.icu_search.specs.Selections.{first_span, found_from}
 use Rattle.icu_search.proofs.SpanListLemmas.{not_in_nil, head_or_tail, member_of, each_member, the_member, InPairs}
 use Rattle.icu_search.proofs.LeastLemmas.{ShortestOf, ShortestOf-shortest_from, Leasts-least_from}
@@ -338,3 +338,84 @@ module _ (matches : ℕ → ℕ → Bool) (n : ℕ) where
       empty : (l : List Span) → None ≡ first_span l → l ≡ []
       empty [] e = refl
       empty (x ∷ l) e = cc
+
+  -- ---- starts that are passed over
+
+  stops_still : (held : Option Span) (k : ℕ) → stops_before held k ≡ true → stops_before held (k + 1) ≡ true
+  stops_still None k h = h
+  stops_still (Some m) k h = let before = ltb-true m.stop k h in lt-ltb m.stop (k + 1) (omega (arith, before))
+
+  passed_one : (held : Option Span) (k : ℕ) → TellsLeastStop matches k n None
+      → joined_to_held held (first_span (least_to matches n (k + 1))) ≡ joined_to_held held (first_span (least_to matches n k))
+  passed_one held k tells =
+      let later = first_span (least_to matches n (k + 1)) in
+      elim (cases_lt n k) [
+        | inl past ↦
+            ap (λ (l : List Span). joined_to_held held (first_span l))
+            (least_to-past (k + 1) (omega (arith, past)) ∙ sym (least_to-past k past))
+        | inr inside ↦ elim (cases_Bool (stops_before held k)) [
+          | inl stops ↦ held_stays held (k + 1) (stops_still held k stops) ∙ sym (held_stays held k stops)
+          | inr goes_on ↦
+              ap (λ (o : Option Span). joined_to_held o later) (sym (joined_to_held-none held))
+              ∙ told held k None (tries_there held k goes_on inside) (λ stop from to is. tells stop from (omega (arith, to, tried_to held)) is)
+        ]
+      ]
+
+  passed_by : (held : Option Span) (d start : ℕ) → PassedTo matches n start (start + d)
+      → joined_to_held held (first_span (least_to matches n (start + d))) ≡ joined_to_held held (first_span (least_to matches n start))
+  passed_by held zero start passed = let e : start + 0 ≡ start = omega arith in ap (λ k. joined_to_held held (first_span (least_to matches n k))) e
+  passed_by held (suc d) start passed =
+      let e : start + suc d ≡ (start + 1) + d = omega arith in
+      ap (λ k. joined_to_held held (first_span (least_to matches n k))) e
+      ∙ passed_by held d (start + 1) (λ k from before. passed k (omega (arith, from)) (omega (arith, before)))
+      ∙ passed_one held start (passed start (omega arith) (omega arith))
+
+  pub passed_over : (held : Option Span) (start next : ℕ) → start ≤ next → PassedTo matches n start next
+      → joined_to_held held (first_span (least_to matches n next)) ≡ joined_to_held held (first_span (least_to matches n start))
+  passed_over held start next behind passed =
+      let d = next - start in
+      let e : next ≡ start + d = omega (arith, behind) in
+      ap (λ k. joined_to_held held (first_span (least_to matches n k))) e
+      ∙ passed_by held d start (λ k from before. passed k from (omega (arith, before, behind)))
+
+  -- ---- a match that holds no other
+
+  none_within : (m : Span) (start : ℕ) (spans : List Span) → HoldsNoOther matches m → m.start < start → AllByRecursion (IsMatchWithin matches start n) spans
+      → joined_to_held (Some m) (first_span spans) ≡ Some m
+  none_within m start [] none behind all = refl
+  none_within m start (l ∷ later) none behind all =
+      elim (cases_lt m.stop l.stop) [
+        | inl longer ↦ rw (lt-leb l.stop m.stop longer) refl
+        | inr inner ↦
+            absurd (true≢false (sym all.0.is_match ∙ none l.start l.stop (omega (arith, behind, all.0.from_low)) all.0.ordered inner))
+      ]
+
+  -- it stays, whatever begins behind it
+  pub sure_stays : (held : Option Span) (start : ℕ) → IsSure matches start held → held ≡ joined_to_held held (first_span (least_to matches n (start + 1)))
+  sure_stays None start sure = absurd sure
+  sure_stays (Some m) start sure = sym (none_within m (start + 1) (least_to matches n (start + 1)) sure.1 (omega (arith, sure.0)) (within (start + 1)))
+
+  -- ---- where no start is left
+
+  over_cases : (held : Option Span) (here : ℕ) → (nat_lt n here || stops_before held here) ≡ true → joined_to_held held (first_span (least_to matches n here)) ≡ held
+  over_cases held here is =
+      elim (or_cases (nat_lt n here) (stops_before held here) is) [
+        | inl past ↦ ap (λ (l : List Span). joined_to_held held (first_span l)) (least_to-past here (ltb-true n here past)) ∙ joined_to_held-none held
+        | inr stops ↦ held_stays held here stops
+      ]
+
+  pub over : (held : Option Span) (start here : ℕ) → start ≤ here → PassedTo matches n start here → (nat_lt n here || stops_before held here) ≡ true
+      → held ≡ joined_to_held held (first_span (least_to matches n start))
+  over held start here behind passed is = sym (over_cases held here is) ∙ passed_over held start here behind passed
+
+  pub over_not : (held : Option Span) (here : ℕ) → (nat_lt n here || stops_before held here) ≡ false → here ≤ last_to_try held n
+  over_not held here is =
+      tries_there held here (or_right_false (nat_lt n here) (stops_before held here) is) (ltb-false n here (or_left_false (nat_lt n here) (stops_before held here) is))
+    where
+      or_left_false : (a b : Bool) → (a || b) ≡ false → a ≡ false
+      or_left_false true b h = absurd (true≢false h)
+      or_left_false false b h = refl
+
+      or_right_false : (a b : Bool) → (a || b) ≡ false → b ≡ false
+      or_right_false true b h = absurd (true≢false h)
+      or_right_false false b h = h

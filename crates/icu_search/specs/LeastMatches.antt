@@ -1,6 +1,6 @@
 -- Of the matches of a pattern in a text: the least ones, and of these the ones that are found, from left to right and
 -- apart (UTS #10, "Searching and Matching"). Which parts of the text match is given.
-use Rattle.std.specs.Prelude.{ℕ, zero, suc, ◌+◌, ◌-◌, ◌<◌, ◌≤◌, ◌≡◌, Bool, true, nat_le, List, [], ◌∷◌, Option, Some, None, if◌then◌else◌}
+use Rattle.std.specs.Prelude.{ℕ, zero, suc, ◌+◌, ◌-◌, ◌<◌, ◌≤◌, ◌≡◌, Bool, true, false, nat_le, List, [], ◌∷◌, Option, Some, None, if◌then◌else◌}
 
 -- a part of a text: where it begins, and where it ends, in characters
 pub record Span : Type 0 where
@@ -50,6 +50,10 @@ found_matches matches n = apart_from 0 (least_matches matches n)
 abbrev pub TellsLeastStop : (ℕ → ℕ → Bool) → ℕ → ℕ → Option ℕ → Type 0
 TellsLeastStop matches start last (Some stop) = (stop ≤ last) × (shortest_from matches start start (last - start) ≡ Some (span start stop))
 TellsLeastStop matches start last None = (stop : ℕ) → start ≤ stop → stop ≤ last → matches start stop ≡ true → (start < stop) × (matches (start + 1) stop ≡ true)
+
+-- no match begins behind the start of a part and ends within it
+abbrev pub HoldsNoOther : (ℕ → ℕ → Bool) → Span → Type 0
+HoldsNoOther matches m = (k stop : ℕ) → m.start < k → k ≤ stop → stop ≤ m.stop → matches k stop ≡ false
 
 -- ---- what they are
 

@@ -7,5 +7,6 @@ pub mod SearchLaws
 pub mod PieceLaws
 pub mod EquivalentTextLaws
 pub mod Selections
+pub mod KnownParts
 pub mod SpansLeft
 pub mod inner

@@ -1,10 +1,12 @@
 //! The matches that are found in a text, one after another.
 
-ghost use Rattle.std.specs.Prelude.{◌≡◌, ◌++◌, ◌<◌, ◌≤◌, [], option_to_list, IfOk, IfSome, OnErr};
+ghost use Rattle.std.specs.Prelude.{◌≡◌, ◌++◌, ◌||◌, ◌<◌, ◌≤◌, [], nat_lt, option_to_list, IfOk, IfSome, IsTrue, OnErr};
 ghost use Rattle.icu_search.specs.Selections.{first_span, found_from};
-ghost use Rattle.icu_search.specs.inner.HeldSpans.{TellsLeastSpan, from_behind, joined_to_held, last_to_try, stops_before};
+ghost use Rattle.icu_search.specs.KnownParts.{SaysBarren};
+ghost use Rattle.icu_search.specs.inner.HeldSpans.{IsSure, PassedTo, TellsLeastSpan, from_behind, joined_to_held, last_to_try, stops_before};
 ghost use Rattle.icu_search.specs.LeastMatches.{found_matches};
 
+use crate::barren_part::BarrenPart;
 use crate::char_span::CharSpan;
 use crate::match_ends::MatchEnds;
 use std::alloc::AllocError;
@@ -15,14 +17,37 @@ fn least_at<M: MatchEnds>(
     ends: &M,
     start: usize,
     last: usize,
+    barren: &mut BarrenPart,
 ) -> Result<Option<CharSpan>, AllocError>
     requires ordered { start ≤ last }
     requires within { last ≤ M.char_len ends.now }
-    ensures { IfOk result (λ m. TellsLeastSpan (M.matches ends.now) start last m) }
+    requires known { SaysBarren (M.is_barren ends.now) barren.old }
+    ensures tells { IfOk result (λ m. TellsLeastSpan (M.matches ends.now) start last m) }
+    ensures known { SaysBarren (M.is_barren ends.now) barren.new }
 {
-    match ends.least_stop(start, last)? {
+    match ends.least_stop(start, last, barren)? {
         Some(stop) => Ok(Some(CharSpan::new(start, stop))),
         None => Ok(None),
+    }
+}
+
+/// The first offset from another one on at which a least match may begin.
+#[inline(always)]
+fn passed_from<M: MatchEnds>(ends: &M, start: usize) -> usize
+    ensures behind { start ≤ result }
+    ensures passed { PassedTo (M.matches ends.now) (M.char_len ends.now) start result }
+{
+    let next = ends.next_start(start);
+    if start < next { next } else { start }
+}
+
+/// Whether the match that is held begins at an offset, and surely is least. False says nothing.
+fn is_sure<M: MatchEnds>(ends: &M, held: Option<CharSpan>, start: usize) -> bool
+    ensures { IsTrue result → IsSure (M.matches ends.now) start held }
+{
+    match held {
+        Some(m) => m.start() == start && ends.holds_no_other(m),
+        None => false,
     }
 }
 
@@ -63,8 +88,16 @@ fn stops_before(held: Option<CharSpan>, offset: usize) -> bool
     }
 }
 
+/// Whether no start is left to try from an offset on: the text ends before it, or the match that is held.
+fn is_over(held: Option<CharSpan>, offset: usize, count: usize) -> bool
+    ensures { result ≡ (nat_lt count offset || stops_before held offset) }
+{
+    count < offset || stops_before(held, offset)
+}
+
 /// The first least match that begins at an offset or after it. Along the starts from there on, the last one is held of
-/// those matches that end first, and no start behind its end is looked at. Fails only where an allocation does.
+/// those matches that end first, and no start behind its end is looked at. A match that holds no other is returned at
+/// once. Fails only where an allocation does.
 pub fn first_least<M: MatchEnds>(ends: &M, offset: usize) -> Result<Option<CharSpan>, AllocError>
     ensures least { IfOk result (λ m. m
         ≡ first_span (found_from (M.matches ends.now) (M.char_len ends.now) offset)) }
@@ -72,12 +105,19 @@ pub fn first_least<M: MatchEnds>(ends: &M, offset: usize) -> Result<Option<CharS
 {
     let count = ends.char_count();
     let mut held: Option<CharSpan> = None;
-    for start in offset..count + 1 {
-        if stops_before(held, start) {
+    let mut barren = BarrenPart::none();
+    let mut start = offset;
+    'starts: while start <= count {
+        let here = passed_from(ends, start);
+        if is_over(held, here, count) {
             return Ok(held);
         }
         let last = last_stop(held, count);
-        held = joined(held, least_at(ends, start, last)?);
+        held = joined(held, least_at(ends, here, last, &mut barren)?);
+        if is_sure(ends, held, here) {
+            return Ok(held);
+        }
+        start = here + 1;
     }
     Ok(held)
 }

@@ -5,11 +5,13 @@
 //! matches: `MatchEnds` tells where the matches of a text end, and `FoundSpans` gives those that are found.
 #![tactic(auto)]
 
+mod barren_part;
 mod char_span;
 mod found_spans;
 pub mod laws;
 mod match_ends;
 
+pub use barren_part::BarrenPart;
 pub use char_span::CharSpan;
 pub use found_spans::{FoundSpans, first_least};
 pub use match_ends::MatchEnds;

@@ -1,8 +1,9 @@
 -- Marks of ASCII characters, and what those tell with which a text begins.
-use Rattle.std.proofs.Common.{◌≡◌, ◌⊎◌, ℕ, Bool, true, false, nat_lt, List, [], ◌∷◌, ◌++◌, get_or, ◌<◌, ◌≤◌, length, set, replicate, refl, sym, ap, ◌∙◌, subst, arith, inl, inr}
-use Rattle.std.proofs.lemmas.Bool.{cases_eq, and_from, and_parts, and_right, false≢true}
+use Rattle.std.proofs.Common.{◌≡◌, ◌⊎◌, ℕ, Bool, true, false, nat_lt, List, [], ◌∷◌, ◌++◌, Option, Some, None, if◌then◌else◌, get_or, ◌<◌, ◌≤◌, length, set, replicate, refl, sym, ap, ◌∙◌, subst, arith, inl, inr}
+use Rattle.std.specs.Prelude.{IfSome}
+use Rattle.std.proofs.lemmas.Bool.{cases_eq, cases_lt, and_from, and_parts, and_right, false≢true}
 use Rattle.std.proofs.lemmas.Grind.{common_steps}
-use Rattle.std.proofs.lemmas.List.{get_or-set_other}
+use Rattle.std.proofs.lemmas.List.{append-nil, get_or-set_other, get_or-set_same, get_or_past, length-set}
 use Rattle.ucd_normal.specs.declared.forms.Form.TheVariants.{Nfd}
 use Rattle.unicode_normalization.specs.Decompose.{decompose}
 use Rattle.unicode_normalization.specs.Forms.{nfd}
@@ -11,10 +12,11 @@ use Rattle.icu_boundaries.proofs.CutLemmas.{boundary_cut}
 use Rattle.icu_entries.specs.Elements.{Element}
 use Rattle.icu_elements.specs.TextElements.{Reading, elements_of}
 use Rattle.icu_weighting.specs.Collations.{Collation}
-use Rattle.icu_text_order.specs.TextOrder.{reading_by}
+use Rattle.icu_text_order.specs.TextOrder.{reading_by, lists_by}
 use Rattle.icu_search.specs.PieceLaws.{BeginsPieces}
 use Rattle.icu_search.specs.SearchPlaces.{leads}
-use Rattle.icu_text_search.specs.inner.AsciiMarks.{has_mark, AllMarked, BeginsWithOther, LeadsPieces, OpensOtherwise}
+use Rattle.icu_text_search.specs.inner.AsciiMarks.{has_mark, counted_char, opens_with_primary, AllMarked, BeginsCut, BeginsWithOther, CountChars, GivesNothing, LeadsPieces, LeadsWithPrimary, OpensOtherwise, OpensSilently}
+use Rattle.icu_text_search.specs.inner.SilentStarts.{begins_with_primary}
 use Rattle.icu_text_search.specs.inner.FirstWeights.{BeginsOtherwise}
 use Rattle.icu_text_search.proofs.FirstWeightLemmas.{first_read, reads_other}
 
@@ -79,3 +81,78 @@ pub first_two : (l : List ℕ) (x y d e : ℕ) → 2 ≤ length l → x ≡ get_
 first_two [] x y d e long first second = absurd (omega (arith, long))
 first_two (a ∷ []) x y d e long first second = absurd (omega (arith, long))
 first_two (a ∷ b ∷ t) x y d e long first second = (t, ap (λ (k : ℕ). k ∷ b ∷ t) (sym first) ∙ ap (λ (k : ℕ). x ∷ k ∷ t) (sym second))
+
+-- ---- characters that give nothing
+
+opens_still : (es more : List Element) → opens_with_primary es ≡ true → begins_with_primary (es ++ more) ≡ true
+opens_still [] more h = absurd (false≢true h)
+opens_still (x ∷ xs) more h = h
+
+leads_on : (c : Collation) (y : ℕ) (tail : List ℕ) → LeadsWithPrimary c y → BeginsCut (reading_by c) tail → begins_with_primary (elements_of (reading_by c) (nfd (y ∷ tail))) ≡ true
+leads_on c y [] l cut =
+    let own : List Element = elements_of (reading_by c) (nfd (y ∷ [])) in
+    ap begins_with_primary (sym (append-nil own)) ∙ opens_still own [] l
+leads_on c y (z ∷ zs) l cut =
+    let reading = reading_by c in
+    let own : List Element = elements_of reading (nfd (y ∷ [])) in
+    let more : List Element = elements_of reading (nfd (z ∷ zs)) in
+    let all : elements_of reading (nfd (y ∷ z ∷ zs)) ≡ own ++ more = boundary_cut reading z cut.first cut.more zs cut.decomposes cut.boundary [] (y ∷ []) in
+    ap begins_with_primary all ∙ opens_still own more l
+
+pub opens_silently : (c : Collation) (text : List ℕ) (x y : ℕ) (tail : List ℕ) → text ≡ x ∷ y ∷ tail → GivesNothing c x → LeadsWithPrimary c y → BeginsPieces (reading_by c) y → BeginsCut (reading_by c) tail
+    → OpensSilently c text
+opens_silently c text x y tail is nothing leading cut next = record {
+  char = x;
+  next = y;
+  tail = tail;
+  text_is = is;
+  silent = record { pieces = cut; silent = nothing.silent; either = inr (leads_on c y tail leading next) };
+  ends = nothing.ends;
+}
+
+-- ---- how many weights each has
+
+none_some : (n : ℕ) → None ≡ Some n → ⊥
+none_some n e = cc
+
+abbrev unknown : Option ℕ
+unknown = None
+
+uncounted : (n l : ℕ) → get_or (replicate n unknown) l unknown ≡ unknown
+uncounted n l = grind (arith, common_steps)
+
+count_there : (b : Bool) (p : Option ℕ) (n : ℕ) → (if b then p else None) ≡ Some n → p ≡ Some n
+count_there true p n is = is
+count_there false p n is = absurd (none_some n is)
+
+pub no_counts : (c : Collation) → CountChars c (replicate 128 None)
+no_counts c = λ x n is.
+    absurd (none_some n (sym (uncounted 128 x) ∙ count_there (nat_lt x 0x80) (get_or (replicate 128 unknown) x unknown) n is))
+
+pub one_more_count : (c : Collation) (old : List (Option ℕ)) (k : ℕ) (o : Option ℕ) → CountChars c old → IfSome o (λ n. n ≡ length (lists_by c (nfd (k ∷ []))).primaries) → CountChars c (set old k o)
+one_more_count c old k o all this = λ x n is.
+    elim (cases_eq x k) as (λ _. n ≡ length (lists_by c (nfd (x ∷ []))).primaries) [
+      | inl same ↦
+          let there : get_or (set old k o) k None ≡ Some n = ap (λ i. get_or (set old k o) i None) (sym same) ∙ count_there (nat_lt x 0x80) (get_or (set old k o) x None) n is in
+          let it : o ≡ Some n = stored n there in
+          let count : n ≡ length (lists_by c (nfd (k ∷ []))).primaries = subst (λ (o : Option ℕ). IfSome o (λ n. n ≡ length (lists_by c (nfd (k ∷ []))).primaries)) it this in
+          count ∙ ap (λ (y : ℕ). length (lists_by c (nfd (y ∷ []))).primaries) (sym same)
+      | inr other ↦ all x n (ap (λ (o : Option ℕ). if nat_lt x 0x80 then o else None) (sym (get_or-set_other old k x o None other)) ∙ is)
+    ]
+  where
+    stored : (n : ℕ) → get_or (set old k o) k None ≡ Some n → o ≡ Some n
+    stored n there =
+        elim (cases_lt k (length old)) as (λ _. o ≡ Some n) [
+          | inl inside ↦ sym (get_or-set_same old k o None inside) ∙ there
+          | inr past ↦ absurd (none_some n (sym (get_or_past (set old k o) k None (omega (arith, past, length-set old k o))) ∙ there))
+        ]
+
+pub counted_if : (c : Collation) (counts : List (Option ℕ)) (x : ℕ) (o : Option ℕ) → CountChars c counts → o ≡ counted_char counts x → IfSome o (λ n. n ≡ length (lists_by c (nfd (x ∷ []))).primaries)
+counted_if c counts x None all is = tt
+counted_if c counts x (Some n) all is = all x n (sym is)
+
+-- ---- texts that begin with a cut
+
+pub cut_first : (reading : Reading) (l : List ℕ) (x d : ℕ) → 1 ≤ length l → x ≡ get_or l 0 d → BeginsPieces reading x → BeginsCut reading l
+cut_first reading [] x d some is cut = absurd (omega (arith, some))
+cut_first reading (y ∷ ys) x d some is cut = subst (BeginsPieces reading) is cut

@@ -10,3 +10,5 @@ pub mod SilentElementLemmas
 pub mod SilentStartLemmas
 pub mod AsciiMarkLemmas
 pub mod CountedWalks
+pub mod BarrenLemmas
+pub mod SureMatchLemmas

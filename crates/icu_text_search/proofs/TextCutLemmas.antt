@@ -28,7 +28,7 @@ pub last_place : (reading : Reading) (text : List ℕ) (k : ℕ) → k ≡ lengt
 last_place reading text k e = or_left (k == 0 || k == length text) (is_place_before reading text (drop k text)) (or_right (k == 0) (k == length text) (eq-eqb k (length text) e))
 
 -- from a cut on, the places of the text are those of the piece
-places_from : (reading : Reading) (text : List ℕ) (cut i : ℕ) → BeginsPieceAt reading text cut → is_place reading text (cut + i) ≡ is_place reading (drop cut text) i
+pub places_from : (reading : Reading) (text : List ℕ) (cut i : ℕ) → BeginsPieceAt reading text cut → is_place reading text (cut + i) ≡ is_place reading (drop cut text) i
 places_from reading text cut i (inl none) =
     let at : cut + i ≡ i = omega (arith, none) in
     ap (is_place reading text) at ∙ ap (λ n. is_place reading (drop n text) i) (sym none)
@@ -113,7 +113,7 @@ take_none : (k : ℕ) → take {A = ℕ} k [] ≡ []
 take_none zero = refl
 take_none (suc k) = refl
 
-taken_twice : (i n : ℕ) (l : List ℕ) → i ≤ n → take i l ≡ take i (take n l)
+pub taken_twice : (i n : ℕ) (l : List ℕ) → i ≤ n → take i l ≡ take i (take n l)
 taken_twice i n [] fits = ap (take i) (sym (take_none n))
 taken_twice zero n (x ∷ l) fits = refl
 taken_twice (suc i) zero (x ∷ l) fits = absurd (omega (arith, fits))
@@ -136,7 +136,7 @@ module _ (s : Search) (text : List ℕ) (start last : ℕ) (part : List ℕ) (p 
             unlike (take i part) [] (ap (λ (l : List ℕ). (lists_by s.collation (nfd l)).primaries) (sym all) ∙ sym (append-nil (lists_by s.collation (nfd (take i part))).primaries))
       ]
 
-  none_matches : (t : ℕ) → start < t → t ≤ last → is_match s text start t ≡ false
+  pub none_matches : (t : ℕ) → start < t → t ≤ last → is_match s text start t ≡ false
   none_matches t after to =
       let i = t - start in
       let ordered : start ≤ p.stop = omega (arith, after, to, p.reaches) in

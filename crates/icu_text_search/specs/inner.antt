@@ -7,3 +7,4 @@ pub mod SilentStarts
 pub mod SilentTexts
 pub mod AsciiMarks
 pub mod CountedChars
+pub mod BarrenParts

@@ -1,8 +1,8 @@
 //! The first end of a match, by how many primary weights the characters have that follow its start.
 
-ghost use Rattle.std.specs.Prelude.{◌≡◌, ◌-◌, ◌<◌, ◌≤◌, false, true, length, slice_range, IfOk, IfSome};
+ghost use Rattle.std.specs.Prelude.{◌≡◌, ◌-◌, ◌<◌, ◌≤◌, false, true, length, slice_range, IfOk, IfSome, IsTrue};
 ghost use Rattle.std.specs.Option.{option_map};
-ghost use Rattle.icu_search.specs.LeastMatches.{shortest_from, span};
+ghost use Rattle.icu_search.specs.LeastMatches.{HoldsNoOther, shortest_from, span};
 ghost use Rattle.icu_search.specs.SearchPlaces.{is_place};
 ghost use Rattle.icu_text_order.specs.TextOrder.{lists_by, reading_by};
 ghost use Rattle.unicode_normalization.specs.Forms.{nfd};
@@ -17,7 +17,8 @@ impl<'s, 'c> SearchedText<'s, 'c> {
 
     /// How many primary weights a character has by itself, if the text ends behind it or may be cut there. `None` says
     /// nothing.
-    fn count_alone(&self, at: usize) -> Option<usize>
+    #[inline(always)]
+    pub(crate) fn count_alone(&self, at: usize) -> Option<usize>
         requires { at < char_len_in self.now }
         ensures { IfSome result
             (CountsAlone (searched_in self.now).collation (text_searched self.now) at) }
@@ -26,7 +27,7 @@ impl<'s, 'c> SearchedText<'s, 'c> {
         if !self.ends_piece(at + 1) {
             return None;
         }
-        self.searcher.count_of(&text[at..at + 1])
+        self.searcher.count_of(text[at])
     }
 
     /// Whether a part that has so many primary weights is a match, where a match begins at its start and a place is at
@@ -77,5 +78,29 @@ impl<'s, 'c> SearchedText<'s, 'c> {
             met = total;
         }
         Ok(Some(None))
+    }
+
+    /// Whether no match begins behind the start of a part and ends within it, as there are fewer primary weights than
+    /// in the pattern. False says nothing.
+    pub(crate) fn holds_none(&self, start: usize, stop: usize) -> bool
+        ensures { IsTrue result → HoldsNoOther (matches_in self.now) (span start stop) }
+    {
+        if start >= stop {
+            return false;
+        }
+        if stop > self.text.char_count() {
+            return false;
+        }
+        let mut met: usize = 0;
+        for at in start + 1..stop {
+            let Some(more) = self.count_alone(at) else {
+                return false;
+            };
+            let Some(total) = met.checked_add(more) else {
+                return false;
+            };
+            met = total;
+        }
+        met < self.searcher.count_of_pattern()
     }
 }

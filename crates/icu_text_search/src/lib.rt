@@ -8,6 +8,7 @@
 mod allowed_offsets;
 mod apart_leads;
 mod ascii_marks;
+mod barren_parts;
 mod boundary;
 mod counted_walk;
 mod encoded_searches;
@@ -18,6 +19,7 @@ mod overlapping_matches;
 mod part_match;
 mod part_outcome;
 mod part_walk;
+mod passed_starts;
 mod pattern_weights;
 mod search_calls;
 mod searched_text;

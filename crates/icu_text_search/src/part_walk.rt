@@ -102,6 +102,27 @@ impl<'s, 'c> SearchedText<'s, 'c> {
         self.walk(start, places)
     }
 
+    /// Where the first match behind an offset ends that begins there, where the empty part doesn't match: a walk,
+    /// unless the first weights there tell that there is none. A place is there.
+    fn looked_stop(&self, start: usize) -> Result<Option<usize>, AllocError>
+        requires within { start ≤ char_len_in self.now }
+        requires some { equals_pattern (searched_in self.now) [] ≡ false }
+        ensures { let s = searched_in self.now in
+            is_place (reading_by s.collation) (text_searched self.now) start ≡ true
+            → s.allowed start ≡ true → matches_in self.now start start ≡ false
+            → IfOk result (λ stop. option_map (span start) stop
+            ≡ shortest_from (matches_in self.now) start start (char_len_in self.now - start)) }
+    {
+        let rest = &self.text.characters()[start..];
+        if self
+            .searcher
+            .begins_otherwise(rest, self.searcher.looks_at())
+        {
+            return Ok(None);
+        }
+        self.walk_along(start, rest)
+    }
+
     /// Where the match ends that begins at an offset and ends first, or `None` where no match begins there.
     pub(crate) fn shortest_stop(&self, start: usize) -> Result<Option<usize>, AllocError>
         requires { start ≤ char_len_in self.now }
@@ -121,7 +142,7 @@ impl<'s, 'c> SearchedText<'s, 'c> {
         let told = self.counted_stop(start)?;
         match told {
             Some(stop) => Ok(stop),
-            None => self.walk_along(start, &self.text.characters()[start..]),
+            None => self.looked_stop(start),
         }
     }
 }

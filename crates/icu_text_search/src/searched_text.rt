@@ -18,7 +18,7 @@ use crate::overlapping_matches::OverlappingMatches;
 use crate::part_match::Match;
 use crate::searcher::Searcher;
 use icu_indexed_text::{IndexedText, offset_marks};
-use icu_search::{CharSpan, MatchEnds, first_least};
+use icu_search::{BarrenPart, CharSpan, MatchEnds, first_least};
 use icu_searcher::place_marks;
 use std::alloc::AllocError;
 
@@ -221,17 +221,33 @@ impl<'s, 'c> SearchedText<'s, 'c> {
 }
 
 impl<'s, 'c> MatchEnds for SearchedText<'s, 'c> {
+    ghost use Rattle.icu_text_search.specs.inner.BarrenParts.{is_barren_in};
     ghost use Rattle.icu_text_search.specs.SearchedTexts.{char_len_in, matches_in};
 
     ghost matches = { matches_in };
 
     ghost char_len = { char_len_in };
 
+    ghost is_barren = { is_barren_in };
+
     fn char_count(&self) -> usize {
         self.text.char_count()
     }
 
-    fn least_stop(&self, start: usize, last: usize) -> Result<Option<usize>, AllocError> {
-        self.least_stop_to(start, last)
+    fn next_start(&self, start: usize) -> usize {
+        self.passed_to(start)
+    }
+
+    fn holds_no_other(&self, part: CharSpan) -> bool {
+        self.holds_none(part.start(), part.stop())
+    }
+
+    fn least_stop(
+        &self,
+        start: usize,
+        last: usize,
+        barren: &mut BarrenPart,
+    ) -> Result<Option<usize>, AllocError> {
+        self.least_stop_to(start, last, barren)
     }
 }

@@ -1,6 +1,6 @@
 //! Patterns that are searched for.
 
-ghost use Rattle.std.specs.Prelude.{◌≡◌, ◌<◌, ◌≤◌, ◌++◌, ℕ, List, [], true, false, chars, length, string_bytes, IfOk, IfSome, IsTrue};
+ghost use Rattle.std.specs.Prelude.{◌≡◌, ◌<◌, ◌≤◌, ◌∷◌, ◌++◌, ℕ, List, [], true, false, chars, length, string_bytes, IfOk, IfSome, IsTrue};
 ghost use Rattle.std.specs.Option.{ForSome};
 ghost use Rattle.std.specs.Ordering.{is_eq};
 ghost use Rattle.icu_encodings.specs.DecodedTexts.{latin1_text, utf16_text, utf8_text};
@@ -14,12 +14,15 @@ ghost use Rattle.unicode_normalization.specs.Forms.{nfd};
 ghost use Rattle.icu_search.specs.PieceLaws.{BeginsPieces};
 ghost use Rattle.icu_text_search.specs.inner.SilentStarts.{EndsAtTertiaries};
 ghost use Rattle.icu_text_search.specs.inner.SilentTexts.{StartsSilently};
-ghost use Rattle.icu_text_search.specs.inner.AsciiMarks.{MarkCuts, MarkOthers};
+ghost use Rattle.icu_text_search.specs.inner.AsciiMarks.{BeginsCut, CountChars, GivesNothing, LeadsWithPrimary, MarkCuts, MarkLeading, MarkOthers, MarkSilent, OpensSilently};
 ghost use Rattle.icu_text_search.specs.inner.FirstWeights.{AreApart, BeginsOtherwise, BeginsWith};
 ghost use Rattle.icu_text_search.specs.inner.PartOutcomes.{equals_pattern};
 
 use crate::apart_leads::apart_leads;
-use crate::ascii_marks::{begins_pieces, cut_marks, has_mark, other_marks};
+use crate::ascii_marks::{
+    begins_pieces, char_counts, count_of_char, cut_marks, has_mark, leading_marks, other_marks,
+    silent_marks,
+};
 use crate::first_weights::{KnownVariables, rules_out};
 use crate::pattern_weights::{
     counted, first_primaries, first_sure, known_count, reading_of_collator, weight_count,
@@ -51,8 +54,17 @@ pub struct Searcher<'c> {
     cuts: [bool; 128],
     /// Marks of ASCII characters that begin with another primary weight, each by itself.
     others: [bool; 128],
+    /// Marks of those that give nothing below the quaternary level before a primary weight.
+    silent: [bool; 128],
+    /// Marks of those whose elements, each by itself, begin with a primary weight.
+    leading: [bool; 128],
+    /// How many primary weights each has by itself, if that is known.
+    counts: [Option<usize>; 128],
     ghost cuts_are: { MarkCuts (reading_by (collation_borrowed collator)) cuts },
     ghost others_are: { MarkOthers (collation_borrowed collator) first.items others },
+    ghost silent_are: { MarkSilent (collation_borrowed collator) silent },
+    ghost leading_are: { MarkLeading (collation_borrowed collator) leading },
+    ghost counts_are: { CountChars (collation_borrowed collator) counts },
     ghost apart_is: { AreApart (collation_borrowed collator) apart },
     ghost first_is: { BeginsWith first.items (lists_by (collation_borrowed collator)
         (nfd (chars (string_bytes pattern)))).primaries },
@@ -157,6 +169,9 @@ impl<'c> Searcher<'c> {
         let apart = apart_leads(alloc, &borrowed, known, first.as_slice())?;
         let cuts = cut_marks(&borrowed);
         let others = other_marks(&borrowed, known, first.as_slice(), &apart);
+        let silent = silent_marks(&borrowed);
+        let leading = leading_marks(&borrowed);
+        let counts = char_counts(&borrowed);
         Ok(Searcher {
             alloc,
             collator: borrowed,
@@ -168,6 +183,9 @@ impl<'c> Searcher<'c> {
             apart,
             cuts,
             others,
+            silent,
+            leading,
+            counts,
         })
     }
 
@@ -217,6 +235,64 @@ impl<'c> Searcher<'c> {
             }
             _ => false,
         }
+    }
+
+    /// Whether no part with which a text begins is equal to the pattern, up to a place, as its first two characters
+    /// tell. False says nothing.
+    #[inline(always)]
+    pub(crate) fn opens_otherwise(&self, text: &[char]) -> bool
+        ensures { let s = search_of self.now in let c = s.collation in IsTrue result
+            → (part rest : List ℕ) → (lists_by c (nfd text.now)).primaries
+            ≡ (lists_by c (nfd part)).primaries ++ rest → equals_pattern s part ≡ false }
+    {
+        self.begins_with_other(text)
+    }
+
+    /// Whether a text begins with a character that gives nothing below the quaternary level, before a primary weight,
+    /// as its first three characters tell. False says nothing.
+    #[inline(always)]
+    pub(crate) fn opens_silently(&self, text: &[char]) -> bool
+        ensures { IsTrue result → OpensSilently (search_of self.now).collation text.now }
+    {
+        match text {
+            [first, next, others @ ..] => {
+                self.gives_nothing_before(*first, *next) && self.begins_cut(others)
+            }
+            _ => false,
+        }
+    }
+
+    /// Whether a character gives nothing below the quaternary level before another one, which begins with a primary
+    /// weight where the text is cut behind it. False says nothing.
+    #[inline(always)]
+    fn gives_nothing_before(&self, first: char, next: char) -> bool
+        ensures { let c = (search_of self.now).collation in IsTrue result
+            → GivesNothing c first × LeadsWithPrimary c next × BeginsPieces (reading_by c) next }
+    {
+        if !has_mark(&self.silent, first) {
+            return false;
+        }
+        if !has_mark(&self.leading, next) {
+            return false;
+        }
+        has_mark(&self.cuts, next)
+    }
+
+    /// Whether a text is empty, or begins with a character before which texts may be cut. False says nothing.
+    #[inline(always)]
+    fn begins_cut(&self, text: &[char]) -> bool
+        ensures { let c = (search_of self.now).collation in IsTrue result
+            → BeginsCut (reading_by c) text.now }
+    {
+        match text {
+            [first, ..] => has_mark(&self.cuts, *first),
+            [] => true,
+        }
+    }
+
+    /// Whether a match that begins with a character may hold one that begins at the next.
+    pub(crate) fn may_be_silent(&self, c: char) -> bool {
+        (c as u32) >= 0x80 || has_mark(&self.silent, c)
     }
 
     /// Whether no part with which a text begins is equal to the pattern, up to a place: the primary weights of so many
@@ -270,12 +346,17 @@ impl<'c> Searcher<'c> {
         ends_at_tertiaries(&self.collator) && starts_silently(&self.collator, first, rest)
     }
 
-    /// How many primary weights a text has, if facts tell. `None` says nothing.
-    pub(crate) fn count_of(&self, text: &[char]) -> Option<usize>
-        ensures { let c = (search_of self.now).collation in
-            IfSome result (λ n. n ≡ length (lists_by c (nfd text.now)).primaries) }
+    /// How many primary weights a character has by itself, if facts tell. `None` says nothing.
+    #[inline(always)]
+    pub(crate) fn count_of(&self, c: char) -> Option<usize>
+        ensures { let collation = (search_of self.now).collation in
+            IfSome result (λ n. n ≡ length (lists_by collation (nfd (c ∷ []))).primaries) }
     {
-        known_count(&self.collator, text)
+        if (c as u32) < 0x80 {
+            count_of_char(&self.counts, c)
+        } else {
+            known_count(&self.collator, &[c])
+        }
     }
 
     /// How many the pattern has.

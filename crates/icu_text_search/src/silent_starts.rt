@@ -6,7 +6,7 @@ ghost use Rattle.icu_elements.specs.TextElements.{elements_of};
 ghost use Rattle.icu_text_search.specs.inner.SilentStarts.{EndsAtTertiaries, is_weightless};
 ghost use Rattle.icu_text_order.specs.Forms.{form_by, last_variable_by};
 ghost use Rattle.icu_text_order.specs.TextOrder.{reading_by};
-ghost use Rattle.icu_text_search.specs.inner.SilentTexts.{HasFirstElement, StartsSilently};
+ghost use Rattle.icu_text_search.specs.inner.SilentTexts.{HasFirstElement, IsSilentAlone, StartsSilently};
 ghost use Rattle.icu_weighting.specs.Handled.{is_variable};
 ghost use Rattle.unicode_normalization.specs.Forms.{nfd};
 
@@ -67,6 +67,18 @@ fn is_variable(element: CollationElement, last: u32) -> bool
     ensures { result ≡ is_variable last element }
 {
     element.primary() > MERGE_SEPARATOR_PRIMARY && element.primary() <= last
+}
+
+/// Whether a character by itself gives nothing below the quaternary level before a primary weight. False says nothing.
+pub(crate) fn is_silent_alone(collator: &CollatorBorrowed<'_>, c: char) -> bool
+    ensures { IsTrue result → IsSilentAlone (collation_borrowed collator.now) c }
+{
+    match only_element(collator, &[c]) {
+        Some(element) => {
+            is_weightless(element) || is_variable(element, collator.last_variable())
+        }
+        None => false,
+    }
 }
 
 /// Whether a text gives nothing below the quaternary level before another one. False says nothing.

@@ -1,6 +1,6 @@
 -- The match that is held while the least one is looked for.
-use Rattle.std.specs.Prelude.{ℕ, ◌≡◌, ◌+◌, Bool, false, nat_le, nat_lt, List, Option, Some, None, if◌then◌else◌}
-use Rattle.icu_search.specs.LeastMatches.{Span, TellsLeastStop}
+use Rattle.std.specs.Prelude.{ℕ, ◌≡◌, ◌+◌, ◌<◌, ◌≤◌, Bool, false, nat_le, nat_lt, List, Option, Some, None, if◌then◌else◌}
+use Rattle.icu_search.specs.LeastMatches.{Span, HoldsNoOther, TellsLeastStop}
 use Rattle.icu_search.specs.Selections.{found_from}
 
 -- of two matches, the second of which begins later, the one that is least: the later one, unless it ends later
@@ -33,3 +33,12 @@ from_behind m = if nat_lt m.start m.stop then m.stop else m.start + 1
 abbrev pub found_behind : (ℕ → ℕ → Bool) → ℕ → ℕ → Option Span → List Span
 found_behind matches n offset None = found_from matches n offset
 found_behind matches n offset (Some m) = found_from matches n (from_behind m)
+
+-- a match is held that begins at an offset, and holds no other that begins behind that
+abbrev pub IsSure : (ℕ → ℕ → Bool) → ℕ → Option Span → Type 0
+IsSure matches start None = ⊥
+IsSure matches start (Some m) = (m.start ≡ start) × HoldsNoOther matches m
+
+-- no least match begins at an offset, or at one from there on that is below another
+abbrev pub PassedTo : (ℕ → ℕ → Bool) → ℕ → ℕ → ℕ → Type 0
+PassedTo matches n start next = (k : ℕ) → start ≤ k → k < next → TellsLeastStop matches k n None

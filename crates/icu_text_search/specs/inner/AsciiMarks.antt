@@ -1,5 +1,5 @@
 -- What is marked of ASCII characters.
-use Rattle.std.specs.Prelude.{◌≡◌, ℕ, ◌<◌, Bool, true, false, ◌&&◌, nat_lt, slice_index_or, List, [], ◌∷◌, length}
+use Rattle.std.specs.Prelude.{◌≡◌, ℕ, ◌<◌, Bool, true, false, ◌&&◌, ◌==◌, nat_lt, slice_index_or, List, [], ◌∷◌, length, Option, Some, None, not, ⊤, if◌then◌else◌}
 use Rattle.ucd_normal.specs.declared.forms.Form.TheVariants.{Nfd}
 use Rattle.unicode_normalization.specs.Decompose.{decompose}
 use Rattle.unicode_normalization.specs.Forms.{nfd}
@@ -8,11 +8,13 @@ use Rattle.icu_entries.specs.Elements.{Element}
 use Rattle.icu_elements.specs.TextElements.{Reading, elements_of}
 use Rattle.icu_provider.specs.CollatorTables.{reorder}
 use Rattle.icu_weighting.specs.Collations.{Collation}
-use Rattle.icu_weighting.specs.Forms.{last_variable_by}
-use Rattle.icu_text_order.specs.TextOrder.{reading_by}
+use Rattle.icu_weighting.specs.Forms.{form_by, last_variable_by}
+use Rattle.icu_text_order.specs.TextOrder.{reading_by, lists_by}
 use Rattle.icu_search.specs.PieceLaws.{BeginsPieces}
 use Rattle.icu_search.specs.SearchPlaces.{leads}
 use Rattle.icu_text_search.specs.inner.FirstWeights.{BeginsOtherwise, counts}
+use Rattle.icu_text_search.specs.inner.SilentStarts.{EndsAtTertiaries, IsSilentBefore}
+use Rattle.icu_text_search.specs.inner.SilentTexts.{IsSilentAlone}
 
 -- an ASCII character has a mark
 abbrev pub has_mark : List Bool → ℕ → Bool
@@ -49,3 +51,48 @@ MarkCuts reading = AllMarked (LeadsPieces reading)
 -- texts that begin with one that has a mark begin with another weight than these do
 abbrev pub MarkOthers : Collation → List ℕ → List Bool → Type 0
 MarkOthers c front = AllMarked (OpensOtherwise c front)
+
+-- elements begin with a primary weight: there is a first one
+abbrev pub opens_with_primary : List Element → Bool
+opens_with_primary [] = false
+opens_with_primary (x ∷ xs) = not (x.primary == 0)
+
+-- those of a character by itself do
+abbrev pub LeadsWithPrimary : Collation → ℕ → Type 0
+LeadsWithPrimary c x = opens_with_primary (elements_of (reading_by c) (nfd (x ∷ []))) ≡ true
+
+-- a character is silent, and no level counts from the quaternary one on
+pub record GivesNothing (c : Collation) (x : ℕ) : Type 0 where
+  pub ends : EndsAtTertiaries (form_by c)
+  pub silent : IsSilentAlone c x
+
+-- each that has a mark is silent before a primary weight
+abbrev pub MarkSilent : Collation → List Bool → Type 0
+MarkSilent c = AllMarked (GivesNothing c)
+
+-- the elements of each that has a mark begin with one
+abbrev pub MarkLeading : Collation → List Bool → Type 0
+MarkLeading c = AllMarked (LeadsWithPrimary c)
+
+-- how many primary weights an ASCII character has by itself, if that is known
+abbrev pub counted_char : List (Option ℕ) → ℕ → Option ℕ
+counted_char counts x = if nat_lt x 0x80 then slice_index_or counts x None else None
+
+-- so many it has
+abbrev pub CountChars : Collation → List (Option ℕ) → Type 0
+CountChars c counts =
+    (x n : ℕ) → counted_char counts x ≡ Some n → n ≡ length (lists_by c (nfd (x ∷ []))).primaries
+
+-- a text begins with a character that is silent before what follows
+pub record OpensSilently (c : Collation) (text : List ℕ) : Type 0 where
+  pub char : ℕ
+  pub next : ℕ
+  pub tail : List ℕ
+  pub text_is : text ≡ char ∷ next ∷ tail
+  pub silent : IsSilentBefore c char next tail
+  pub ends : EndsAtTertiaries (form_by c)
+
+-- a text has no characters, or begins with one before which texts may be cut
+abbrev pub BeginsCut : Reading → List ℕ → Type 0
+BeginsCut reading [] = ⊤
+BeginsCut reading (x ∷ xs) = BeginsPieces reading x

@@ -1,5 +1,5 @@
 -- Texts that give nothing below the quaternary level before another one.
-use Rattle.std.specs.Prelude.{◌≡◌, ◌⊎◌, true, List, ℕ, ◌∷◌}
+use Rattle.std.specs.Prelude.{◌≡◌, ◌⊎◌, true, List, ℕ, [], ◌∷◌}
 use Rattle.std.specs.List.{list_all}
 use Rattle.unicode_normalization.specs.Forms.{nfd}
 use Rattle.icu_entries.specs.Elements.{Element}
@@ -19,3 +19,7 @@ pub record StartsSilently (c : Collation) (first rest : List ℕ) : Type 0 where
   pub silent : list_all (is_silent (last_variable_by c)) (elements_of (reading_by c) (nfd first)) ≡ true
   pub either : (list_all is_weightless (elements_of (reading_by c) (nfd first)) ≡ true)
       ⊎ (begins_with_primary (elements_of (reading_by c) (nfd rest)) ≡ true)
+
+-- a character by itself is silent before a primary weight
+abbrev pub IsSilentAlone : Collation → ℕ → Type 0
+IsSilentAlone c x = list_all (is_silent (last_variable_by c)) (elements_of (reading_by c) (nfd (x ∷ []))) ≡ true

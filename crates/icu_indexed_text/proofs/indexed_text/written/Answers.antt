@@ -6,7 +6,7 @@ use Rattle.icu_indexed_text.proofs.CopyLemmas.{one_char_more}
 use Rattle.icu_indexed_text.proofs.indexed_text.written.Goals as goal
 
 pub loop-c-init : goal.loop-c-init
-loop-c-init c = ap chars c.new-text.ensures.bytes ∙ chars-nil
+loop-c-init c = ap chars c.in_ok-text.ensures.bytes ∙ chars-nil
 
 pub loop-c-preserved : goal.loop-c-preserved
 loop-c-preserved c =

@@ -16,7 +16,7 @@ characters-init g c = record {
 pub overflow_add-offset : goal.overflow_add-offset
 overflow_add-offset g c =
     let size = ap sum c.in-Some.ensures.sizes ∙ sum_by-cons (λ n. n) c.in-Some.first.1 (g.T.SizedText.sizes c.in-Some.first.2) in
-    omega (arith, size, c.characters.invariant.offset, c.takes_all_units.ensures.all, c.unit_count-count.ensures.count)
+    omega (arith, size, c.characters.invariant.offset, c.takes_all_units.ensures.all, c.unit_count-room.ensures.count)
 
 pub characters-preserved : goal.characters-preserved
 characters-preserved g c =

@@ -1,5 +1,6 @@
-use Rattle.std.proofs.Common.{◌+◌, List, ℕ, length, ap, ◌∙◌}
+use Rattle.std.proofs.Common.{◌≡◌, ◌+◌, ◌-◌, List, ℕ, [], ◌∷◌, take, drop, length, get_or, sym, ap, ◌∙◌, arith}
 use Rattle.std.specs.Prelude.{slice_range}
+use Rattle.std.proofs.lemmas.List.{drop_more}
 use Rattle.unicode_normalization.specs.Forms.{nfd}
 use Rattle.icu_collation_data.proofs.ViolationLemmas.{weaker_some}
 use Rattle.icu_text_order.specs.TextOrder.{lists_by}
@@ -10,11 +11,17 @@ use Rattle.icu_text_search.proofs.searched_text.SearchedText.count_alone.Goals a
 pub returns : goal.returns
 returns c =
     let t = c.args.self.now in
+    let text = text_searched t in
     let collation = (searched_in t).collation in
     let at = c.args.at in
-    weaker_some _ (CountsAlone collation (text_searched t) at)
+    let x = c.index-text-at.result in
+    let here : x ≡ get_or text at x = c.index-text-at.is ∙ ap (λ (l : List ℕ). get_or l at x) c.characters-text.ensures in
+    let size : (at + 1) - at ≡ 1 = omega arith in
+    let one : slice_range text at (at + 1) ≡ x ∷ [] =
+    ap (λ n. take n (drop at text)) size ∙ ap (take 1) (drop_more text at x c.requires) ∙ ap (λ (y : ℕ). y ∷ []) (sym here) in
+    weaker_some _ (CountsAlone collation text at)
     (λ n is. record {
       ends = c.ends_piece.ensures c.if-not-ends_piece.false;
-      count = is ∙ ap (λ (l : List ℕ). length (lists_by collation (nfd (slice_range l at (at + 1)))).primaries) c.characters-text.ensures;
+      count = is ∙ ap (λ (l : List ℕ). length (lists_by collation (nfd l)).primaries) (sym one);
     })
     c.count_of.result c.count_of.ensures

@@ -1,24 +1,30 @@
-use Rattle.std.proofs.Common.{sym, ◌∙◌}
-use Rattle.icu_text_search.specs.SearchedTexts.{searched_in, text_searched}
-use Rattle.icu_text_search.proofs.SilentStartLemmas.{told_silent}
-use Rattle.icu_text_search.proofs.TextCutLemmas.{told_ruled_out}
+use Rattle.std.proofs.Common.{sym, ◌∙◌, arith}
+use Rattle.icu_text_search.specs.SearchedTexts.{char_len_in, matches_in, searched_in, text_searched}
+use Rattle.icu_text_search.proofs.BarrenLemmas.{none_of_shortest, told_barren}
+use Rattle.icu_text_search.proofs.TextCutLemmas.{told_in_time, told_too_late, told_none}
 use Rattle.icu_text_search.proofs.searched_text.SearchedText.least_stop_to.Goals as goal
 
-pub returns-then-begins_otherwise : goal.returns-then-begins_otherwise
-returns-then-begins_otherwise c =
+pub returns-then-recurs-clause-tells : goal.returns-then-recurs-clause-tells
+returns-then-recurs-clause-tells c =
     let t = c.args.self.now in
-    told_ruled_out (searched_in t) (text_searched t) c.args.start c.args.last c.piece_from-piece.result.now c.piece_from-piece.ensures
-    (c.begins_otherwise.ensures c.if-begins_otherwise.true)
-    c.requires.ordered (sym c.equals_empty.ensures ∙ c.if-equals_empty.false)
+    told_barren (searched_in t) (text_searched t) c.args.start c.args.last c.requires.within (sym c.equals_empty.ensures ∙ c.if-equals_empty.false) (c.recurs.ensures.none c.if-recurs.true)
 
-pub returns-then-begins_silently : goal.returns-then-begins_silently
-returns-then-begins_silently c =
+pub returns-then-stop-last-clause-tells : goal.returns-then-stop-last-clause-tells
+returns-then-stop-last-clause-tells c =
     let t = c.args.self.now in
-    told_silent (searched_in t) (text_searched t) c.args.start c.args.last (sym c.equals_empty.ensures ∙ c.if-equals_empty.false) (c.begins_silently.ensures c.if-begins_silently.true)
+    told_in_time (matches_in t) c.args.start c.args.last (char_len_in t) c.in-Some.stop c.requires.ordered c.requires.within (rw c.in-Some.is at c.in_ok-stop.ensures) c.if-stop-last.true
 
-pub returns-then-begins_otherwise-2 : goal.returns-then-begins_otherwise-2
-returns-then-begins_otherwise-2 c =
+pub returns-else-stop-last-clause-tells : goal.returns-else-stop-last-clause-tells
+returns-else-stop-last-clause-tells c =
     let t = c.args.self.now in
-    told_ruled_out (searched_in t) (text_searched t) c.args.start c.args.last c.piece_from-piece.result.now c.piece_from-piece.ensures
-    (c.begins_otherwise-2.ensures c.if-begins_otherwise-2.true)
-    c.requires.ordered (sym c.equals_empty.ensures ∙ c.if-equals_empty.false)
+    told_too_late (matches_in t) c.args.start c.args.last (char_len_in t) c.in-Some.stop c.requires.ordered c.requires.within (rw c.in-Some.is at c.in_ok-stop.ensures) (omega (arith, c.if-stop-last.false))
+
+pub returns-in-None-clause-tells : goal.returns-in-None-clause-tells
+returns-in-None-clause-tells c =
+    let t = c.args.self.now in
+    told_none (matches_in t) c.args.start c.args.last (char_len_in t) c.requires.ordered c.requires.within (rw c.in-None.is at c.in_ok-stop.ensures)
+
+pub keep_barren-requires-clause-none : goal.keep_barren-requires-clause-none
+keep_barren-requires-clause-none c =
+    let t = c.args.self.now in
+    none_of_shortest (matches_in t) c.args.start (char_len_in t) (omega (arith, c.requires.ordered, c.requires.within)) (rw c.in-None.is at c.in_ok-stop.ensures)

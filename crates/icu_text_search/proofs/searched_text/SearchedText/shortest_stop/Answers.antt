@@ -28,5 +28,5 @@ returns-in-Some c =
 pub returns-in-None : goal.returns-in-None
 returns-in-None c =
     let t = c.args.self.now in
-    c.walk_along.ensures (sym c.in_ok-here.ensures ∙ c.if-not-here.false) (sym c.is_allowed.ensures ∙ c.if-not-is_allowed.false)
+    c.looked_stop.ensures (sym c.in_ok-here.ensures ∙ c.if-not-here.false) (sym c.is_allowed.ensures ∙ c.if-not-is_allowed.false)
     (empty_matches_not (searched_in t) (text_searched t) c.args.start (sym c.equals_empty.ensures ∙ c.if-equals_empty.false))
