@@ -17,7 +17,7 @@ use Rattle.icu_checks.specs.declared.condition.ReachableElementCondition.{Reacha
 use Rattle.icu_checks.specs.declared.condition.ReachableElementCondition.TheVariants.{Width, BackwardLead, TertiaryElement, MiddleLead, ImplicitLength, NumericLead, SharedLead, SecondByte}
 use Rattle.icu_checks.specs.ElementConditions.{reachable_element_meets, element_conditions}
 use Rattle.icu_checks.specs.inner.Violations.{violation_rank}
-use Rattle.icu_checks.specs.inner.EntryViolations.{first_failing_element, of_element, after_element, mappings_violation, entry_violation, HasEndsTogether}
+use Rattle.icu_checks.specs.inner.EntryViolations.{first_condition_failed, of_element, after_element, mappings_violation, entry_violation, HasEndsTogether}
 use Rattle.icu_checks.proofs.ImplicitLemmas.{AreBytes, implicit_bytes, implicit_high, high_enough, where_ends}
 use Rattle.icu_checks.proofs.ComparedLevelLemmas.{implicit_elements}
 use Rattle.icu_checks.proofs.EntryViolationLemmas.{without_own}
@@ -50,8 +50,8 @@ module _ (all : CollatorTables) (p q : ℕ) (is_p : AreBytes p) (is_q : AreBytes
   same_meets SharedLead = rw (some_lead p is_p.lead, some_lead q is_q.lead, is_p.lead, is_q.lead, together) refl
   same_meets SecondByte = rw (some_lead p is_p.lead, some_lead q is_q.lead, is_p.lead, is_q.lead, is_p.second, is_q.second) refl
 
-  same_failing : first_failing_element all (of_primary p) ≡ first_failing_element all (of_primary q)
-  unfolding first_failing_element
+  same_failing : first_condition_failed all (of_primary p) ≡ first_condition_failed all (of_primary q)
+  unfolding first_condition_failed
   same_failing =
       same_found (λ condition. not (reachable_element_meets condition all (of_primary p))) (λ condition. not (reachable_element_meets condition all (of_primary q)))
       (λ condition. ap (λ b. not b) (same_meets condition)) element_conditions
@@ -76,7 +76,7 @@ goes_with : (all : CollatorTables) (h p : ℕ) → 256 ≤ h → p / 65536 ≡ h
 goes_with all h p high at ends = where_ends (λ to. to ≡ lead_byte (reorder all (h * 65536))) all.reordering h p high at refl (sym ends)
 
 pub run_alike : (all : CollatorTables) (first last : ℕ) → last ≡ first + 63 → implicit_weight last / 65536 ≡ implicit_weight first / 65536 → HasEndsTogether all (implicit_weight first / 65536)
-    → (c : ℕ) → first ≤ c → c < first + 64 → first_failing_element all (of_primary (implicit_weight c)) ≡ first_failing_element all (of_primary (implicit_weight first))
+    → (c : ℕ) → first ≤ c → c < first + 64 → first_condition_failed all (of_primary (implicit_weight c)) ≡ first_condition_failed all (of_primary (implicit_weight first))
 run_alike all first last end same ends c low below =
     same_failing all (implicit_weight c) (implicit_weight first) (implicit_bytes c) (implicit_bytes first)
     (goes_with all (implicit_weight first / 65536) (implicit_weight c) (high_enough first) (high_between first last c end same low below) ends
@@ -85,10 +85,10 @@ run_alike all first last end same ends c low below =
 -- ---- an entry for one
 
 pub implicit_alike : (all : CollatorTables) (table : DataTable) (home : Data) (c d e : ℕ) → kind_of e ≡ Implicit
-    → first_failing_element all (of_primary (implicit_weight c)) ≡ first_failing_element all (of_primary (implicit_weight d)) → entry_violation all table home c e ≡ entry_violation all table home d e
+    → first_condition_failed all (of_primary (implicit_weight c)) ≡ first_condition_failed all (of_primary (implicit_weight d)) → entry_violation all table home c e ≡ entry_violation all table home d e
 implicit_alike all table home c d e is same = judged c ∙ ap (λ f. earlier violation_rank (mappings_violation all home e) (earlier violation_rank None (option_map (of_element table) f))) same ∙ sym (judged d)
   where
-    judged : (a : ℕ) → entry_violation all table home a e ≡ earlier violation_rank (mappings_violation all home e) (earlier violation_rank None (option_map (of_element table) (first_failing_element all (of_primary (implicit_weight a)))))
+    judged : (a : ℕ) → entry_violation all table home a e ≡ earlier violation_rank (mappings_violation all home e) (earlier violation_rank None (option_map (of_element table) (first_condition_failed all (of_primary (implicit_weight a)))))
     judged a =
         without_own all table home a e (implicit_passes home a e is)
         ∙ ap (λ es. earlier violation_rank (mappings_violation all home e) (fold (after_element all table) None es)) (implicit_elements home a e is)

@@ -25,7 +25,7 @@ use Rattle.icu_provider.specs.CollatorTables.{CollatorTables}
 use Rattle.icu_checks.specs.ReachableElements.{IsReachableBy, IsElementBy}
 use Rattle.icu_checks.specs.ElementConditions.{reachable_element_meets, element_conditions}
 use Rattle.icu_checks.specs.inner.Violations.{violation_rank, IsTrueViolation}
-use Rattle.icu_checks.specs.inner.EntryViolations.{of_element, first_failing_element, element_violation, after_element, judged_element, elements_violation, of_entry, mappings_violation, entry_violation}
+use Rattle.icu_checks.specs.inner.EntryViolations.{of_element, first_condition_failed, element_violation, after_element, judged_element, elements_violation, of_entry, mappings_violation, entry_violation}
 
 pub judged_elements : (all : CollatorTables) (table : DataTable) (best : Option Violation) (xs : List Element) → fold judged_element ((all, table), best) xs ≡ ((all, table), fold (after_element all table) best xs)
 judged_elements all table best [] = refl
@@ -63,12 +63,12 @@ module _ (all : CollatorTables) where
   listed x each SharedLead = not_false _ each.1.1.1.1.1.1.0
   listed x each SecondByte = not_false _ each.1.1.1.1.1.1.1.0
 
-  pub passes_element : (x : Element) → first_failing_element all x ≡ None → (condition : ReachableElementCondition) → IsTrue (reachable_element_meets condition all x)
-  unfolding first_failing_element
+  pub passes_element : (x : Element) → first_condition_failed all x ≡ None → (condition : ReachableElementCondition) → IsTrue (reachable_element_meets condition all x)
+  unfolding first_condition_failed
   passes_element x h = listed x (find_none (λ condition. not (reachable_element_meets condition all x)) element_conditions h)
 
-  fails_element : (x : Element) → IfSome (first_failing_element all x) (λ condition. reachable_element_meets condition all x ≡ false)
-  unfolding first_failing_element
+  fails_element : (x : Element) → IfSome (first_condition_failed all x) (λ condition. reachable_element_meets condition all x ≡ false)
+  unfolding first_condition_failed
   fails_element x =
       weaker_some _ (λ condition. reachable_element_meets condition all x ≡ false) (λ condition h. not_true (reachable_element_meets condition all x) h) _
       (find_passes (λ condition. not (reachable_element_meets condition all x)) element_conditions)
@@ -76,7 +76,7 @@ module _ (all : CollatorTables) where
   pub element_true : (table : DataTable) (x : Element) → IsElementBy table all.tables x → IfSome (element_violation all table x) (IsTrueViolation all)
   element_true table x is =
       map_some (of_element table) (λ condition. reachable_element_meets condition all x ≡ false) (IsTrueViolation all)
-      (λ condition fails meets. clash (reachable_element_meets condition all x) fails (meets table refl x is)) (first_failing_element all x) (fails_element x)
+      (λ condition fails meets. clash (reachable_element_meets condition all x) fails (meets table refl x is)) (first_condition_failed all x) (fails_element x)
 
   elements_true : (table : DataTable) (best : Option Violation) (xs : List Element) → IfSome best (IsTrueViolation all) → AllByRecursion (IsElementBy table all.tables) xs → IfSome (fold (after_element all table) best xs) (IsTrueViolation all)
   elements_true table best [] h is = h
@@ -88,7 +88,7 @@ module _ (all : CollatorTables) where
   elements_none table best (x ∷ xs) h =
       let later = elements_none table (after_element all table best x) xs h in
       let both = earlier-none violation_rank best (element_violation all table x) later.0 in
-      (both.0, (passes_element x (no_map (of_element table) (first_failing_element all x) both.1), later.1))
+      (both.0, (passes_element x (no_map (of_element table) (first_condition_failed all x) both.1), later.1))
 
   -- ---- one entry
 

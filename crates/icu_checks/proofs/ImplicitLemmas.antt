@@ -24,7 +24,7 @@ use Rattle.icu_provider.specs.CollatorTables.{CollatorTables, is_forward, reorde
 use Rattle.icu_weights.proofs.LeadLemmas.{block_where_ends}
 use Rattle.icu_weights.specs.Leads.{is_middle}
 use Rattle.icu_checks.specs.ElementConditions.{implicit_lead, has_low_bytes, has_second_byte, is_apart, primary_meets, reachable_element_meets, element_conditions}
-use Rattle.icu_checks.specs.inner.EntryViolations.{first_failing_element, elements_violation, entry_violation, is_taken_apart, HasEndsApart, ImplicitPasses}
+use Rattle.icu_checks.specs.inner.EntryViolations.{first_condition_failed, elements_violation, entry_violation, is_taken_apart, HasEndsApart, ImplicitPasses}
 use Rattle.icu_checks.specs.inner.ComparedWeights.{compared_weight}
 
 -- ---- the bytes of an implicit weight
@@ -169,11 +169,11 @@ module _ (all : CollatorTables) (below : all.special.numeric ≤ 0xFD) where
     element SharedLead = or_second (p == 0) _ (primary SharedLead)
     element SecondByte = or_second (p == 0) _ (primary SecondByte)
 
-    none_fails : first_failing_element all (of_primary p) ≡ None
-    unfolding first_failing_element
+    none_fails : first_condition_failed all (of_primary p) ≡ None
+    unfolding first_condition_failed
     none_fails = none_found (λ condition. not (reachable_element_meets condition all (of_primary p))) (λ condition. negated (reachable_element_meets condition all (of_primary p)) (element condition)) element_conditions
 
-  pub implicit_meets : (c : ℕ) → IsTrue (is_taken_apart all (implicit_weight c)) → first_failing_element all (of_primary (implicit_weight c)) ≡ None
+  pub implicit_meets : (c : ℕ) → IsTrue (is_taken_apart all (implicit_weight c)) → first_condition_failed all (of_primary (implicit_weight c)) ≡ None
   implicit_meets c = none_fails (implicit_weight c) (implicit_bytes c)
 
 read_or_not : (b : Bool) (o : Option Violation) → o ≡ None → (if b then o else None) ≡ None
@@ -181,7 +181,7 @@ read_or_not true o h = h
 read_or_not false o h = refl
 
 -- an entry for one has no violation then
-pub implicit_no_violation : (all : CollatorTables) (table : DataTable) (home : Data) (c e : ℕ) → kind_of e ≡ Implicit → first_failing_element all (of_primary (implicit_weight c)) ≡ None → entry_violation all table home c e ≡ None
+pub implicit_no_violation : (all : CollatorTables) (table : DataTable) (home : Data) (c e : ℕ) → kind_of e ≡ Implicit → first_condition_failed all (of_primary (implicit_weight c)) ≡ None → entry_violation all table home c e ≡ None
 unfolding entry_violation avoids_diacritics final_elements earlier
 implicit_no_violation all table home c e is none =
     rw (implicit_passes home c e is, is, avoids_diacritics) (read_or_not _ (elements_violation all table home c e) (rw (is, final_elements, none) refl))
@@ -208,7 +208,7 @@ high_enough c = let at = implicit_high c in omega (arith, at)
 
 -- the two highest bytes of the weights of 64 characters are those of the first one's or of the last one's
 pub run_passes : (all : CollatorTables) (first last : ℕ) → last ≡ first + 63 → HasEndsApart all (implicit_weight first / 65536) → HasEndsApart all (implicit_weight last / 65536)
-    → all.special.numeric ≤ 0xFD → (c : ℕ) → first ≤ c → c < first + 64 → first_failing_element all (of_primary (implicit_weight c)) ≡ None
+    → all.special.numeric ≤ 0xFD → (c : ℕ) → first ≤ c → c < first + 64 → first_condition_failed all (of_primary (implicit_weight c)) ≡ None
 run_passes all first last end low high below c from to =
     elim (cases_eq ((c + 1) / 4572) ((first + 1) / 4572)) [
       | inl same ↦ implicit_meets all below c (block_apart all (implicit_weight first / 65536) (implicit_weight c) (high_enough first) (same_high first c same) low)

@@ -17,5 +17,5 @@ pub mod ImplicitOverlapLemmas
 pub mod CheckLemmas
 pub mod ImplicitLemmas
 pub mod RunLemmas
-pub mod PassingLemmas
+pub mod PassingLeadLemmas
 pub mod AlikeRunLemmas

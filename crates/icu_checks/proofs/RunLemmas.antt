@@ -25,7 +25,7 @@ use Rattle.icu_provider.specs.CollatorTables.{CollatorTables, is_forward, reorde
 use Rattle.icu_checks.specs.declared.condition.ReachableElementCondition.{ReachableElementCondition}
 use Rattle.icu_checks.specs.declared.condition.ReachableElementCondition.TheVariants.{Width, BackwardLead, TertiaryElement, MiddleLead, ImplicitLength, NumericLead, SharedLead, SecondByte}
 use Rattle.icu_checks.specs.ElementConditions.{implicit_lead, has_low_bytes, has_second_byte, primary_meets, reachable_element_meets, element_conditions}
-use Rattle.icu_checks.specs.inner.EntryViolations.{first_failing_element, entry_violation, KeepsLeadTogether}
+use Rattle.icu_checks.specs.inner.EntryViolations.{first_condition_failed, entry_violation, KeepsLeadTogether}
 use Rattle.icu_checks.proofs.EntryViolationLemmas.{passes_element, without_own}
 
 -- ---- what a reordering takes whole
@@ -65,7 +65,7 @@ or_right true b f h = cc
 or_right false b f h = h
 
 module _ (all : CollatorTables) (p z q : ℕ) (some : p ≢ 0) (whole_bytes : p % 256 ≡ 0) (one_lead : lead_byte p ≡ lead_byte z) (whole : KeepsLeadTogether all.reordering (lead_byte p))
-    (least : first_failing_element all (of_primary p) ≡ None) (greatest : first_failing_element all (of_primary z) ≡ None) (low : p ≤ q) (high : q ≤ z) where
+    (least : first_condition_failed all (of_primary p) ≡ None) (greatest : first_condition_failed all (of_primary z) ≡ None) (low : p ≤ q) (high : q ≤ z) where
   same_lead : lead_byte q ≡ lead_byte p
   same_lead = omega (arith, one_lead)
 
@@ -155,8 +155,8 @@ module _ (all : CollatorTables) (p z q : ℕ) (some : p ≢ 0) (whole_bytes : p 
   element SharedLead = or_second (q == 0) _ shared
   element SecondByte = or_second (q == 0) _ second
 
-  pub between_passes : first_failing_element all (of_primary q) ≡ None
-  unfolding first_failing_element
+  pub between_passes : first_condition_failed all (of_primary q) ≡ None
+  unfolding first_condition_failed
   between_passes = none_found (λ condition. not (reachable_element_meets condition all (of_primary q))) (λ condition. negated (reachable_element_meets condition all (of_primary q)) (element condition)) element_conditions
 
 -- ---- weights of characters in a row
@@ -217,6 +217,6 @@ no_mappings home n e is = rw (is, avoids_diacritics) refl
 
 -- an offset entry has no violation then
 pub offset_no_violation : (all : CollatorTables) (table : DataTable) (home : Data) (c e : ℕ) (p : ℕ) → kind_of e ≡ Offset → first_failing home c e ≡ None → final_elements (homed home e) c ≡ of_primary p ∷ []
-    → first_failing_element all (of_primary p) ≡ None → entry_violation all table home c e ≡ None
+    → first_condition_failed all (of_primary p) ≡ None → entry_violation all table home c e ≡ None
 unfolding earlier
 offset_no_violation all table home c e p is own gives none = without_own all table home c e own ∙ rw (no_mappings home _ e is, gives, none) refl

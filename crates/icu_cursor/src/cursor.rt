@@ -70,7 +70,7 @@ impl<'c, 'd, T: EncodedText, R: ReadyPlace> ElementCursor<'c, 'd, T, R> {
 
     /// The first element of the next character, where it is read by itself, and all that was read was given. `None`
     /// says nothing.
-    #[inline]
+    #[inline(always)]
     fn take_lone(&mut self) -> Option<CollationElement>
         requires { HasNothingReady R.ready self.old }
         ensures next { gives_with R.ready T.text self.old
@@ -116,8 +116,8 @@ impl<'c, 'd, T: EncodedText, R: ReadyPlace> ElementCursor<'c, 'd, T, R> {
     }
 
     /// The first element of the next character, which isn't ASCII, where it is read by itself. What most letters take
-    /// comes first. Out of line, so that ASCII is read where it is asked for.
-    #[inline(never)]
+    /// stands where it is asked for.
+    #[inline(always)]
     fn take_other(&mut self) -> Option<CollationElement>
         requires { HasNothingReady R.ready self.old }
         ensures next { gives_with R.ready T.text self.old
@@ -125,17 +125,18 @@ impl<'c, 'd, T: EncodedText, R: ReadyPlace> ElementCursor<'c, 'd, T, R> {
     {
         let (c, rest) = self.text.split_first_char()?;
         let tables = self.tables;
-        let kept = tables.kept(c);
-        if let Kept::Facts(facts) = kept {
-            if facts.kind == FactsKind::Starters && facts.count == 1 {
-                return self.take_one(c, facts, rest);
+        match tables.kept(c) {
+            Kept::Own => self.take_own(c, rest),
+            Kept::Facts(facts) if facts.kind == FactsKind::Starters && facts.count == 1 => {
+                self.take_one(c, facts, rest)
             }
+            kept => self.take_kept(c, kept, rest),
         }
-        self.take_kept(c, kept, rest)
     }
 
-    /// The first element of a character of which this is kept, where it is read by itself.
-    #[inline(always)]
+    /// The first element of a character of which this is kept, where it is read by itself. Out of line: most letters
+    /// are read without it.
+    #[inline(never)]
     fn take_kept(&mut self, c: char, kept: Kept<'_>, rest: T) -> Option<CollationElement>
         requires nothing { HasNothingReady R.ready self.old }
         requires text { T.text self.old.text ≡ c ∷ T.text rest }

@@ -9,6 +9,7 @@
 pub mod accumulator;
 pub mod backward;
 pub mod cases;
+pub mod common_levels;
 mod differences;
 pub mod error;
 pub mod held;

@@ -9,7 +9,7 @@ use crate::writes::{write_long_after, write_some, write_three};
 
 /// How primaries are written: what reordering makes of each, and the weights of which leads are compressed (UTS #35
 /// part 5, "Collation Reordering", and "Root Collation Data Files" on lead bytes that compress).
-pub trait PrimaryCompression {
+pub trait PrimaryCompression: Copy {
     /// The two functions.
     ghost compression: { Self → Compression };
 
@@ -20,6 +20,11 @@ pub trait PrimaryCompression {
     /// Whether weights of this lead, before reordering, drop their reordered lead where they stand one after another.
     fn is_compressible(&self, lead: u8) -> bool
         ensures { result ≡ (compression self.now).is_compressible lead };
+
+    /// Is told the lead of the next weight, before reordering. It may keep what `is_compressible` says of it, since
+    /// weights mostly have the lead of the weight before.
+    fn expect(&mut self, lead: u8)
+        ensures { compression self.new ≡ compression self.old };
 }
 
 /// What a weight with another lead than the dropped one writes first: 03 before a lesser lead, FF before a greater one,

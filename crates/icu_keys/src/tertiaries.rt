@@ -148,6 +148,7 @@ impl TertiaryWriter {
     }
 
     /// Writes what is left at the end of the level, where `more` common weights come last. An error is the sink's own.
+    #[inline(always)]
     pub(crate) fn close_after<S: CollationKeySink>(
         mut self,
         sink: &mut S,

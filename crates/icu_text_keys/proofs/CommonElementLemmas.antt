@@ -96,17 +96,17 @@ secondaries_fed l m n (Err x) h = tt
 
 -- ---- one more
 
-shifted : (k n : ℕ) (ws : List ℕ) → replicate n k ++ (k ∷ ws) ≡ k ∷ (replicate n k ++ ws)
+pub shifted : (k n : ℕ) (ws : List ℕ) → replicate n k ++ (k ∷ ws) ≡ k ∷ (replicate n k ++ ws)
 shifted k zero ws = refl
 shifted k (suc n) ws = ap (λ l. k ∷ l) (shifted k n ws)
 
-abbrev made : ℕ → ℕ → ℕ → Element
+abbrev pub made : ℕ → ℕ → ℕ → Element
 made p s l = record { primary = p; secondary = s; lower = l }
 
-abbrev with_common : ℕ → Element
+abbrev pub with_common : ℕ → Element
 with_common p = made p 0x500 0x500
 
-common_tertiary : (form : TertiaryForm) (p : ℕ) (es : List Element)
+pub common_tertiary : (form : TertiaryForm) (p : ℕ) (es : List Element)
     → tertiaries form (with_common p ∷ es) ≡ (tertiary_runs form).common ∷ tertiaries form es
 unfolding weights
 common_tertiary WithoutCase p es = refl
@@ -160,7 +160,7 @@ more_quaternaries reorder n p (Some form) (Some l) hs =
     ap (λ ws. closed (held_quaternaries l ws))
     (ap (λ ws. replicate n (2 ^ 32) ++ ws) (common_quaternary reorder p hs) ∙ shifted (2 ^ 32) n (quaternaries reorder hs))
 
-same_weights : (p s l : ℕ) → s ≡ 0x500 → l ≡ 0x500 → made p s l ≡ with_common p
+pub same_weights : (p s l : ℕ) → s ≡ 0x500 → l ≡ 0x500 → made p s l ≡ with_common p
 same_weights p s l e f = rw (e, f) refl
 
 -- an element with common weights counts as one more

@@ -3,3 +3,4 @@ pub mod KeySourceLemmas
 pub mod CaseLemmas
 pub mod CompressionLemmas
 pub mod CommonElementLemmas
+pub mod CommonRestLemmas

@@ -3,3 +3,4 @@ pub mod LevelRests
 pub mod KeyRests
 pub mod TextCases
 pub mod UsualForms
+pub mod CommonRests

@@ -27,3 +27,7 @@ form_of UpperFirst identical = levels_form (Some Forward) None (Some tertiaries.
 form_of Quaternary identical = levels_form (Some Forward) None (Some tertiaries.WithoutCase) (Some quaternaries.MayShift) identical
 form_of Unshifted identical = levels_form (Some Forward) None (Some tertiaries.WithoutCase) (Some quaternaries.Unshifted) identical
 form_of CaseLevel identical = levels_form (Some Forward) (Some cases.LowerFirst) (Some tertiaries.WithoutCase) None identical
+
+-- three levels, the second from the front, and the identical level where it is asked for
+abbrev pub form_of_three : TertiaryForm → Bool → KeyForm
+form_of_three t identical = levels_form (Some Forward) None (Some t) None identical

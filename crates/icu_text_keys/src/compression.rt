@@ -39,8 +39,13 @@ pub struct TableCompression<'d> {
     tables: &'d CheckedTables,
     /// No lead below it is compressible, so that this isn't asked of Latin letters and digits.
     first_asked: u8,
+    /// The lead that was asked of last, and whether it is compressible: weights of most scripts share their lead.
+    last: u8,
+    is_last_compressible: bool,
     ghost none_below: { (lead : ℕ) → lead < first_asked
         → is_compressible (checked_tables tables.now).special lead ≡ false },
+    ghost answered: { is_compressible (checked_tables tables.now).special last
+        ≡ is_last_compressible },
 }
 
 impl<'d> TableCompression<'d> {
@@ -51,9 +56,26 @@ impl<'d> TableCompression<'d> {
     pub fn new(tables: &'d CheckedTables) -> TableCompression<'d>
         ensures { table_compression result ≡ compression_of (checked_tables tables.now) }
     {
+        let special = tables.special_primaries();
+        let first_asked = first_asked(special);
         TableCompression {
             tables,
-            first_asked: first_asked(tables.special_primaries()),
+            first_asked,
+            last: 0,
+            is_last_compressible: first_asked == 0 && special.is_compressible(0),
+        }
+    }
+
+    /// This compression, once this lead was asked of.
+    #[inline(always)]
+    fn asked_of(self, lead: u8) -> TableCompression<'d>
+        ensures { table_compression result ≡ table_compression self.entry }
+    {
+        TableCompression {
+            tables: self.tables,
+            first_asked: self.first_asked,
+            last: lead,
+            is_last_compressible: self.tables.special_primaries().is_compressible(lead),
         }
     }
 }
@@ -70,6 +92,19 @@ impl<'d> PrimaryCompression for TableCompression<'d> {
 
     #[inline(always)]
     fn is_compressible(&self, lead: u8) -> bool {
-        lead >= self.first_asked && self.tables.special_primaries().is_compressible(lead)
+        if lead < self.first_asked {
+            return false;
+        }
+        if lead == self.last {
+            return self.is_last_compressible;
+        }
+        self.tables.special_primaries().is_compressible(lead)
+    }
+
+    #[inline(always)]
+    fn expect(&mut self, lead: u8) {
+        if lead >= self.first_asked && lead != self.last {
+            *self = self.asked_of(lead);
+        }
     }
 }

@@ -1,7 +1,10 @@
 //! The levels after the primary one, where elements with common weights are counted.
 
-ghost use Rattle.std.specs.Prelude.{◌≡◌, ◌<◌, ◌↔◌, ◌∷◌, IsTrue, ℕ, List, [], Some, OnOk};
+ghost use Rattle.std.specs.Prelude.{◌≡◌, ◌<◌, ◌↔◌, ◌∷◌, IsTrue, ℕ, List, [], Some, IfSome, OnOk};
 ghost use Rattle.icu_levels.specs.Keys.{later_parts, parts_bytes};
+ghost use Rattle.icu_levels.specs.Secondaries.{secondary_level};
+ghost use Rattle.icu_levels.specs.Tertiaries.{tertiary_level};
+ghost use Rattle.icu_keys.specs.HeldRests.{held_secondaries, held_tertiaries};
 ghost use Rattle.icu_levels.specs.declared.forms.SecondaryForm.TheVariants.{Forward};
 ghost use Rattle.icu_weighting.specs.Handled.{HandledElement, stayed, shifted_primary};
 ghost use Rattle.icu_weighting.specs.Levels.{level_lists};
@@ -28,7 +31,7 @@ fn counts(secondary: Option<SecondaryForm>) -> bool
 /// Whether the weights of an element beside its primary are common, and it has neither case nor quaternary bits. One
 /// comparison says so. False says nothing.
 #[inline(always)]
-fn is_common(element: CollationElement) -> bool
+pub(crate) fn is_common(element: CollationElement) -> bool
     ensures { IsTrue result → (element.secondary ≡ 0x500) × (element.lower ≡ 0x500) }
 {
     u32::from(element.lower()) * 0x1_0000 + u32::from(element.secondary()) == 0x0500_0500
@@ -58,6 +61,22 @@ impl CountedLevels {
     {
         CountedLevels {
             commons: 0,
+            levels: LaterLevels::new(alloc, form),
+        }
+    }
+
+    /// The levels of a form, where so many elements with common weights came first.
+    #[inline(always)]
+    pub(crate) fn after_commons<F: WrittenForm>(alloc: Global, form: &F, commons: u32) -> Self
+        ensures form { HasForm (F.form_written form.now) result }
+        ensures commons { result.commons ≡ commons }
+        ensures secondaries { (ws : List ℕ) →
+            held_secondaries result.levels.secondaries ws ≡ secondary_level ws }
+        ensures tertiaries { IfSome (F.form_written form.now).tertiary (λ t. (ws : List ℕ) →
+            held_tertiaries result.levels.tertiaries ws ≡ tertiary_level t ws) }
+    {
+        CountedLevels {
+            commons,
             levels: LaterLevels::new(alloc, form),
         }
     }

@@ -3,8 +3,9 @@
 ghost use Rattle.std.specs.Prelude.{◌≡◌, ◌<◌, ℕ, List, [], ◌∷◌, IfSome, OnOk};
 ghost use Rattle.icu_levels.specs.Keys.{secondary_part, case_part, tertiary_part, quaternary_part, later_parts, parts_bytes};
 ghost use Rattle.icu_levels.specs.Secondaries.{secondary_level};
+ghost use Rattle.icu_levels.specs.Tertiaries.{tertiary_level};
 ghost use Rattle.icu_entries.specs.Elements.{Element};
-ghost use Rattle.icu_keys.specs.HeldRests.{held_secondaries, held_tertiary_form};
+ghost use Rattle.icu_keys.specs.HeldRests.{held_secondaries, held_tertiaries, held_tertiary_form};
 ghost use Rattle.icu_weighting.specs.Handled.{HandledElement, stayed, shifted_primary, stayed_elements};
 ghost use Rattle.icu_weighting.specs.Levels.{level_lists};
 ghost use Rattle.icu_text_keys.specs.LevelRests.{secondaries_left, cases_left, tertiaries_left, quaternaries_left};
@@ -61,6 +62,8 @@ fn new_cases<F: WrittenForm>(alloc: Global, form: &F) -> Option<HeldCases>
 #[inline(always)]
 fn new_tertiaries<F: WrittenForm>(alloc: Global, form: &F) -> HeldTertiaries
     ensures form { IfSome (F.form_written form.now).tertiary (λ t. held_tertiary_form result ≡ t) }
+    ensures bytes { IfSome (F.form_written form.now).tertiary (λ t. (ws : List ℕ) →
+        held_tertiaries result ws ≡ tertiary_level t ws) }
     ensures begins { let f = F.form_written form.now in
         (reorder : ℕ → ℕ) (cs : List ℕ) (hs : List HandledElement) →
         tertiaries_left f.tertiary result (stayed_elements hs)
@@ -105,6 +108,10 @@ impl LaterLevels {
     #[inline(always)]
     pub(crate) fn new<F: WrittenForm>(alloc: Global, form: &F) -> Self
         ensures form { HasLaterForm (F.form_written form.now) result }
+        ensures secondaries { (ws : List ℕ) →
+            held_secondaries result.secondaries ws ≡ secondary_level ws }
+        ensures tertiaries { IfSome (F.form_written form.now).tertiary (λ t. (ws : List ℕ) →
+            held_tertiaries result.tertiaries ws ≡ tertiary_level t ws) }
         ensures begins { let f = F.form_written form.now in
             (reorder : ℕ → ℕ) (cs : List ℕ) (hs : List HandledElement) →
             levels_left reorder f result cs hs ≡ later_parts f (level_lists reorder f hs cs) }

@@ -5,6 +5,7 @@
 //! written. The contracts say that the sink took `key_bytes` of the text's level lists, or a beginning of it.
 #![tactic(auto)]
 
+mod common_elements;
 pub mod compression;
 pub mod counted_levels;
 pub mod later_levels;

@@ -1,7 +1,7 @@
 //! The forms that keys mostly have.
 
 ghost use Rattle.std.specs.Prelude.{◌≡◌, IfSome};
-ghost use Rattle.icu_text_keys.specs.UsualForms.{form_of};
+ghost use Rattle.icu_text_keys.specs.UsualForms.{form_of, form_of_three};
 
 use icu_levels::forms::{CaseForm, KeyForm, QuaternaryForm, SecondaryForm, TertiaryForm};
 
@@ -92,6 +92,18 @@ pub(crate) fn usual_form(form: KeyForm) -> Option<UsualForm>
             Some(TertiaryForm::WithoutCase),
             None,
         ) => Some(UsualForm::CaseLevel),
+        _ => None,
+    }
+}
+
+/// The form of the tertiary level, where a form has three levels, the second from the front, and perhaps the identical
+/// level.
+#[inline(always)]
+pub(crate) fn tertiary_of_three(form: KeyForm) -> Option<TertiaryForm>
+    ensures { IfSome result (λ t. form ≡ form_of_three t form.identical) }
+{
+    match (form.secondary, form.cases, form.tertiary, form.quaternary) {
+        (Some(SecondaryForm::Forward), None, Some(tertiary), None) => Some(tertiary),
         _ => None,
     }
 }

@@ -1,16 +1,17 @@
 //! The key of a text, from its elements as they are handled.
 
-ghost use Rattle.std.specs.Prelude.{List};
+ghost use Rattle.std.specs.Prelude.{◌≡◌, ◌∷◌, List};
 ghost use Rattle.std.specs.List.{AllByRecursion};
 ghost use Rattle.icu_levels.specs.Keys.{key_bytes};
 ghost use Rattle.icu_keys.specs.KeyWrites.{KeyWrites, WritesKey};
 ghost use Rattle.icu_weighting.specs.Levels.{level_lists};
-ghost use Rattle.icu_weighting.specs.HandledSources.{HasCase};
+ghost use Rattle.icu_weighting.specs.HandledSources.{HasCase, handled_as};
 ghost use Rattle.icu_text_keys.specs.KeyRests.{key_rest, HasForm};
-ghost use Rattle.icu_text_keys.specs.UsualForms.{form_of};
+ghost use Rattle.icu_text_keys.specs.UsualForms.{form_of, form_of_three};
 
-use crate::next_element::next_element;
-use crate::usual_forms::{UsualForm, usual_form};
+use crate::common_elements::CommonElements;
+use crate::next_element::next_expected;
+use crate::usual_forms::{UsualForm, tertiary_of_three, usual_form};
 use crate::writer::KeyWriter;
 use crate::written_form::{
     CaseLevelKey, LowerFirstKey, PrimaryKey, QuaternaryKey, SecondaryKey, TertiaryKey,
@@ -19,8 +20,8 @@ use crate::written_form::{
 use icu_keys::parts::end_key;
 use icu_keys::primaries::PrimaryCompression;
 use icu_keys::{CollationKeySink, SortKeyError};
-use icu_levels::forms::KeyForm;
-use icu_weighting::HandledSource;
+use icu_levels::forms::{KeyForm, TertiaryForm};
+use icu_weighting::{Handled, HandledSource};
 use std::alloc::Global;
 
 /// Writes the rest of a key, of the elements that are still to come.
@@ -29,7 +30,7 @@ fn write_elements<F: WrittenForm, S: CollationKeySink, C: PrimaryCompression, H:
     form: &F,
     sink: &mut S,
     state: &mut S::State,
-    compression: &C,
+    compression: &mut C,
     writer: &mut KeyWriter,
     elements: &mut H,
     characters: &[char],
@@ -39,14 +40,92 @@ fn write_elements<F: WrittenForm, S: CollationKeySink, C: PrimaryCompression, H:
     requires cases { AllByRecursion HasCase (H.handled_left elements.old) }
     ensures sound { S.is_sound sink.new state.new }
     ensures bytes { KeyWrites S.effects sink.old state.old
-        (key_rest (C.compression compression.now) (F.form_written form.now) writer.old
+        (key_rest (C.compression compression.old) (F.form_written form.now) writer.old
         characters.now (H.handled_left elements.old))
         result sink.new state.new }
 {
-    'writing: while let Some(element) = next_element(elements)? {
+    'writing: while let Some(element) = next_expected(elements, compression)? {
         writer.push(form, sink, state, compression, element)?;
     }
     writer.close(form, sink, state, characters)
+}
+
+/// Writes the rest of a key, from an element on whose weights aren't common beside its primary, or which is shifted.
+#[inline(always)]
+fn write_from<F: WrittenForm, S: CollationKeySink, C: PrimaryCompression, H: HandledSource>(
+    form: &F,
+    sink: &mut S,
+    state: &mut S::State,
+    compression: &mut C,
+    begun: KeyWriter,
+    element: Handled,
+    elements: &mut H,
+    characters: &[char],
+) -> Result<(), SortKeyError<S::Error>>
+    requires sound { S.is_sound sink.old state.old }
+    requires form { HasForm (F.form_written form.now) begun.levels }
+    requires case { HasCase (handled_as element) }
+    requires cases { AllByRecursion HasCase (H.handled_left elements.old) }
+    ensures sound { S.is_sound sink.new state.new }
+    ensures bytes { KeyWrites S.effects sink.old state.old
+        (key_rest (C.compression compression.old) (F.form_written form.now) begun characters.now
+        (handled_as element ∷ H.handled_left elements.old))
+        result sink.new state.new }
+{
+    let mut writer = begun;
+    writer.push(form, sink, state, compression, element)?;
+    write_elements(
+        form,
+        sink,
+        state,
+        compression,
+        &mut writer,
+        elements,
+        characters,
+    )
+}
+
+/// Writes all levels of a key of three levels. Elements are counted as long as their weights beside the primary are
+/// common, and no level is held until one comes whose weights aren't.
+#[inline(always)]
+fn write_three_levels<F: WrittenForm, S: CollationKeySink, C: PrimaryCompression, H: HandledSource>(
+    alloc: Global,
+    form: &F,
+    tertiary: TertiaryForm,
+    sink: &mut S,
+    state: &mut S::State,
+    compression: &mut C,
+    elements: &mut H,
+    characters: &[char],
+) -> Result<(), SortKeyError<S::Error>>
+    requires sound { S.is_sound sink.old state.old }
+    requires form { F.form_written form.now
+        ≡ form_of_three tertiary (F.form_written form.now).identical }
+    requires cases { AllByRecursion HasCase (H.handled_left elements.old) }
+    ensures sound { S.is_sound sink.new state.new }
+    ensures bytes { let c = C.compression compression.old in let f = F.form_written form.now in
+        KeyWrites S.effects sink.old state.old
+        (key_bytes c f (level_lists c.reorder f (H.handled_left elements.old) characters.now))
+        result sink.new state.new }
+{
+    let mut commons = CommonElements::new();
+    'counting: while let Some(next) = next_expected(elements, compression)? {
+        let Some(element) = commons.takes(&next) else {
+            let begun = commons.with_levels(alloc, form);
+            return write_from(
+                form,
+                sink,
+                state,
+                compression,
+                begun,
+                next,
+                elements,
+                characters,
+            );
+        };
+        commons.push(sink, state, compression, element)?;
+    }
+    commons.close(tertiary, form.form().identical, sink, state, characters)
 }
 
 /// Writes all levels of a key of this form.
@@ -68,12 +147,18 @@ fn write_in_form<F: WrittenForm, S: CollationKeySink, C: PrimaryCompression, H: 
         (key_bytes c f (level_lists c.reorder f (H.handled_left elements.old) characters.now))
         result sink.new state.new }
 {
+    let mut known = *compression;
+    if let Some(tertiary) = tertiary_of_three(form.form()) {
+        return write_three_levels(
+            alloc, form, tertiary, sink, state, &mut known, elements, characters,
+        );
+    }
     let mut writer = KeyWriter::begin(alloc, form);
     write_elements(
         form,
         sink,
         state,
-        compression,
+        &mut known,
         &mut writer,
         elements,
         characters,

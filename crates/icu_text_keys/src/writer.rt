@@ -1,8 +1,11 @@
 //! The writer of a key, which is fed the elements of a text one at a time.
 
-ghost use Rattle.std.specs.Prelude.{◌≡◌, ◌<◌, ℕ, List, [], ◌∷◌};
+ghost use Rattle.std.specs.Prelude.{◌≡◌, ◌<◌, ℕ, List, [], ◌∷◌, IfSome};
 ghost use Rattle.icu_levels.specs.Keys.{key_bytes};
 ghost use Rattle.icu_levels.specs.Primaries.{Compression};
+ghost use Rattle.icu_levels.specs.Secondaries.{secondary_level};
+ghost use Rattle.icu_levels.specs.Tertiaries.{tertiary_level};
+ghost use Rattle.icu_keys.specs.HeldRests.{held_secondaries, held_tertiaries};
 ghost use Rattle.icu_entries.specs.Elements.{Element};
 ghost use Rattle.icu_keys.specs.KeyWrites.{KeyWrites, KeyFeeds};
 ghost use Rattle.icu_keys.specs.WriterRests.{primary_rest};
@@ -22,7 +25,7 @@ use std::alloc::Global;
 /// Writes the primary of an element, where it has one. An error is the sink's own.
 #[inline(always)]
 #[tactic(auto, unfolding(icu_weighting::specs::Levels::weights))]
-fn push_primary<S: CollationKeySink, C: PrimaryCompression>(
+pub(crate) fn push_primary<S: CollationKeySink, C: PrimaryCompression>(
     writer: &mut PrimaryWriter,
     sink: &mut S,
     state: &mut S::State,
@@ -69,6 +72,28 @@ impl KeyWriter {
         KeyWriter {
             primaries: PrimaryWriter::new(),
             levels: CountedLevels::new(alloc, form),
+        }
+    }
+
+    /// The writer of a key of which these primaries were written, of so many elements with common weights.
+    #[inline(always)]
+    pub(crate) fn after_commons<F: WrittenForm>(
+        alloc: Global,
+        form: &F,
+        primaries: PrimaryWriter,
+        commons: u32,
+    ) -> KeyWriter
+        ensures form { HasForm (F.form_written form.now) result.levels }
+        ensures primaries { result.primaries ≡ primaries }
+        ensures commons { result.levels.commons ≡ commons }
+        ensures secondaries { (ws : List ℕ) →
+            held_secondaries result.levels.levels.secondaries ws ≡ secondary_level ws }
+        ensures tertiaries { IfSome (F.form_written form.now).tertiary (λ t. (ws : List ℕ) →
+            held_tertiaries result.levels.levels.tertiaries ws ≡ tertiary_level t ws) }
+    {
+        KeyWriter {
+            primaries,
+            levels: CountedLevels::after_commons(alloc, form, commons),
         }
     }
 

@@ -29,8 +29,8 @@ abbrev pub of_element : DataTable → ReachableElementCondition → Violation
 of_element table condition = record { condition = conditions.Element condition; table = later table (table_of_element condition) }
 
 -- the first condition that an element fails
-unfoldable pub first_failing_element : CollatorTables → Element → Option ReachableElementCondition
-first_failing_element all x = find (λ condition. not (reachable_element_meets condition all x)) element_conditions
+unfoldable pub first_condition_failed : CollatorTables → Element → Option ReachableElementCondition
+first_condition_failed all x = find (λ condition. not (reachable_element_meets condition all x)) element_conditions
 
 -- reordering takes a primary weight to a lead byte from 03 to FE, and not to that of numbers
 abbrev pub is_taken_apart : CollatorTables → ℕ → Bool
@@ -46,11 +46,11 @@ HasEndsTogether all h = lead_byte (reorder all (h * 0x10000)) ≡ lead_byte (reo
 
 -- implicit weights fail none
 abbrev pub ImplicitPasses : CollatorTables → Type 0
-ImplicitPasses all = (c : ℕ) → first_failing_element all (of_primary (implicit_weight c)) ≡ None
+ImplicitPasses all = (c : ℕ) → first_condition_failed all (of_primary (implicit_weight c)) ≡ None
 
 -- no primary weight with this lead byte fails a condition on elements, where its second byte is from 04 to FE
 abbrev pub LeadPasses : CollatorTables → ℕ → Type 0
-LeadPasses all lead = (p : ℕ) → lead_byte p ≡ lead → IsTrue (has_second_byte p) → first_failing_element all (of_primary p) ≡ None
+LeadPasses all lead = (p : ℕ) → lead_byte p ≡ lead → IsTrue (has_second_byte p) → first_condition_failed all (of_primary p) ≡ None
 
 -- of the lead bytes that are marked, none does
 abbrev pub AreLeadsPassing : CollatorTables → List Bool → Type 0
@@ -58,7 +58,7 @@ AreLeadsPassing all leads = (lead : ℕ) → slice_index_or leads lead false ≡
 
 -- an element with this primary weight fails none of the conditions on primary weights
 abbrev pub PrimaryPasses : CollatorTables → ℕ → Type 0
-PrimaryPasses all p = (p ≡ 0) ⊎ (first_failing_element all (of_primary p) ≡ None)
+PrimaryPasses all p = (p ≡ 0) ⊎ (first_condition_failed all (of_primary p) ≡ None)
 
 -- a reordering takes all primary weights with a lead byte to one
 abbrev pub KeepsLeadTogether : Option Reordering → ℕ → Type 0
@@ -66,7 +66,7 @@ KeepsLeadTogether r b = (p q : ℕ) → lead_byte p ≡ b → lead_byte q ≡ b 
 
 -- the first condition that an element of a table fails, as a violation
 abbrev pub element_violation : CollatorTables → DataTable → Element → Option Violation
-element_violation all table x = option_map (of_element table) (first_failing_element all x)
+element_violation all table x = option_map (of_element table) (first_condition_failed all x)
 
 -- the first violation so far, after one element more
 abbrev pub after_element : CollatorTables → DataTable → Option Violation → Element → Option Violation

@@ -11,7 +11,7 @@ ghost use Rattle.icu_collation_data.specs.StoredData.{data_of};
 ghost use Rattle.icu_collation_data.specs.Walks.{EachOfBlock};
 ghost use Rattle.icu_provider.specs.CollatorTables.{CollatorTables};
 ghost use Rattle.icu_provider.specs.TableSets.{tables_in};
-ghost use Rattle.icu_checks.specs.inner.EntryViolations.{first_failing_element, element_violation, after_element, judged_element, elements_violation, mappings_violation, entry_violation, is_taken_apart, HasEndsApart, HasEndsTogether, ImplicitPasses, KeepsLeadTogether, LeadPasses, AreLeadsPassing, PrimaryPasses};
+ghost use Rattle.icu_checks.specs.inner.EntryViolations.{first_condition_failed, element_violation, after_element, judged_element, elements_violation, mappings_violation, entry_violation, is_taken_apart, HasEndsApart, HasEndsTogether, ImplicitPasses, KeepsLeadTogether, LeadPasses, AreLeadsPassing, PrimaryPasses};
 
 use crate::check::element_conditions::{IMPLICIT_LEAD, has_second_byte};
 use crate::check::lead_conditions::numeric_lead;
@@ -29,12 +29,12 @@ use std::convert::Infallible;
 
 /// The first condition that an element fails, in the order in which an error names them.
 #[inline(always)]
-#[tactic(auto, unfolding(crate::specs::inner::EntryViolations::first_failing_element))]
-fn first_failing_element(
+#[tactic(auto, unfolding(crate::specs::inner::EntryViolations::first_condition_failed))]
+fn first_condition_failed(
     tables: TableSet<'_>,
     element: CollationElement,
 ) -> Option<ReachableElementCondition>
-    ensures { result ≡ first_failing_element (tables_in tables.entry) element }
+    ensures { result ≡ first_condition_failed (tables_in tables.entry) element }
 {
     if !ReachableElementCondition::Width.holds(tables, element) {
         Some(ReachableElementCondition::Width)
@@ -65,7 +65,7 @@ pub(crate) fn element_violation(
 ) -> Option<Violation>
     ensures { result ≡ element_violation (tables_in tables.entry) table element }
 {
-    match first_failing_element(tables, element) {
+    match first_condition_failed(tables, element) {
         Some(condition) => Some(Violation {
             condition: Condition::Element(condition),
             table: later(table, condition.table()),
@@ -96,7 +96,7 @@ fn takes_whole(tables: TableSet<'_>, lead: u8) -> bool
 #[tactic(auto, using(crate::proofs::RunLemmas::between_passes))]
 fn passes_between(tables: TableSet<'_>, least: u32, greatest: u32) -> bool
     ensures { result ≡ true → (p : ℕ) → least ≤ p → p ≤ greatest
-        → first_failing_element (tables_in tables.entry) (of_primary p) ≡ None }
+        → first_condition_failed (tables_in tables.entry) (of_primary p) ≡ None }
 {
     if least == 0 || least % 256 != 0 || lead_byte(least) != lead_byte(greatest) {
         return false;
@@ -104,9 +104,9 @@ fn passes_between(tables: TableSet<'_>, least: u32, greatest: u32) -> bool
     if !takes_whole(tables, lead_byte(least)) {
         return false;
     }
-    match first_failing_element(tables, CollationElement::new_from_primary(least)) {
+    match first_condition_failed(tables, CollationElement::new_from_primary(least)) {
         Some(_) => false,
-        None => match first_failing_element(tables, CollationElement::new_from_primary(greatest)) {
+        None => match first_condition_failed(tables, CollationElement::new_from_primary(greatest)) {
             Some(_) => false,
             None => true,
         },
@@ -254,10 +254,10 @@ impl<'d> TablesJudge<'d> {
     }
 
     /// Whether an element fails no condition, as far as its lead byte shows it. `false` leaves that open.
-    #[tactic(auto, using(crate::proofs::PassingLemmas::passes_by_primary))]
+    #[tactic(auto, using(crate::proofs::PassingLeadLemmas::passes_by_primary))]
     fn passes_element(&self, element: CollationElement) -> bool
         ensures { result ≡ true
-            → first_failing_element (tables_in self.now.tables) element ≡ None }
+            → first_condition_failed (tables_in self.now.tables) element ≡ None }
     {
         ReachableElementCondition::Width.holds(self.tables, element)
             && ReachableElementCondition::BackwardLead.holds(self.tables, element)
@@ -267,7 +267,7 @@ impl<'d> TablesJudge<'d> {
 
     /// Whether an entry spells an element that fails no condition, as far as its lead byte shows it. `false` leaves
     /// that open.
-    #[tactic(auto, using(crate::proofs::PassingLemmas::spelled_passes))]
+    #[tactic(auto, using(crate::proofs::PassingLeadLemmas::spelled_passes))]
     fn passes_spelled(&self, entry: CollationElement32) -> bool
         ensures { result ≡ true → (home : Data) (c : ℕ) → first_failing home c entry ≡ None
             → entry_violation (tables_in self.now.tables) self.now.table home c entry ≡ None }
@@ -314,7 +314,7 @@ fn implicit_ends_apart(tables: TableSet<'_>, c: char) -> bool
 fn implicit_between_passes(tables: TableSet<'_>, first: char, last: char) -> bool
     requires { last ≡ first + 63 }
     ensures { result ≡ true → EachOfBlock first (λ c.
-        first_failing_element (tables_in tables.entry) (of_primary (implicit_weight c)) ≡ None) }
+        first_condition_failed (tables_in tables.entry) (of_primary (implicit_weight c)) ≡ None) }
 {
     numeric_lead(tables);
     let low = implicit_ends_apart(tables, first);
@@ -325,7 +325,7 @@ fn implicit_between_passes(tables: TableSet<'_>, first: char, last: char) -> boo
 /// Whether the implicit weights of the 64 characters from one on meet every condition on elements.
 fn implicit_run_passes(tables: TableSet<'_>, first: char) -> bool
     ensures { result ≡ true → EachOfBlock first (λ c.
-        first_failing_element (tables_in tables.entry) (of_primary (implicit_weight c)) ≡ None) }
+        first_condition_failed (tables_in tables.entry) (of_primary (implicit_weight c)) ≡ None) }
 {
     match char::from_u32(first as u32 + 63) {
         Some(last) => implicit_between_passes(tables, first, last),
@@ -347,8 +347,8 @@ fn has_ends_together(tables: TableSet<'_>, high: u16) -> bool
 fn implicit_between_is_alike(tables: TableSet<'_>, first: char, last: char) -> bool
     requires { last ≡ first + 63 }
     ensures { result ≡ true → EachOfBlock first (λ c.
-        first_failing_element (tables_in tables.entry) (of_primary (implicit_weight c))
-        ≡ first_failing_element (tables_in tables.entry) (of_primary (implicit_weight first))) }
+        first_condition_failed (tables_in tables.entry) (of_primary (implicit_weight c))
+        ≡ first_condition_failed (tables_in tables.entry) (of_primary (implicit_weight first))) }
 {
     let high = implicit_high(first);
     if implicit_high(last) != high {
@@ -360,8 +360,8 @@ fn implicit_between_is_alike(tables: TableSet<'_>, first: char, last: char) -> b
 /// Whether the implicit weights of the 64 characters from one on first fail the same condition on elements, or none.
 fn implicit_run_is_alike(tables: TableSet<'_>, first: char) -> bool
     ensures { result ≡ true → EachOfBlock first (λ c.
-        first_failing_element (tables_in tables.entry) (of_primary (implicit_weight c))
-        ≡ first_failing_element (tables_in tables.entry) (of_primary (implicit_weight first))) }
+        first_condition_failed (tables_in tables.entry) (of_primary (implicit_weight c))
+        ≡ first_condition_failed (tables_in tables.entry) (of_primary (implicit_weight first))) }
 {
     match char::from_u32(first as u32 + 63) {
         Some(last) => implicit_between_is_alike(tables, first, last),

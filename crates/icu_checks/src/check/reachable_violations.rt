@@ -62,7 +62,7 @@ fn tailoring_violation(
 }
 
 /// The first violation of what is reachable with one of the conjoining jamo.
-#[tactic(auto, using(crate::proofs::PassingLemmas::no_leads))]
+#[tactic(auto, using(crate::proofs::PassingLeadLemmas::no_leads))]
 fn violation_of_jamo(
     tables: TableSet<'_>,
     place: usize,

@@ -1,4 +1,4 @@
-use Rattle.std.proofs.Common.{length}
+use Rattle.std.proofs.Common.{◌≡◌, length}
 use Rattle.std.specs.List.{AllByRecursion}
 use Rattle.icu_keys.proofs.Writing.{Owes}
 use Rattle.icu_weighting.specs.HandledSources.{HasCase}
@@ -8,11 +8,12 @@ use Rattle.icu_text_keys.proofs.whole_key.write_elements.Given as goal
 -- what the elements that are left give is still owed
 abbrev pub invariant-writing : goal.invariant-writing
 invariant-writing g l = record {
+  known : g.C.PrimaryCompression.compression l.compression ≡ g.C.PrimaryCompression.compression l.fn.compression;
   sound : g.S.CollationKeySink.is_sound l.sink l.state;
   form : HasForm (g.F.WrittenForm.form_written l.form) l.writer.levels;
   cases : AllByRecursion HasCase (g.H.HandledSource.handled_left l.elements);
-  owes : Owes g.S.CollationKeySink.effects l.fn.sink l.fn.state (key_rest (g.C.PrimaryCompression.compression l.compression) (g.F.WrittenForm.form_written l.form) l.fn.writer l.characters (g.H.HandledSource.handled_left l.fn.elements))
-      (key_rest (g.C.PrimaryCompression.compression l.compression) (g.F.WrittenForm.form_written l.form) l.writer l.characters (g.H.HandledSource.handled_left l.elements)) l.sink l.state;
+  owes : Owes g.S.CollationKeySink.effects l.fn.sink l.fn.state (key_rest (g.C.PrimaryCompression.compression l.fn.compression) (g.F.WrittenForm.form_written l.form) l.fn.writer l.characters (g.H.HandledSource.handled_left l.fn.elements))
+      (key_rest (g.C.PrimaryCompression.compression l.fn.compression) (g.F.WrittenForm.form_written l.form) l.writer l.characters (g.H.HandledSource.handled_left l.elements)) l.sink l.state;
 }
 
 abbrev pub decreases-writing : goal.decreases-writing

@@ -1,5 +1,5 @@
 use Rattle.std.proofs.Common.{◌*◌, ◌+◌, ◌≤◌, arith}
-use Rattle.icu_checks.proofs.PassingLemmas.{lies_from, lies_to}
+use Rattle.icu_checks.proofs.PassingLeadLemmas.{lies_from, lies_to}
 use Rattle.icu_checks.proofs.check.entry_judge.lead_passes.Goals as goal
 
 pub returns : goal.returns

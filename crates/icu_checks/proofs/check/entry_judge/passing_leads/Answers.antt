@@ -2,7 +2,7 @@ use Rattle.std.proofs.Common.{rules, ◌≡◌, ◌<◌, true, length, refl, ari
 use Rattle.std.proofs.lemmas.List.{length-set}
 use Rattle.icu_provider.specs.TableSets.{tables_in}
 use Rattle.icu_checks.specs.inner.EntryViolations.{LeadPasses}
-use Rattle.icu_checks.proofs.PassingLemmas.{no_leads, one_lead_more}
+use Rattle.icu_checks.proofs.PassingLeadLemmas.{no_leads, one_lead_more}
 use Rattle.icu_checks.proofs.check.entry_judge.passing_leads.Goals as goal
 
 pub loop-lead-init : goal.loop-lead-init

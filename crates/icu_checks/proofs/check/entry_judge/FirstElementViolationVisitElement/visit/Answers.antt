@@ -1,6 +1,6 @@
 use Rattle.std.proofs.Common.{sym}
 use Rattle.icu_provider.specs.TableSets.{tables_in}
-use Rattle.icu_checks.proofs.PassingLemmas.{judged_passing}
+use Rattle.icu_checks.proofs.PassingLeadLemmas.{judged_passing}
 use Rattle.icu_checks.proofs.check.entry_judge.FirstElementViolationVisitElement.visit.Goals as goal
 
 pub returns-then-passes_element : goal.returns-then-passes_element

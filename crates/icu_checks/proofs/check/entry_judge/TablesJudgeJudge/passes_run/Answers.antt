@@ -9,7 +9,7 @@ use Rattle.icu_collation_data.specs.ReachableConditions.{first_failing}
 use Rattle.icu_collation_data.proofs.ViolationLemmas.{passes_meets}
 use Rattle.icu_provider.specs.CollatorTables.{CollatorTables}
 use Rattle.icu_provider.specs.TableSets.{tables_in}
-use Rattle.icu_checks.specs.inner.EntryViolations.{first_failing_element}
+use Rattle.icu_checks.specs.inner.EntryViolations.{first_condition_failed}
 use Rattle.icu_checks.proofs.ImplicitLemmas.{implicit_no_violation}
 use Rattle.icu_checks.proofs.RunLemmas.{GivesBetween, gives_between, offset_no_violation}
 use Rattle.icu_checks.proofs.check.entry_judge.TablesJudgeJudge.passes_run.Goals as goal
@@ -52,5 +52,5 @@ returns-in-Offset-Some c passes char low below =
     gives_between home c.args.entry c.args.first c.in-Offset-Some.last char _ _ is (λ other from to. passes_meets home other c.args.entry (c.passes_run.ensures ran other from (omega arith)) Offsets) c.ce_from_offset_ce32.ensures.value c.ce_from_offset_ce32-in-Offset-Some.ensures.value low (omega arith) in
     let above : c.primary-least.result ≤ gives.weight = subst (λ n. n ≤ gives.weight) (sym c.primary-least.ensures) gives.low in
     let under : gives.weight ≤ c.primary-greatest.result = subst (λ n. gives.weight ≤ n) (sym c.primary-greatest.ensures) gives.high in
-    let none : first_failing_element all (of_primary gives.weight) ≡ None = c.passes_between.ensures passes gives.weight above under in
+    let none : first_condition_failed all (of_primary gives.weight) ≡ None = c.passes_between.ensures passes gives.weight above under in
     offset_no_violation all c.args.self.now.table home char c.args.entry gives.weight is own gives.given none

@@ -22,7 +22,7 @@ use Rattle.icu_checks.specs.declared.condition.ReachableElementCondition.TheVari
 use Rattle.icu_checks.specs.declared.violation.Violation.{Violation}
 use Rattle.icu_checks.specs.ElementConditions.{has_second_byte, reachable_element_meets, element_conditions}
 use Rattle.icu_checks.specs.inner.Violations.{violation_rank}
-use Rattle.icu_checks.specs.inner.EntryViolations.{first_failing_element, judged_element, entry_violation, LeadPasses, AreLeadsPassing, PrimaryPasses}
+use Rattle.icu_checks.specs.inner.EntryViolations.{first_condition_failed, judged_element, entry_violation, LeadPasses, AreLeadsPassing, PrimaryPasses}
 use Rattle.icu_checks.proofs.EntryViolationLemmas.{passes_element, without_own}
 
 -- ---- which lead bytes are marked
@@ -80,8 +80,8 @@ module _ (all : CollatorTables) (x : Element) (width : IsTrue (reachable_element
   each (inr none) SharedLead = passes_element all (of_primary x.primary) none SharedLead
   each (inr none) SecondByte = passes_element all (of_primary x.primary) none SecondByte
 
-  pub passes_by_primary : PrimaryPasses all x.primary → first_failing_element all x ≡ None
-  unfolding first_failing_element
+  pub passes_by_primary : PrimaryPasses all x.primary → first_condition_failed all x ≡ None
+  unfolding first_condition_failed
   passes_by_primary p = none_found (λ condition. not (reachable_element_meets condition all x)) (λ condition. negated (reachable_element_meets condition all x) (each p condition)) element_conditions
 
 nothing_later : (best : Option Violation) → earlier violation_rank best None ≡ best
@@ -90,7 +90,7 @@ nothing_later None = refl
 nothing_later (Some f) = refl
 
 -- an element that passes changes no first violation
-pub judged_passing : (all : CollatorTables) (table : DataTable) (best : Option Violation) (x : Element) → first_failing_element all x ≡ None → judged_element ((all, table), best) x ≡ ((all, table), best)
+pub judged_passing : (all : CollatorTables) (table : DataTable) (best : Option Violation) (x : Element) → first_condition_failed all x ≡ None → judged_element ((all, table), best) x ≡ ((all, table), best)
 judged_passing all table best x none = rw none (ap (λ f. ((all, table), f)) (nothing_later best))
 
 -- ---- entries that spell their element
@@ -110,7 +110,7 @@ gives_at home c e LongSecondary is h = rw (is, final_elements) refl
 gives_at home c e _ is h = cc
 
 -- one whose element passes has no violation, where it fails nothing by itself
-pub spelled_passes : (all : CollatorTables) (table : DataTable) (home : Data) (c e : ℕ) (x : Element) → is_self_contained e ≡ true → self_contained e ≡ x ∷ [] → first_failing_element all x ≡ None → first_failing home c e ≡ None
+pub spelled_passes : (all : CollatorTables) (table : DataTable) (home : Data) (c e : ℕ) (x : Element) → is_self_contained e ≡ true → self_contained e ≡ x ∷ [] → first_condition_failed all x ≡ None → first_failing home c e ≡ None
     → entry_violation all table home c e ≡ None
 unfolding is_self_contained earlier
 spelled_passes all table home c e x is gives none own =

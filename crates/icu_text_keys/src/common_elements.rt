@@ -1,0 +1,166 @@
+//! The beginning of a key, as long as elements have common weights beside their primaries.
+
+ghost use Rattle.std.specs.Prelude.{◌≡◌, ◌<◌, ℕ, Bool, List, [], ◌∷◌, replicate, IfSome};
+ghost use Rattle.icu_levels.specs.Keys.{closed, key_bytes, part_bytes};
+ghost use Rattle.icu_levels.specs.Primaries.{Compression};
+ghost use Rattle.icu_levels.specs.Secondaries.{secondary_level};
+ghost use Rattle.icu_levels.specs.Tertiaries.{tertiary_level, tertiary_runs};
+ghost use Rattle.icu_levels.specs.declared.forms.TertiaryForm.{TertiaryForm};
+ghost use Rattle.icu_keys.specs.KeyWrites.{KeyWrites, KeyFeeds};
+ghost use Rattle.icu_weighting.specs.Handled.{HandledElement, stayed};
+ghost use Rattle.icu_weighting.specs.HandledSources.{handled_as};
+ghost use Rattle.icu_weighting.specs.Levels.{level_lists};
+
+use crate::counted_levels::is_common;
+use crate::writer::{KeyWriter, push_primary};
+use crate::written_form::WrittenForm;
+use crate::written_levels::write_identical;
+use icu_entries::CollationElement;
+use icu_keys::common_levels::{write_common_secondaries, write_common_tertiaries};
+use icu_keys::primaries::{PrimaryCompression, PrimaryWriter};
+use icu_keys::{CollationKeySink, SortKeyError};
+use icu_levels::forms::TertiaryForm;
+use icu_weighting::Handled;
+use std::alloc::Global;
+
+/// Writes a secondary level of so many common weights.
+#[inline(always)]
+fn write_secondaries<S: CollationKeySink>(
+    count: u32,
+    sink: &mut S,
+    state: &mut S::State,
+) -> Result<(), SortKeyError<S::Error>>
+    requires { S.is_sound sink.old state.old }
+    ensures sound { S.is_sound sink.new state.new }
+    ensures bytes { KeyWrites S.effects sink.old state.old
+        (part_bytes (closed (secondary_level (replicate count 0x500)))) result sink.new state.new }
+{
+    match write_common_secondaries(sink, state, count) {
+        Ok(()) => Ok(()),
+        Err(error) => Err(SortKeyError::Sink(error)),
+    }
+}
+
+/// Writes a tertiary level of so many common weights of its form.
+#[inline(always)]
+fn write_tertiaries<S: CollationKeySink>(
+    count: u32,
+    form: TertiaryForm,
+    sink: &mut S,
+    state: &mut S::State,
+) -> Result<(), SortKeyError<S::Error>>
+    requires { S.is_sound sink.old state.old }
+    ensures sound { S.is_sound sink.new state.new }
+    ensures bytes { KeyWrites S.effects sink.old state.old
+        (part_bytes (closed (tertiary_level form (replicate count (tertiary_runs form).common))))
+        result sink.new state.new }
+{
+    match write_common_tertiaries(form, sink, state, count) {
+        Ok(()) => Ok(()),
+        Err(error) => Err(SortKeyError::Sink(error)),
+    }
+}
+
+/// Elements of a key of three levels that all had common weights, beside their primaries: these are written, and the
+/// elements are counted. No level is held as long as this goes on, which is mostly to the end of a text.
+#[derive(Clone, Copy, Drop)]
+pub(crate) struct CommonElements {
+    primaries: PrimaryWriter,
+    count: u32,
+}
+
+impl CommonElements {
+    ghost use Rattle.icu_text_keys.specs.CommonRests.{common_rest};
+    ghost use Rattle.icu_text_keys.specs.UsualForms.{form_of_three};
+    ghost use Rattle.icu_text_keys.specs.KeyRests.{key_rest, HasForm};
+
+    /// No element, with nothing written.
+    #[inline(always)]
+    pub(crate) fn new() -> CommonElements
+        ensures { (c : Compression) (t : TertiaryForm) (identical : Bool) (cs : List ℕ)
+            (hs : List HandledElement) → common_rest c t identical result cs hs
+            ≡ key_bytes c (form_of_three t identical)
+            (level_lists c.reorder (form_of_three t identical) hs cs) }
+    {
+        CommonElements {
+            primaries: PrimaryWriter::new(),
+            count: 0,
+        }
+    }
+
+    /// The next element, where it stayed and has common weights beside its primary, and can be counted.
+    #[inline(always)]
+    pub(crate) fn takes(&self, element: &Handled) -> Option<CollationElement>
+        ensures stayed { IfSome result (λ e. handled_as element.now ≡ stayed e) }
+        ensures common { IfSome result (λ e. (e.secondary ≡ 0x500) × (e.lower ≡ 0x500)) }
+        ensures few { IfSome result (λ _. self.now.count < u32.MAX) }
+    {
+        match *element {
+            Handled::Stayed(element) if is_common(element) && self.count < u32::MAX => {
+                Some(element)
+            }
+            _ => None,
+        }
+    }
+
+    /// Writes the primary of an element that has common weights beside it, and counts it. After an error, discard them.
+    #[inline(always)]
+    pub(crate) fn push<S: CollationKeySink, C: PrimaryCompression>(
+        &mut self,
+        sink: &mut S,
+        state: &mut S::State,
+        compression: &C,
+        element: CollationElement,
+    ) -> Result<(), SortKeyError<S::Error>>
+        requires sound { S.is_sound sink.old state.old }
+        requires common { (element.secondary ≡ 0x500) × (element.lower ≡ 0x500) }
+        requires few { self.old.count < u32.MAX }
+        ensures sound { S.is_sound sink.new state.new }
+        ensures bytes { (t : TertiaryForm) (identical : Bool) (cs : List ℕ) →
+            KeyFeeds S.effects sink.old state.old
+            (λ (hs : List HandledElement). common_rest (C.compression compression.now) t identical
+            self.old cs (stayed element ∷ hs))
+            (common_rest (C.compression compression.now) t identical self.new cs)
+            result sink.new state.new }
+    {
+        if let Err(error) = push_primary(&mut self.primaries, sink, state, compression, element) {
+            return Err(SortKeyError::Sink(error));
+        }
+        self.count += 1;
+        Ok(())
+    }
+
+    /// A writer of all levels, which goes on from here.
+    #[inline(always)]
+    pub(crate) fn with_levels<F: WrittenForm>(&self, alloc: Global, form: &F) -> KeyWriter
+        ensures form { HasForm (F.form_written form.now) result.levels }
+        ensures goes_on { (t : TertiaryForm) →
+            F.form_written form.now ≡ form_of_three t (F.form_written form.now).identical →
+            (c : Compression) (cs : List ℕ) (hs : List HandledElement) →
+            key_rest c (F.form_written form.now) result cs hs
+            ≡ common_rest c t (F.form_written form.now).identical self.now cs hs }
+    {
+        KeyWriter::after_commons(alloc, form, self.primaries, self.count)
+    }
+
+    /// Writes the rest of the key, where no element is left, given all characters of the decomposed text.
+    #[inline(always)]
+    pub(crate) fn close<S: CollationKeySink>(
+        &self,
+        tertiary: TertiaryForm,
+        identical: bool,
+        sink: &mut S,
+        state: &mut S::State,
+        characters: &[char],
+    ) -> Result<(), SortKeyError<S::Error>>
+        requires { S.is_sound sink.old state.old }
+        ensures sound { S.is_sound sink.new state.new }
+        ensures bytes { (c : Compression) → KeyWrites S.effects sink.old state.old
+            (common_rest c tertiary identical self.now characters.now [])
+            result sink.new state.new }
+    {
+        write_secondaries(self.count, sink, state)?;
+        write_tertiaries(self.count, tertiary, sink, state)?;
+        write_identical(identical, sink, state, characters)
+    }
+}
