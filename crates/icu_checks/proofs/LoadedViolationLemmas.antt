@@ -1,5 +1,5 @@
 -- The violations of all that is reachable by one table, as tables are returned.
-use Rattle.std.proofs.Common.{◌≡◌, ◌⊎◌, ℕ, ◌+◌, ◌-◌, ◌<◌, false, true, Option, Some, None, IfSome, IsTrue, slice_index, length, refl, sym, ap, ◌∙◌, subst, arith, inl, inr, option_map}
+use Rattle.std.proofs.Common.{◌≡◌, ◌⊎◌, ℕ, ◌+◌, ◌-◌, ◌<◌, false, true, Option, Some, None, Result, Ok, Err, IfOk, IfSome, IsTrue, slice_index, length, refl, sym, ap, ◌∙◌, subst, arith, inl, inr, option_map}
 use Rattle.std.proofs.lemmas.Bool.{cases_eq}
 use Rattle.std.proofs.lemmas.Bool.Decides.{nat_tests}
 use Rattle.std.specs.List.{AllByRecursion}
@@ -11,7 +11,7 @@ use Rattle.icu_provider.specs.Diacritics.{is_replaced_index}
 use Rattle.icu_entries.specs.Elements.{Element, of_secondary}
 use Rattle.icu_collation_data.specs.StoredData.{data_of}
 use Rattle.icu_provider.specs.StoredTables.{jamo_of, diacritics_of}
-use Rattle.icu_collation_data.specs.Violations.{IsViolationAmong, IsReachableViolation}
+use Rattle.icu_collation_data.specs.Violations.{IsFreeOf, IsViolationAmong, IsReachableViolation}
 use Rattle.icu_collation_data.proofs.ViolationLemmas.{weaker_some, not_before, earlier-none}
 use Rattle.icu_checks.specs.declared.condition.ReachableElementCondition.{ReachableElementCondition}
 use Rattle.icu_checks.specs.declared.violation.Violation.{Violation}
@@ -21,19 +21,20 @@ use Rattle.icu_collation_data.specs.Violations.{earlier}
 use Rattle.icu_checks.specs.inner.Violations.{violation_rank, IsTrueViolation}
 use Rattle.icu_checks.specs.ElementConditions.{reachable_element_meets}
 use Rattle.icu_checks.specs.inner.EntryViolations.{of_element, element_violation, entry_violation, JamoPasses, DiacriticMeets, MeetsIn}
+use Rattle.icu_checks.specs.inner.PairViolations.{IsOutcome}
 use Rattle.icu_checks.proofs.EntryViolationLemmas.{passes_element, element_true}
 use Rattle.icu_checks.proofs.ReachableViolationLemmas.{root_meets, jamo_meets, tailoring_meets, no_tailoring_meets, root_true, jamo_true, tailoring_true}
 
 module _ (s : TableSet) where
-  pub loaded_root : EachReachable (λ c e. entry_violation (tables_in s) Root (data_of s.root) c e ≡ None) false (data_of s.root) → MeetsIn Root (tables_in s)
+  loaded_root : EachReachable (λ c e. entry_violation (tables_in s) Root (data_of s.root) c e ≡ None) false (data_of s.root) → MeetsIn Root (tables_in s)
   unfolding tables_in
   loaded_root each = root_meets (tables_in s) each
 
-  pub loaded_root_true : (o : Option Violation) → IfSome o (λ f. (None ≡ Some f) ⊎ IsReachableViolation (entry_violation (tables_in s) Root) false (data_of s.root) f) → IfSome o (IsTrueViolation (tables_in s))
+  loaded_root_true : (o : Option Violation) → IfSome o (IsReachableViolation (entry_violation (tables_in s) Root) false (data_of s.root)) → IfSome o (IsTrueViolation (tables_in s))
   unfolding tables_in
-  loaded_root_true o h = weaker_some _ (IsTrueViolation (tables_in s)) (λ f found. root_true (tables_in s) f (not_before f _ found)) o h
+  loaded_root_true o h = weaker_some _ (IsTrueViolation (tables_in s)) (λ f found. root_true (tables_in s) f found) o h
 
-  pub loaded_tailoring : (t : CollationData) → s.tailoring ≡ Some t → EachReachable (λ c e. entry_violation (tables_in s) Tailoring (data_of t) c e ≡ None) true (data_of t) → MeetsIn Tailoring (tables_in s)
+  loaded_tailoring : (t : CollationData) → s.tailoring ≡ Some t → EachReachable (λ c e. entry_violation (tables_in s) Tailoring (data_of t) c e ≡ None) true (data_of t) → MeetsIn Tailoring (tables_in s)
   unfolding tables_in
   loaded_tailoring t is each = tailoring_meets (tables_in s) (data_of t) (subst (λ o. option_map data_of o ≡ Some (data_of t)) (sym is) refl) each
 
@@ -41,10 +42,10 @@ module _ (s : TableSet) where
   unfolding tables_in
   loaded_no_tailoring is = no_tailoring_meets (tables_in s) (subst (λ o. option_map data_of o ≡ None) (sym is) refl)
 
-  pub loaded_tailoring_true : (t : CollationData) → s.tailoring ≡ Some t → (o : Option Violation) → IfSome o (λ f. (None ≡ Some f) ⊎ IsReachableViolation (entry_violation (tables_in s) Tailoring) true (data_of t) f) → IfSome o (IsTrueViolation (tables_in s))
+  loaded_tailoring_true : (t : CollationData) → s.tailoring ≡ Some t → (o : Option Violation) → IfSome o (IsReachableViolation (entry_violation (tables_in s) Tailoring) true (data_of t)) → IfSome o (IsTrueViolation (tables_in s))
   unfolding tables_in
   loaded_tailoring_true t is o h =
-      weaker_some _ (IsTrueViolation (tables_in s)) (λ f found. tailoring_true (tables_in s) (data_of t) (subst (λ o. option_map data_of o ≡ Some (data_of t)) (sym is) refl) f (not_before f _ found)) o h
+      weaker_some _ (IsTrueViolation (tables_in s)) (λ f found. tailoring_true (tables_in s) (data_of t) (subst (λ o. option_map data_of o ≡ Some (data_of t)) (sym is) refl) f found) o h
 
   pub loaded_jamo : ((c : ℕ) → IsTrue (is_jamo c) → AllByRecursion (λ e. entry_violation (tables_in s) Jamo (data_of s.root) c e ≡ None) (reachable_from (data_of s.root) (slice_index (jamo_of s.jamo) (c - 0x1100)))) → MeetsIn Jamo (tables_in s)
   unfolding tables_in
@@ -86,6 +87,17 @@ module _ (s : TableSet) where
       loaded_jamo_true (0x1100 + i) (char_jamo i inside) o
       (subst (λ d. IfSome o (λ f. (None ≡ Some f) ⊎ IsViolationAmong (entry_violation (tables_in s) Jamo) (data_of s.root) d (reachable_from (data_of s.root) (slice_index (jamo_of s.jamo) (0x1100 + i - 0x1100))) f)) at
       (subst (λ e. IfSome o (λ f. (None ≡ Some f) ⊎ IsViolationAmong (entry_violation (tables_in s) Jamo) (data_of s.root) c (reachable_from (data_of s.root) e) f)) (is ∙ sym there) h))
+
+  -- what a walk that may fail finds of the root, and of a tailoring
+  pub root_outcome : {E : Type 0} (r : Result (Option Violation) E) → IfOk r (λ found. found ≡ None → IsFreeOf (entry_violation (tables_in s) Root) false (data_of s.root))
+      → IfOk r (λ found. IfSome found (IsReachableViolation (entry_violation (tables_in s) Root) false (data_of s.root))) → IfOk r (IsOutcome (tables_in s) (MeetsIn Root (tables_in s)))
+  root_outcome (Ok found) none some = record { none = λ h. loaded_root (none h); some = loaded_root_true found some }
+  root_outcome (Err e) none some = tt
+
+  pub tailoring_outcome : {E : Type 0} (t : CollationData) → s.tailoring ≡ Some t → (r : Result (Option Violation) E) → IfOk r (λ found. found ≡ None → IsFreeOf (entry_violation (tables_in s) Tailoring) true (data_of t))
+      → IfOk r (λ found. IfSome found (IsReachableViolation (entry_violation (tables_in s) Tailoring) true (data_of t))) → IfOk r (IsOutcome (tables_in s) (MeetsIn Tailoring (tables_in s)))
+  tailoring_outcome t is (Ok found) none some = record { none = λ h. loaded_tailoring t is (none h); some = loaded_tailoring_true t is found some }
+  tailoring_outcome t is (Err e) none some = tt
 
 -- ---- the elements of diacritics
 

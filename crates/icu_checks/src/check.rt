@@ -9,6 +9,7 @@ ghost use Rattle.icu_checks.specs.WellFormedTables.{HasAscendingContexts, IsReor
 ghost use Rattle.icu_checks.specs.LeadConditions.{LeadMeets};
 ghost use Rattle.icu_checks.specs.inner.PairViolations.{IsOutcome};
 ghost use Rattle.icu_checks.specs.inner.Checks.{LeadsMeet, PairsMeet};
+ghost use Rattle.icu_checks.specs.inner.ListedWeights.{HoldsEach};
 
 mod collecting;
 pub(crate) mod element_conditions;
@@ -25,7 +26,7 @@ mod reachable_violations;
 pub(crate) mod tertiary_violations;
 pub(crate) mod weights;
 
-use crate::check::listed_weights::listed_weights;
+use crate::check::listed_weights::ListedWeights;
 use crate::check::overlap_violations::level_violation;
 use crate::check::primary_violations::primary_violation;
 use crate::check::reachable_violations::reachable_violation;
@@ -93,12 +94,16 @@ fn count_violation(tables: TableSet<'_>) -> Option<Violation>
     }
 }
 
-/// The first violation of pairs of reachable elements.
-fn pairs_violation(alloc: Global, tables: TableSet<'_>) -> Result<Option<Violation>, AllocError>
+/// The first violation of pairs of reachable elements, whose weights are listed.
+fn pairs_violation(
+    alloc: Global,
+    tables: TableSet<'_>,
+    lists: &ListedWeights,
+) -> Result<Option<Violation>, AllocError>
+    requires { HoldsEach (tables_in tables).tables lists.now }
     ensures { IfOk result (IsOutcome (tables_in tables.entry)
         (PairsMeet (tables_in tables.entry))) }
 {
-    let lists = listed_weights(alloc, tables)?;
     let tertiary_element = tertiary_violation(
         alloc,
         tables,
@@ -156,7 +161,8 @@ pub(crate) fn first_violation(
         return Ok(Some(violation));
     }
     show_tables(tables);
-    let reachable = reachable_violation(tables);
-    let pairs = pairs_violation(alloc, tables)?;
+    let mut lists = ListedWeights::new(alloc);
+    let reachable = reachable_violation(tables, &mut lists)?;
+    let pairs = pairs_violation(alloc, tables, &lists)?;
     Ok(earlier(earlier(reachable, leads_violation(tables)), pairs))
 }

@@ -210,10 +210,16 @@ impl<'w, W: Weigh, H: HoldWeights> Visit for Collector<'w, W, H> {
         _first: char,
         entry: CollationElement32,
     ) -> bool {
-        if self.weigh.weighs_primaries() {
-            return false;
+        match entry.kind() {
+            EntryKind::Implicit => true,
+            EntryKind::Offset => {
+                if self.weigh.weighs_primaries() {
+                    return false;
+                }
+                goes_by_character(entry)
+            }
+            _ => false,
         }
-        goes_by_character(entry)
     }
 
     fn visit_run(

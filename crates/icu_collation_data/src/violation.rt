@@ -13,6 +13,7 @@ use crate::data::CollationData;
 use crate::walk::{Visit, visit_from};
 use icu_entries::{CollationElement32, EntryKind};
 use std::convert::Infallible;
+use std::marker::PhantomData;
 
 /// A violation that has a rank among all that may be reported.
 pub trait Ranked: Copy {
@@ -92,15 +93,20 @@ pub fn earlier<F: Ranked>(best: Option<F>, found: Option<F>) -> Option<F>
     }
 }
 
-/// A visitor that keeps the violation that comes first.
+/// A visitor that keeps the violation that comes first. It never ends the walk: the error is that of a visitor that one
+/// walk serves beside it.
 #[derive(Drop)]
-struct FirstViolation<'j, J: Judge> {
-    judge: &'j J,
-    first: Option<J::Violation>,
+pub struct FirstViolation<'j, J: Judge, E> {
+    /// What finds the violation of an entry.
+    pub judge: &'j J,
+    /// The first violation so far.
+    pub first: Option<J::Violation>,
+    /// Why the other visitor ends the walk.
+    pub error: PhantomData<E>,
 }
 
-impl<'j, J: Judge> Visit for FirstViolation<'j, J> {
-    type Error = Infallible;
+impl<'j, J: Judge, E> Visit for FirstViolation<'j, J, E> {
+    type Error = E;
 
     ghost Seen = { J × Option J.Violation };
 
@@ -113,7 +119,7 @@ impl<'j, J: Judge> Visit for FirstViolation<'j, J> {
         home: CollationData<'_>,
         c: char,
         entry: CollationElement32,
-    ) -> Result<(), Infallible> {
+    ) -> Result<(), E> {
         self.first = earlier(self.first, self.judge.violation(home, c, entry));
         Ok(())
     }
@@ -131,7 +137,7 @@ impl<'j, J: Judge> Visit for FirstViolation<'j, J> {
         home: CollationData<'_>,
         first: char,
         entry: CollationElement32,
-    ) -> Result<bool, Infallible> {
+    ) -> Result<bool, E> {
         if !self.judge.is_alike_run(home, first, entry) {
             return Ok(false);
         }
@@ -157,7 +163,11 @@ pub fn first_violation<J: Judge>(
         (data_of home.entry) f) }
 {
     judge.is_alike();
-    let mut visitor = FirstViolation { judge, first };
+    let mut visitor: FirstViolation<'_, J, Infallible> = FirstViolation {
+        judge,
+        first,
+        error: PhantomData,
+    };
     match visit_chars(&mut visitor, home, falls_back) {
         Ok(()) => visitor.first,
         Err(never) => match never {},
@@ -183,7 +193,11 @@ pub fn first_violation_from<J: Judge>(
         × IsFirstAmong J.Violation.rank (J.violation judge.now) (data_of home.entry) c
         (reachable_from (data_of home.entry) entry) f) }
 {
-    let mut visitor = FirstViolation { judge, first };
+    let mut visitor: FirstViolation<'_, J, Infallible> = FirstViolation {
+        judge,
+        first,
+        error: PhantomData,
+    };
     match visit_from(&mut visitor, home, c, entry) {
         Ok(()) => visitor.first,
         Err(never) => match never {},

@@ -1,11 +1,12 @@
-//! The weights that are compared with one another, all lists on one walk over a table.
-ghost use Rattle.std.specs.Prelude.{◌≡◌, [], IfOk, OnOk};
+//! The weights that are compared with one another: all lists, and what a judge finds, on one walk over a table.
+ghost use Rattle.std.specs.Prelude.{◌≡◌, [], IfOk, IfSome, None, OnOk};
 ghost use Rattle.icu_collation_data.specs.CollectedWeights.{IsReachableWeight};
 ghost use Rattle.icu_collation_data.specs.StoredData.{data_of};
+ghost use Rattle.icu_collation_data.specs.Violations.{IsFreeOf, IsReachableViolation};
 ghost use Rattle.icu_provider.specs.TableSets.{tables_in};
 ghost use Rattle.icu_weights.specs.WeightSets.{weights_of_set};
 ghost use Rattle.icu_checks.specs.inner.ComparedWeights.{compared_weight, Adds};
-ghost use Rattle.icu_checks.specs.inner.ListedWeights.{HasNone, AddsEach, HoldsEach};
+ghost use Rattle.icu_checks.specs.inner.ListedWeights.{HasNone, AddsEach};
 
 use crate::check::collecting::collect;
 use crate::check::weights::WeightList;
@@ -13,10 +14,12 @@ use icu_collation_data::CollationData;
 use icu_collation_data::block_walk::visit_chars;
 use icu_collation_data::both::Both;
 use icu_collation_data::reachable_weights::Collector;
+use icu_collation_data::violation::{FirstViolation, Judge};
 use icu_entries::DataTable;
 use icu_provider::TableSet;
 use icu_weights::weight_set::WeightSet;
 use std::alloc::{AllocError, Global};
+use std::marker::PhantomData;
 
 /// The weights that are compared with one another, list by list. Those of levels are sets, as there may be millions of
 /// primary weights.
@@ -31,7 +34,7 @@ pub(crate) struct ListedWeights {
 
 impl ListedWeights {
     /// No weights so far.
-    fn new(alloc: Global) -> ListedWeights
+    pub(crate) fn new(alloc: Global) -> ListedWeights
         ensures { HasNone result }
     {
         ListedWeights {
@@ -44,13 +47,18 @@ impl ListedWeights {
     }
 }
 
-/// Adds the weights of all that is reachable in a root or a tailoring, by one walk: of ideographs the primary weights
-/// alone.
-fn collect_home(
+/// The first violation of all that is reachable in a root or a tailoring, with its weights added to the lists, by one
+/// walk: of ideographs the primary weights alone.
+pub(crate) fn home_violation<J: Judge>(
+    judge: &J,
     lists: &mut ListedWeights,
     home: CollationData<'_>,
     falls_back: bool,
-) -> Result<(), AllocError>
+) -> Result<Option<J::Violation>, AllocError>
+    ensures none { IfOk result (λ found. found ≡ None
+        → IsFreeOf (J.violation judge.now) falls_back (data_of home.entry)) }
+    ensures some { IfOk result (λ found. IfSome found
+        (IsReachableViolation (J.violation judge.now) falls_back (data_of home.entry))) }
     ensures primaries { OnOk result (Adds
         (IsReachableWeight (compared_weight WeightList.Primaries) falls_back (data_of home.entry))
         (weights_of_set lists.old.primaries) (weights_of_set lists.new.primaries)) }
@@ -69,52 +77,43 @@ fn collect_home(
         (data_of home.entry))
         lists.old.with_secondary.items lists.new.with_secondary.items) }
 {
+    judge.is_alike();
     let primaries = Collector::over(&WeightList::Primaries, &mut lists.primaries);
     let secondaries = Collector::over(&WeightList::Secondaries, &mut lists.secondaries);
     let tertiaries = Collector::over(&WeightList::Tertiaries, &mut lists.tertiaries);
     let alone = Collector::over(&WeightList::TertiaryElements, &mut lists.tertiary_elements);
     let beside = Collector::over(&WeightList::WithSecondary, &mut lists.with_secondary);
     let mut visitor = Both {
-        first: primaries,
-        second: Both {
-            first: Both {
-                first: secondaries,
-                second: tertiaries,
-            },
+        first: Both {
+            first: primaries,
             second: Both {
-                first: alone,
-                second: beside,
+                first: Both {
+                    first: secondaries,
+                    second: tertiaries,
+                },
+                second: Both {
+                    first: alone,
+                    second: beside,
+                },
             },
         },
+        second: FirstViolation {
+            judge,
+            first: None,
+            error: PhantomData,
+        },
     };
-    let outcome = visit_chars(&mut visitor, home, falls_back);
-    lists.primaries = visitor.first.weights;
-    lists.secondaries = visitor.second.first.first.weights;
-    lists.tertiaries = visitor.second.first.second.weights;
-    lists.tertiary_elements = visitor.second.second.first.weights;
-    lists.with_secondary = visitor.second.second.second.weights;
-    outcome
-}
-
-fn collect_root(tables: TableSet<'_>, lists: &mut ListedWeights) -> Result<(), AllocError>
-    ensures { OnOk result (AddsEach DataTable.Root (tables_in tables.entry).tables
-        lists.old lists.new) }
-{
-    collect_home(lists, tables.root, false)
-}
-
-fn collect_tailoring(tables: TableSet<'_>, lists: &mut ListedWeights) -> Result<(), AllocError>
-    ensures { OnOk result (AddsEach DataTable.Tailoring (tables_in tables.entry).tables
-        lists.old lists.new) }
-{
-    match tables.tailoring {
-        Some(tailoring) => collect_home(lists, tailoring, true),
-        None => Ok(()),
-    }
+    visit_chars(&mut visitor, home, falls_back)?;
+    lists.primaries = visitor.first.first.weights;
+    lists.secondaries = visitor.first.second.first.first.weights;
+    lists.tertiaries = visitor.first.second.first.second.weights;
+    lists.tertiary_elements = visitor.first.second.second.first.weights;
+    lists.with_secondary = visitor.first.second.second.second.weights;
+    Ok(visitor.second.first)
 }
 
 /// Adds the weights of what is reachable by a table, one list after another: for tables without a walk.
-fn collect_each(
+pub(crate) fn collect_each(
     tables: TableSet<'_>,
     table: DataTable,
     lists: &mut ListedWeights,
@@ -141,19 +140,4 @@ fn collect_each(
         table,
         &mut lists.with_secondary,
     )
-}
-
-/// All weights of all tables.
-pub(crate) fn listed_weights(
-    alloc: Global,
-    tables: TableSet<'_>,
-) -> Result<ListedWeights, AllocError>
-    ensures { IfOk result (HoldsEach (tables_in tables.entry).tables) }
-{
-    let mut lists = ListedWeights::new(alloc);
-    collect_root(tables, &mut lists)?;
-    collect_each(tables, DataTable::Jamo, &mut lists)?;
-    collect_tailoring(tables, &mut lists)?;
-    collect_each(tables, DataTable::Diacritics, &mut lists)?;
-    Ok(lists)
 }

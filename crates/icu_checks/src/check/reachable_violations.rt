@@ -1,21 +1,32 @@
-//! The first violation of all that is reachable in a collator's tables.
-ghost use Rattle.std.specs.Prelude.{◌≡◌, ◌+◌, ◌<◌, None, Some, IfSome, slice_index, length};
+//! The first violation of all that is reachable in a collator's tables, and the weights that are compared with one
+//! another.
+ghost use Rattle.std.specs.Prelude.{◌≡◌, ◌+◌, ◌<◌, None, Some, IfSome, IfOk, OnOk, slice_index, length};
 ghost use Rattle.icu_provider.specs.StoredTables.{jamo_of, diacritics_of};
 ghost use Rattle.icu_provider.specs.TableSets.{tables_in};
 ghost use Rattle.icu_checks.specs.inner.Violations.{IsTrueViolation};
 ghost use Rattle.icu_checks.specs.inner.EntryViolations.{JamoPasses, MeetsIn, DiacriticMeets, ReachableMeets};
+ghost use Rattle.icu_checks.specs.inner.ListedWeights.{HasNone, AddsEach, HoldsEach};
+ghost use Rattle.icu_checks.specs.inner.PairViolations.{IsOutcome};
 
 use crate::check::entry_judge::{TablesJudge, element_violation, implicit_passes, passing_leads};
+use crate::check::listed_weights::{ListedWeights, collect_each, home_violation};
 use crate::check::lookups::jamo_char;
 use crate::violation::Violation;
-use icu_collation_data::violation::{earlier, first_violation, first_violation_from};
+use icu_collation_data::violation::{earlier, first_violation_from};
 use icu_entries::{CollationElement, CollationElement32, DataTable};
 use icu_provider::TableSet;
 use icu_provider::diacritics::is_replaced_index;
+use std::alloc::AllocError;
 
-fn root_violation(tables: TableSet<'_>) -> Option<Violation>
-    ensures none { result ≡ None → MeetsIn DataTable.Root (tables_in tables.entry) }
-    ensures some { IfSome result (IsTrueViolation (tables_in tables.entry)) }
+/// The first violation of what is reachable by the root, with its weights added to the lists.
+fn root_violation(
+    tables: TableSet<'_>,
+    lists: &mut ListedWeights,
+) -> Result<Option<Violation>, AllocError>
+    ensures outcome { IfOk result (IsOutcome (tables_in tables.entry)
+        (MeetsIn DataTable.Root (tables_in tables.entry))) }
+    ensures adds { OnOk result (AddsEach DataTable.Root (tables_in tables.entry).tables
+        lists.old lists.new) }
 {
     let judge = TablesJudge {
         tables,
@@ -23,12 +34,18 @@ fn root_violation(tables: TableSet<'_>) -> Option<Violation>
         implicit_passes: implicit_passes(tables),
         leads: passing_leads(tables),
     };
-    first_violation(&judge, None, tables.root, false)
+    home_violation(&judge, lists, tables.root, false)
 }
 
-fn tailoring_violation(tables: TableSet<'_>) -> Option<Violation>
-    ensures none { result ≡ None → MeetsIn DataTable.Tailoring (tables_in tables.entry) }
-    ensures some { IfSome result (IsTrueViolation (tables_in tables.entry)) }
+/// The first violation of what is reachable by the tailoring, with its weights added to the lists.
+fn tailoring_violation(
+    tables: TableSet<'_>,
+    lists: &mut ListedWeights,
+) -> Result<Option<Violation>, AllocError>
+    ensures outcome { IfOk result (IsOutcome (tables_in tables.entry)
+        (MeetsIn DataTable.Tailoring (tables_in tables.entry))) }
+    ensures adds { OnOk result (AddsEach DataTable.Tailoring (tables_in tables.entry).tables
+        lists.old lists.new) }
 {
     match tables.tailoring {
         Some(tailoring) => {
@@ -38,9 +55,9 @@ fn tailoring_violation(tables: TableSet<'_>) -> Option<Violation>
                 implicit_passes: implicit_passes(tables),
                 leads: passing_leads(tables),
             };
-            first_violation(&judge, None, tailoring, true)
+            home_violation(&judge, lists, tailoring, true)
         }
-        None => None,
+        None => Ok(None),
     }
 }
 
@@ -110,12 +127,21 @@ fn diacritics_violation(tables: TableSet<'_>) -> Option<Violation>
     first
 }
 
-/// The first violation of all that is reachable.
-pub(crate) fn reachable_violation(tables: TableSet<'_>) -> Option<Violation>
-    ensures none { result ≡ None → ReachableMeets (tables_in tables.entry) }
-    ensures some { IfSome result (IsTrueViolation (tables_in tables.entry)) }
+/// The first violation of all that is reachable, with the weights of all tables added to the lists, which hold none.
+pub(crate) fn reachable_violation(
+    tables: TableSet<'_>,
+    lists: &mut ListedWeights,
+) -> Result<Option<Violation>, AllocError>
+    requires { HasNone lists.old }
+    ensures outcome { IfOk result (IsOutcome (tables_in tables.entry)
+        (ReachableMeets (tables_in tables.entry))) }
+    ensures lists { OnOk result (HoldsEach (tables_in tables.entry).tables lists.new) }
 {
-    let of_root = earlier(root_violation(tables), jamo_violation(tables));
-    let of_others = earlier(tailoring_violation(tables), diacritics_violation(tables));
-    earlier(of_root, of_others)
+    let root = root_violation(tables, lists)?;
+    collect_each(tables, DataTable::Jamo, lists)?;
+    let tailoring = tailoring_violation(tables, lists)?;
+    collect_each(tables, DataTable::Diacritics, lists)?;
+    let of_root = earlier(root, jamo_violation(tables));
+    let of_others = earlier(tailoring, diacritics_violation(tables));
+    Ok(earlier(of_root, of_others))
 }

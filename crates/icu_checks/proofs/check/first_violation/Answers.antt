@@ -12,6 +12,6 @@ returns c =
           let both = both_none _ _ _ c.earlier-2.ensures h in
           let first = both_none _ _ _ c.earlier.ensures both.0 in
           well_formed_tables (tables_in c.args.tables) c.show_tables.ensures (c.count_violation.ensures.none c.in_default.is)
-          (c.reachable_violation-reachable.ensures.none first.0) (c.leads_violation.ensures.none first.1) (c.in_ok-pairs.ensures.none both.1);
-      some = either_true T _ _ _ c.earlier-2.ensures (either_true T _ _ _ c.earlier.ensures c.reachable_violation-reachable.ensures.some c.leads_violation.ensures.some) c.in_ok-pairs.ensures.some;
+          (c.in_ok-reachable.ensures.outcome.none first.0) (c.leads_violation.ensures.none first.1) (c.in_ok-pairs.ensures.none both.1);
+      some = either_true T _ _ _ c.earlier-2.ensures (either_true T _ _ _ c.earlier.ensures c.in_ok-reachable.ensures.outcome.some c.leads_violation.ensures.some) c.in_ok-pairs.ensures.some;
     }
