@@ -41,8 +41,8 @@ FILES = "`test_table_files`, where no allocation is refused"
 INDEXES = "the program `collate-index`, whose writes are stopped in turn"
 NAMES = "the program `sort_names`, each of whose requests is refused"
 SEARCHES = "`test_text_search`, where no allocation is refused"
-# Calls that nothing makes: those on which no program stands yet (searching, the reader of steps), and one that hands tables
-# which come one by one to `from_set`.
+# Calls that nothing makes: one on which no program stands yet (a look at the step that comes), and one that hands tables which come
+# one by one to `from_set`.
 NOTHING = "nothing"
 # The crate and the name of a call, behind its type where it has one, and the question of the driver that comes to it, or what else
 # makes it.
@@ -76,7 +76,7 @@ LEFT_OUT = {
     ("icu_locale_rules", "rules_of_collation"): PROGRAM,
     ("icu_locale_rules", "with_backward"): PROGRAM,
     ("icu_locale_rules", "with_reordering"): PROGRAM,
-    ("icu_indexed_text", "IndexedText::from_str"): SEARCHES,
+    ("icu_indexed_text", "IndexedText::from_str"): PROGRAM,
     ("icu_indexed_text", "IndexedText::new"): SEARCHES,
     ("icu_indexed_text", "IndexedText::part"): SEARCHES,
     ("icu_indexed_text", "grapheme_bounds"): SEARCHES,
@@ -96,10 +96,10 @@ LEFT_OUT = {
     ("icu_small_tables", "checked_small_tables"): TYPES,
     ("icu_script_reordering", "script_order"): TAILORINGS,
     ("icu_script_reordering", "script_reordering"): TAILORINGS,
-    ("icu_search", "FoundSpans::next"): NOTHING,
-    ("icu_search", "first_least"): SEARCHES,
-    ("icu_searcher", "PlaceReader::next"): SEARCHES,
-    ("icu_searcher", "place_marks"): NOTHING,
+    ("icu_search", "FoundSpans::next"): PROGRAM,
+    ("icu_search", "first_least"): PROGRAM,
+    ("icu_searcher", "PlaceReader::next"): PROGRAM,
+    ("icu_searcher", "place_marks"): SEARCHES,
     ("icu_sort", "stable_order"): NAMES,
     ("keyed_lines", "LineKeys::push"): PROGRAM,
     ("keyed_lines", "lines_by"): PROGRAM,
@@ -157,7 +157,7 @@ LEFT_OUT = {
     ("icu_tailored_entries", "tailored_diacritics"): TAILORINGS,
     ("icu_tailored_entries", "tailored_jamo"): PROGRAM,
     ("icu_tailoring_numbers", "TailoringNumbers::of_tree"): TAILORINGS,
-    ("icu_text_search", "FoundMatches::next"): SEARCHES,
+    ("icu_text_search", "FoundMatches::next"): PROGRAM,
     ("icu_text_search", "OverlappingMatches::next"): SEARCHES,
     ("icu_text_search", "SearchedText::find"): SEARCHES,
     ("icu_text_search", "SearchedText::find_at"): SEARCHES,
@@ -171,7 +171,7 @@ LEFT_OUT = {
     ("icu_text_search", "Searcher::is_match_latin1"): SEARCHES,
     ("icu_text_search", "Searcher::is_match_utf16"): SEARCHES,
     ("icu_text_search", "Searcher::is_match_utf8"): SEARCHES,
-    ("icu_text_search", "Searcher::new"): SEARCHES,
+    ("icu_text_search", "Searcher::new"): PROGRAM,
     ("icu_text_search", "Searcher::new_latin1"): SEARCHES,
     ("icu_text_search", "Searcher::new_utf16"): SEARCHES,
     ("icu_text_search", "Searcher::new_utf8"): SEARCHES,
@@ -179,14 +179,14 @@ LEFT_OUT = {
     ("icu_text_search", "Searcher::prefix_match_latin1"): SEARCHES,
     ("icu_text_search", "Searcher::prefix_match_utf16"): SEARCHES,
     ("icu_text_search", "Searcher::prefix_match_utf8"): SEARCHES,
-    ("icu_text_search", "Searcher::read"): SEARCHES,
+    ("icu_text_search", "Searcher::read"): PROGRAM,
     ("icu_weight_gaps", "weights_between"): RULES,
     ("icu_weight_numbers", "number_level"): RULES,
     ("icu_weight_numbers", "number_primaries"): RULES,
     ("icu_weight_numbers", "number_runs"): RULES,
     ("icu_weight_numbers", "primary_gaps_of_runs"): RULES,
     ("icu_weight_numbers", "sibling_runs"): RULES,
-    ("icu_text_search", "Searcher::read_by"): SEARCHES,
+    ("icu_text_search", "Searcher::read_by"): PROGRAM,
     ("icu_text_search", "Searcher::read_latin1"): SEARCHES,
     ("icu_text_search", "Searcher::read_utf16"): SEARCHES,
     ("icu_text_search", "Searcher::read_utf8"): SEARCHES,
@@ -209,7 +209,7 @@ LEFT_OUT = {
     ("icu_weights", "first_set_overlap"): CHECK,
     ("icu_weights", "set_compresses_alike"): CHECK,
     ("icu_elements", "ElementReader::next"): "`cursor`",
-    ("icu_elements", "StepReader::next"): NOTHING,
+    ("icu_elements", "StepReader::next"): PROGRAM,
     ("icu_elements", "StepReader::peek"): NOTHING,
     ("icu_elements", "decomposed_text"): KEY,
     ("icu_matches", "ClassedText::push"): READ,
