@@ -10,7 +10,7 @@ use Rattle.icu_checks.specs.inner.ComparedWeights.{compared_weight}
 use Rattle.icu_checks.proofs.check.listed_weights.home_violation.Goals as goal
 
 -- a walk that ended well
-walked : Result ⊤ ⊤
+abbrev walked : Result (Unit {0}) (Unit {0})
 walked = Ok tt
 
 pub returns-clause-none : goal.returns-clause-none
