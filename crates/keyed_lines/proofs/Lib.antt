@@ -3,6 +3,7 @@ pub mod InputLineLemmas
 pub mod KeyBufferLemmas
 pub mod LineOrderLemmas
 pub mod MappedOrderLemmas
+pub mod CutLineLemmas
 pub mod SecondPlaceLemmas
 pub mod LinePlaceLemmas
 pub mod FrontOrderLemmas

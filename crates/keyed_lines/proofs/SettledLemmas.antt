@@ -1,11 +1,14 @@
 -- Runs of places that are settled one behind another.
-use Rattle.std.proofs.Common.{◌≡◌, ◌≢◌, ℕ, ◌<◌, Bool, false, List, [], ◌∷◌, ◌++◌, append-nil, append_assoc, drop, filter, length, map, take, refl, sym, ap, ◌∙◌, arith, subst}
+use Rattle.std.proofs.Common.{◌≡◌, ◌≢◌, ℕ, ◌+◌, ◌<◌, Bool, false, List, [], ◌∷◌, ◌++◌, append-nil, append_assoc, drop, filter, length, length-drop, map, take, refl, sym, ap, ◌∙◌, arith, subst}
+use Rattle.std.proofs.Math.Seq.{drop-drop}
 use Rattle.std.proofs.lemmas.List.Elements.{filter-append}
 use Rattle.std.proofs.lemmas.List.Sorted.{IsPermutation-append, IsPermutation-map, IsPermutation-refl, ranks_by}
+use Rattle.std.proofs.lemmas.Slice.{drop-put_mid, take-put_mid}
 use Rattle.std.specs.Cmp.{IsStrictWeakOrder}
 use Rattle.std.specs.List.{AllByRecursion}
 use Rattle.std.specs.List.Sorted.{IsPermutation, IsSorted, IsStable, ties}
 use Rattle.std.specs.Ordering.{is_lt}
+use borrow.Rule.Slice.PartMut.{put_mid}
 use Rattle.keyed_lines.proofs.FrontOrderLemmas.{apart_behind, front_total, stands_behind}
 use Rattle.keyed_lines.proofs.LineOrderLemmas.{keyed_total}
 use Rattle.keyed_lines.proofs.LinePlaceLemmas.{second_order}
@@ -160,6 +163,18 @@ module _ (k : KeyedLines) (o : LineOrder) where
       (subst (λ m. AllByRecursion (λ p. p.front ≡ f) (take m rest)) (sym e) (are_alike f rest))
       (run_has_some n rest long some)
       (subst (λ m. StartsOtherwise f (drop m rest)) (sym e) (starts_otherwise f rest)) s
+
+  -- a run more, which stands where it stood
+  pub run_in_place : (places now ys : List LinePlace) (done n m size : ℕ) → n ≡ first_run (drop done now) → done < length now
+      → m ≡ done + n → size ≡ n → length ys ≡ n → LeftToSettle places (take done now) (drop done now) → Settles k o (take n (drop done now)) ys
+      → LeftToSettle places (take m (put_mid done size now ys)) (drop m (put_mid done size now ys))
+  run_in_place places now ys done n m size e some at long len h s =
+      let more = run_more places (take done now) (drop done now) ys n e (omega (arith, length-drop done now)) h s in
+      let front : take m (put_mid done size now ys) ≡ take done now ++ ys = take-put_mid done size now ys m (omega arith) (omega arith) in
+      let back : drop m (put_mid done size now ys) ≡ drop n (drop done now) =
+      drop-put_mid done size now ys m (omega arith) (omega arith) (omega arith) ∙ (ap (λ i. drop i now) at ∙ sym (drop-drop n done now)) in
+      subst (λ (ps : List LinePlace). LeftToSettle places ps (drop m (put_mid done size now ys))) (sym front)
+      (subst (λ (ps : List LinePlace). LeftToSettle places (take done now ++ ys) ps) (sym back) more)
 
   both_hold : (f : ℕ) (ps : List LinePlace) → AllByRecursion (IsLinePlace k) ps → AllByRecursion (λ p. p.front ≡ f) ps → AllByRecursion (IsPlaceOfRun k f) ps
   both_hold f [] h g = tt

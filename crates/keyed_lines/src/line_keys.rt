@@ -27,7 +27,7 @@ pub struct LineKeys {
 }
 
 impl LineKeys {
-    ghost use Rattle.keyed_lines.specs.KeyBuffers.{keys_in};
+    ghost use Rattle.keyed_lines.specs.KeyBuffers.{keys_cut, keys_in};
 
     /// No keys. Does not allocate.
     pub fn new(alloc: Global) -> LineKeys
@@ -38,6 +38,14 @@ impl LineKeys {
             bytes: Vec::new(alloc),
             ends: Vec::new(alloc),
         }
+    }
+
+    /// Keys that stand one behind another in a buffer, by where each ends.
+    pub fn of(alloc: Global, bytes: Vec<u8>, ends: Vec<usize>) -> LineKeys
+        requires { ascends_to 0 ends.items (length bytes.items) ≡ true }
+        ensures { keys_in result ≡ keys_cut 0 ends.items bytes.items }
+    {
+        LineKeys { alloc, bytes, ends }
     }
 
     /// Puts a copy of a key behind the others.

@@ -1,6 +1,6 @@
 //! Places of lines, and their order.
 
-ghost use Rattle.std.specs.Prelude.{◌≡◌, OnErr, OnOk};
+ghost use Rattle.std.specs.Prelude.{◌≡◌, length, OnErr, OnOk};
 ghost use Rattle.std.specs.List.Sorted.{IsPermutation, IsSorted, IsStable};
 ghost use Rattle.keyed_lines.specs.KeyedOrders.{with_ties};
 ghost use Rattle.keyed_lines.specs.inner.PlaceOrders.{bytes_of_places, front_order, keys_of_places, place_order};
@@ -107,6 +107,7 @@ pub(crate) fn sort_places(
     ensures permutation { IsPermutation places.old.items places.new.items }
     ensures sorted { OnOk result (IsSorted (place_order keyed.now order) places.new.items) }
     ensures stable { IsStable (place_order keyed.now order) places.old.items places.new.items }
+    ensures len { length places.new.items ≡ length places.old.items }
     ensures err { OnErr result (places.new.items ≡ places.old.items) }
 {
     places.sort_by(

@@ -1,11 +1,10 @@
 //! Places that begin alike, sorted by what stands behind.
 
-ghost use Rattle.std.specs.Prelude.{◌≡◌, ◌++◌, ◌≤◌, ℕ, List, IfOk, OnOk, length, map};
+ghost use Rattle.std.specs.Prelude.{◌≡◌, ◌≤◌, ℕ, OnOk, length, map};
 ghost use Rattle.std.specs.List.{AllByRecursion};
 ghost use Rattle.std.specs.List.Sorted.{IsSorted};
 ghost use Rattle.keyed_lines.specs.inner.PlaceOrders.{IsLinePlace, front_order};
 ghost use Rattle.keyed_lines.specs.inner.SettledPlaces.{IsPlaceOfRun, Settles, first_alike, first_run, second_place};
-ghost use Rattle.keyed_lines.specs.declared.line_places.LinePlace.{LinePlace as Place};
 
 use crate::key_front::{behind_front, key_front};
 use crate::keyed_lines::KeyedLines;
@@ -48,40 +47,40 @@ fn second_place(keyed: &KeyedLines<'_>, place: &LinePlace) -> LinePlace
     }
 }
 
-/// Places with the numbers of the second eight bytes.
-fn second_places(
-    alloc: Global,
+/// Puts the places with the numbers of the second eight bytes in a buffer, in place of what it had.
+fn fill_seconds(
     keyed: &KeyedLines<'_>,
     places: &[LinePlace],
-) -> Result<Vec<LinePlace>, AllocError>
-    ensures { IfOk result (λ seconds. seconds.items ≡ map (second_place keyed.now) places.now) }
+    seconds: &mut Vec<LinePlace>,
+) -> Result<(), AllocError>
+    ensures { OnOk result (seconds.new.items ≡ map (second_place keyed.now) places.now) }
 {
-    let mut seconds = Vec::with_capacity(alloc, places.len())?;
+    seconds.clear();
     for place in places {
         seconds.push(second_place(keyed, place))?;
     }
-    Ok(seconds)
+    Ok(())
 }
 
-/// Appends places that begin alike, sorted by the second eight bytes of their keys, and where these are alike by the
-/// keys.
+/// Sorts places that begin alike by the second eight bytes of their keys, and where these are alike by the keys. The
+/// buffer is overwritten.
 fn settle_run(
-    alloc: Global,
     keyed: &KeyedLines<'_>,
     order: LineOrder,
-    run: &[LinePlace],
-    settled: &mut Vec<LinePlace>,
+    run: &mut [LinePlace],
+    seconds: &mut Vec<LinePlace>,
 ) -> Result<(), AllocError>
-    requires { (f : ℕ) × AllByRecursion (IsPlaceOfRun keyed.now f) run.now }
-    ensures { OnOk result ((ys : List Place) × (settled.new.items ≡ settled.old.items ++ ys)
-        × Settles keyed.now order run.now ys) }
+    requires { (f : ℕ) × AllByRecursion (IsPlaceOfRun keyed.now f) run.old }
+    ensures settles { OnOk result (Settles keyed.now order run.old run.new) }
+    ensures len { length run.new ≡ length run.old }
 {
     if run.len() < 2 {
-        return settled.extend_from_slice(run);
+        return Ok(());
     }
-    let mut seconds = second_places(alloc, keyed, run)?;
-    sort_places(&mut seconds, keyed, order)?;
-    settled.extend_from_slice(seconds.as_slice())
+    fill_seconds(keyed, run, seconds)?;
+    sort_places(seconds, keyed, order)?;
+    run.copy_from_slice(seconds.as_slice());
+    Ok(())
 }
 
 /// So many places are looked at before they are settled.
@@ -112,47 +111,48 @@ fn ninth_bytes(keyed: &KeyedLines<'_>, places: &[LinePlace]) -> usize {
 }
 
 /// Before each batch of places looks at their keys. These are spread over the memory: reads that don't wait for one
-/// another bring many of them near at once. It makes room for a place, at most, by what was read, so that it is read
-/// indeed; a place to come takes that much. Returns up to where places were looked at.
+/// another bring many of them near at once. It makes room for a place in a buffer, at most, by what was read, so that
+/// it is read indeed; a run to come, which has two places or more, takes that much. Returns up to where places were
+/// looked at.
 fn look_ahead(
     keyed: &KeyedLines<'_>,
-    rest: &[LinePlace],
+    places: &[LinePlace],
+    done: usize,
     seen: usize,
-    settled: &mut Vec<LinePlace>,
-) -> Result<usize, AllocError>
-    ensures { settled.new.items ≡ settled.old.items }
-{
-    if settled.len() < seen {
+    seconds: &mut Vec<LinePlace>,
+) -> Result<usize, AllocError> {
+    if done < seen || done >= places.len() {
         return Ok(seen);
     }
-    let batch = &rest[..AHEAD.min(rest.len())];
-    settled.reserve(ninth_bytes(keyed, batch) & 1)?;
-    Ok(settled.len().saturating_add(AHEAD))
+    let end = done.saturating_add(AHEAD).min(places.len());
+    seconds.reserve(ninth_bytes(keyed, &places[done..end]) & 1)?;
+    Ok(end)
 }
 
-/// Places that are sorted by the numbers that their keys begin with, sorted by the keys, stably.
+/// Sorts places that are sorted by the numbers that their keys begin with by the keys, stably.
 ///
 /// # Errors
 ///
 /// Fails only where an allocation does.
-pub(crate) fn settled_places(
+pub(crate) fn settle_places(
     alloc: Global,
     keyed: &KeyedLines<'_>,
     order: LineOrder,
-    places: &[LinePlace],
-) -> Result<Vec<LinePlace>, AllocError>
-    requires right { AllByRecursion (IsLinePlace keyed.now) places.now }
-    requires fronts { IsSorted (front_order order.direction) places.now }
-    ensures { IfOk result (λ settled. Settles keyed.now order places.now settled.items) }
+    places: &mut [LinePlace],
+) -> Result<(), AllocError>
+    requires right { AllByRecursion (IsLinePlace keyed.now) places.old }
+    requires fronts { IsSorted (front_order order.direction) places.old }
+    ensures settles { OnOk result (Settles keyed.now order places.old places.new) }
+    ensures len { length places.new ≡ length places.old }
 {
-    let mut settled = Vec::with_capacity(alloc, places.len())?;
-    let mut rest = places;
+    let mut seconds = Vec::new(alloc);
+    let mut done = 0;
     let mut seen = 0;
-    'settling: while !rest.is_empty() {
-        seen = look_ahead(keyed, rest, seen, &mut settled)?;
-        let (run, behind) = rest.split_at(run_length(rest));
-        settle_run(alloc, keyed, order, run, &mut settled)?;
-        rest = behind;
+    'settling: while done < places.len() {
+        seen = look_ahead(keyed, places, done, seen, &mut seconds)?;
+        let end = done + run_length(&places[done..]);
+        settle_run(keyed, order, &mut places[done..end], &mut seconds)?;
+        done = end;
     }
-    Ok(settled)
+    Ok(())
 }

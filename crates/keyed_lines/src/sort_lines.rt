@@ -11,7 +11,7 @@ use crate::key_front::key_front;
 use crate::keyed_lines::KeyedLines;
 use crate::line_order::LineOrder;
 use crate::line_places::{LinePlace, sort_by_fronts};
-use crate::settled_places::settled_places;
+use crate::settled_places::settle_places;
 use std::alloc::{AllocError, Global};
 
 /// The places of lines with keys, one behind another.
@@ -49,5 +49,6 @@ pub(crate) fn sorted_places(
 {
     let mut places = places_of(alloc, keyed)?;
     sort_by_fronts(&mut places, order.direction)?;
-    settled_places(alloc, keyed, order, places.as_slice())
+    settle_places(alloc, keyed, order, places.as_mut_slice())?;
+    Ok(places)
 }

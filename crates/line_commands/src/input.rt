@@ -6,7 +6,6 @@ ghost use Rattle.collate_commands.specs.InputRead.{TakesWhole};
 ghost use Rattle.line_commands.specs.Inputs.{ended, ends_in};
 
 use collate_commands::{ProgramError, read_whole};
-use keyed_lines::push_line;
 use std::alloc::{AllocError, Global};
 use std::io::Read;
 
@@ -21,14 +20,26 @@ fn is_ended(bytes: &[u8], separator: u8) -> bool
     bytes[bytes.len() - 1] == separator
 }
 
-/// Appends bytes, and a separator where they don't end with one and are some.
-fn append_ended(input: &mut Vec<u8>, bytes: &[u8], separator: u8) -> Result<(), AllocError>
-    ensures { OnOk result (input.new.items ≡ input.old.items ++ ended separator bytes.now) }
+/// Puts a separator behind bytes where they don't end with one and are some.
+fn end_last(bytes: &mut Vec<u8>, separator: u8) -> Result<(), AllocError>
+    ensures { OnOk result (bytes.new.items ≡ ended separator bytes.old.items) }
 {
-    if is_ended(bytes, separator) {
-        return input.extend_from_slice(bytes);
+    if is_ended(bytes.as_slice(), separator) {
+        return Ok(());
     }
-    push_line(input, bytes, separator)
+    bytes.push(separator)?;
+    Ok(())
+}
+
+/// Appends bytes that are ended. Where nothing stands before them, their buffer is taken as it is.
+fn append_ended(input: &mut Vec<u8>, bytes: Vec<u8>) -> Result<(), AllocError>
+    ensures { OnOk result (input.new.items ≡ input.old.items ++ bytes.items) }
+{
+    if input.is_empty() {
+        *input = bytes;
+        return Ok(());
+    }
+    input.extend_from_slice(bytes.as_slice())
 }
 
 /// Reads an input to its end, and puts what it has behind what was read before: its last line is ended, so that the
@@ -44,7 +55,8 @@ pub fn append_input<R: Read>(
         × (input.new.items ≡ input.old.items ++ ended separator bytes)) }
     ensures error { IfErr result IsUnread }
 {
-    let bytes = read_whole(alloc, reader)?;
-    append_ended(input, bytes.as_slice(), separator)?;
+    let mut bytes = read_whole(alloc, reader)?;
+    end_last(&mut bytes, separator)?;
+    append_ended(input, bytes)?;
     Ok(())
 }

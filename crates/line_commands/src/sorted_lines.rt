@@ -1,8 +1,9 @@
 //! Lines, sorted by a collator.
 
-ghost use Rattle.std.specs.Prelude.{◌≡◌, ◌++◌, IfOk, OnOk, map};
+ghost use Rattle.std.specs.Prelude.{◌≡◌, [], ◌∷◌, ◌++◌, IfOk, OnOk, length, map, true};
 ghost use Rattle.icu_collator.specs.Collators.{collation_borrowed, collation_kept};
-ghost use Rattle.keyed_lines.specs.KeyBuffers.{keys_in};
+ghost use Rattle.keyed_lines.specs.KeyBuffers.{keys_cut, keys_in};
+ghost use Rattle.keyed_lines.specs.KeyParts.{ascends_to};
 ghost use Rattle.keyed_lines.specs.ShownLines.{shown_lines};
 ghost use Rattle.line_commands.specs.LineOrders.{key_of_line};
 ghost use Rattle.line_commands.specs.SortedInputs.{SortsInput};
@@ -30,6 +31,25 @@ pub fn write_line_key(
     }
 }
 
+/// Writes the sort key of a line behind those in a buffer, and notes where it ends.
+fn push_line_key(
+    collator: &CollatorBorrowed<'_>,
+    line: &[u8],
+    bytes: &mut Vec<u8>,
+    ends: &mut Vec<usize>,
+) -> Result<(), AllocError>
+    requires { ascends_to 0 ends.old.items (length bytes.old.items) ≡ true }
+    ensures ends { OnOk result (ascends_to 0 ends.new.items (length bytes.new.items) ≡ true) }
+    ensures keys { OnOk result (keys_cut 0 ends.new.items bytes.new.items
+        ≡ keys_cut 0 ends.old.items bytes.old.items
+        ++ key_of_line (collation_borrowed collator.now) line.now ∷ []) }
+{
+    write_line_key(collator, line, bytes)?;
+    let end = bytes.len();
+    ends.push(end)?;
+    Ok(())
+}
+
 /// The sort keys of lines.
 fn keys_of_lines(
     alloc: Global,
@@ -39,14 +59,12 @@ fn keys_of_lines(
     ensures { IfOk result (λ keys. keys_in keys
         ≡ map (key_of_line (collation_borrowed collator.now)) (shown_lines lines.now)) }
 {
-    let mut keys = LineKeys::new(alloc);
-    let mut key = Vec::new(alloc);
+    let mut bytes = Vec::new(alloc);
+    let mut ends = Vec::with_capacity(alloc, lines.len())?;
     for line in lines {
-        key.clear();
-        write_line_key(collator, line, &mut key)?;
-        keys.push(key.as_slice())?;
+        push_line_key(collator, line, &mut bytes, &mut ends)?;
     }
-    Ok(keys)
+    Ok(LineKeys::of(alloc, bytes, ends))
 }
 
 /// The lines of a text in order, as they are to be printed.
