@@ -36,7 +36,7 @@ fn run_rises<T: EncodedText>(tables: &CursorTables<'_>, class: u8, text: T) -> b
     ends_run(tables, text) || more_marks_rise(tables, class, text)
 }
 
-/// The same, out of line.
+/// Whether the classes of a run of marks rise from this one, as `run_rises` has it, out of line. False says nothing.
 #[inline(never)]
 fn marks_rise<T: EncodedText>(tables: &CursorTables<'_>, class: u8, text: T) -> bool
     ensures { IsTrue result → Rises class (T.text text) }
