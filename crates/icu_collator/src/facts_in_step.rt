@@ -136,24 +136,25 @@ fn order_apart<L: EncodedText, R: EncodedText>(
     if decided.is_some() {
         return decided;
     }
-    order_out_of_step(first, form, pair, left, right)
+    order_out_of_step(reordering, form, pair, left, right)
 }
 
 /// The order from elements on that aren't in step: the rest of the first level decides, or, where it ties, these
 /// elements on the secondary one.
 #[inline(never)]
 fn order_out_of_step<L: EncodedText, R: EncodedText>(
-    first: Level<'_>,
+    reordering: Option<CollationReordering<'_>>,
     form: TertiaryForm,
     pair: Pair,
     left: &mut FactsCursor<'_, '_, L>,
     right: &mut FactsCursor<'_, '_, R>,
 ) -> Option<Ordering>
     ensures { (b d : List ℕ) (third : Ordering) → IfSome result (λ o.
-        o ≡ three_order (three_levels first.entry form) third
+        o ≡ three_order (three_levels (Primary reordering.entry) form) third
         (from_first pair.0 (plain_left L.text left.old b))
         (from_first pair.1 (plain_left R.text right.old d))) }
 {
+    let first = Level::Primary(reordering);
     let decided = Level::Secondary.decide(&pair.0, &pair.1);
     let order = order_on_level(first, pair, left, right)?;
     if order == Ordering::Equal {

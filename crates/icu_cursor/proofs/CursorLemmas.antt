@@ -1,5 +1,5 @@
 -- What a cursor still gives, as it goes on.
-use Rattle.std.proofs.Common.{◌≡◌, ℕ, ◌≤◌, arith, List, [], ◌∷◌, ◌++◌, length, take, get_or, Option, Some, None, IfSome, refl, sym, ap, ◌∙◌, append_assoc}
+use Rattle.std.proofs.Common.{◌≡◌, ℕ, ◌≤◌, arith, List, [], ◌∷◌, ◌++◌, length, take, get_or, Option, Some, None, IfSome, refl, sym, ap, subst, ◌∙◌, append_assoc}
 use Rattle.std.specs.Prelude.{option_to_list}
 use Rattle.ucd_normal.specs.declared.forms.Form.TheVariants.{Nfd}
 use Rattle.unicode_normalization.specs.Decompose.{decompose}
@@ -31,6 +31,15 @@ first_alone (x ∷ xs) e d some is = ap (λ y. y ∷ []) (sym is)
 -- the first of a character's
 pub one_taken : (l : CharFacts) (e d : Element) → l.count ≡ 1 → 1 ≤ length l.elements → e ≡ get_or l.elements 0 d → char_elements l ≡ e ∷ []
 one_taken l e d one some is = ap (λ n. take n l.elements) one ∙ first_alone l.elements e d some is
+
+-- a character of one element that is read with the next one
+both_stand : (reading : Reading) (c x : ℕ) (e : Element) (es : List Element) (rest text : List ℕ) → StandsBefore reading c (e ∷ []) rest → rest ≡ x ∷ text → StandsBefore reading x es text
+    → (before : List ℕ) → elements_after reading before (nfd (c ∷ rest)) ≡ e ∷ (es ++ elements_after reading (context_after (context_after before (decompose Nfd c)) (decompose Nfd x)) (nfd text))
+both_stand reading c x e es rest text one goes other = λ before.
+    let mid = context_after before (decompose Nfd c) in
+    one before
+    ∙ ap (λ (t : List ℕ). e ∷ elements_after reading mid (nfd t)) goes
+    ∙ ap (λ (fs : List Element). e ∷ fs) (other mid)
 
 module _ (reading : Reading) (ready : List Element) (before : List ℕ) (none : ready ≡ []) where
   -- a text that ended gives nothing
@@ -67,6 +76,19 @@ module _ (reading : Reading) (ready : List Element) (before : List ℕ) (none : 
       ∙ ap (λ b. own ++ elements_after reading b (nfd text)) (sym far)
       ∙ ap (λ (es : List Element). es ++ elements_after reading after (nfd text)) given
       ∙ append_assoc first others _
+
+  -- a character of one element is read with the next one, whose elements are kept
+  pub both_begun : (c x : ℕ) (l : CharFacts) (e d : Element) (es kept : List Element) (all rest text mid after : List ℕ) → all ≡ c ∷ rest → rest ≡ x ∷ text
+      → StandsBefore reading c (char_elements l) rest → StandsBefore reading x es text → kept ≡ es → l.count ≡ 1 → 1 ≤ length l.elements → e ≡ get_or l.elements 0 d
+      → mid ≡ context_after before (decompose Nfd c) → after ≡ context_after mid (decompose Nfd x)
+      → ready ++ elements_after reading before (nfd all) ≡ e ∷ (kept ++ elements_after reading after (nfd text))
+  both_begun c x l e d es kept all rest text mid after is goes stands other given one some first near far =
+      nothing_ready ready _ none
+      ∙ ap (λ t. elements_after reading before (nfd t)) is
+      ∙ both_stand reading c x e es rest text (subst (λ (own : List Element). StandsBefore reading c own rest) (one_taken l e d one some first) stands) goes other before
+      ∙ ap (λ b. e ∷ (es ++ elements_after reading (context_after b (decompose Nfd x)) (nfd text))) (sym near)
+      ∙ ap (λ b. e ∷ (es ++ elements_after reading b (nfd text))) (sym far)
+      ∙ ap (λ (fs : List Element). e ∷ (fs ++ elements_after reading after (nfd text))) (sym given)
 
   -- so is one of one element, which is given at once
   pub one_read : (c : ℕ) (own : List Element) (all text after : List ℕ) (e : Element) → all ≡ c ∷ text → StandsBefore reading c own text → after ≡ context_after before (decompose Nfd c)
@@ -151,6 +173,16 @@ pair_goes_on reading ready others c x own all more text (Some e) none is goes pa
           ∙ ap (λ t. elements_after reading before (nfd t)) (is ∙ ap (λ (t : List ℕ). c ∷ t) goes)
           ∙ pair.stands before text
           ∙ ap (λ (es : List Element). es ++ elements_after reading after (nfd text)) given,
+    )
+
+-- as of a character of one element that is read with the next one, whose elements are kept
+pub both_go_on : (reading : Reading) (ready kept : List Element) (c x : ℕ) (l : CharFacts) (e d : Element) (es : List Element) (all rest text : List ℕ) → ready ≡ [] → all ≡ c ∷ rest → rest ≡ x ∷ text
+    → StandsBefore reading c (char_elements l) rest → StandsBefore reading x es text → kept ≡ es → l.count ≡ 1 → 1 ≤ length l.elements → e ≡ get_or l.elements 0 d
+    → (before : List ℕ) → (after : List ℕ) × (ready ++ elements_after reading before (nfd all) ≡ e ∷ (kept ++ elements_after reading after (nfd text)))
+both_go_on reading ready kept c x l e d es all rest text none is goes stands other given one some first = λ before.
+    let mid = context_after before (decompose Nfd c) in (
+      context_after mid (decompose Nfd x),
+      both_begun reading ready before none c x l e d es kept all rest text mid _ is goes stands other given one some first refl refl,
     )
 
 -- where none does, and the text has ended, nothing comes

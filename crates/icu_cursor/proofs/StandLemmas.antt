@@ -1,5 +1,5 @@
 -- Characters that are read by themselves, and the runs of marks that they stand before.
-use Rattle.std.proofs.Common.{◌≡◌, ◌≢◌, ℕ, ◌<◌, ◌≤◌, Bool, true, false, ◌&&◌, ◌||◌, nat_le, List, [], ◌∷◌, ◌++◌, length, get_or, flat_map, Option, Some, None, IfSome, refl, sym, ap, subst, ◌∙◌, append-nil, append_assoc, arith, zero-le}
+use Rattle.std.proofs.Common.{◌≡◌, ◌≢◌, ℕ, zero, suc, ◌<◌, ◌≤◌, Bool, true, false, ◌&&◌, ◌||◌, nat_le, List, [], ◌∷◌, ◌++◌, length, get_or, flat_map, Option, Some, None, IfSome, refl, sym, ap, subst, ◌∙◌, append-nil, append_assoc, arith, zero-le}
 use Rattle.std.proofs.lemmas.Bool.{and_parts, and_from, not-true, eqb-true, eq-eqb, ne_eqb, le-leb}
 use Rattle.ucd_normal.specs.CanonicalCombiningClass.{canonical_combining_class as class_of}
 use Rattle.ucd_normal.specs.declared.forms.Form.TheVariants.{Nfd}
@@ -64,6 +64,15 @@ mark_in_run c class h = subst (λ k. IsInRun c k) h.class (one_in_run c c h.itse
 -- one whose decomposition begins with a starter
 pub starter_in_run : (c : ℕ) → EndsRuns c → IsInRun c 0
 starter_in_run c ends = record { ends = λ _. ends; goes_on = λ other. absurd (other refl) }
+
+-- one of them goes on before a run that rises from it
+pub run_goes_on : (c class : ℕ) → IsInRun c class → (least : ℕ) (text : List ℕ) → least ≤ class → Rises class text → Rises least (c ∷ text)
+run_goes_on c zero h least text fits rise = h.ends refl least text
+run_goes_on c (suc k) h least text fits rise = h.goes_on (λ none. absurd (omega (arith, none))) least text fits rise
+
+-- so does a mark that decomposes to itself
+pub mark_goes_on : (all : List ℕ) (c class least : ℕ) (text : List ℕ) → all ≡ c ∷ text → IsMarkItself c class → least ≤ class → Rises class text → Rises least all
+mark_goes_on all c class least text is mark fits rise = subst (Rises least) (sym is) (run_goes_on c class (mark_in_run c class mark) least text fits rise)
 
 -- ---- characters
 

@@ -46,6 +46,19 @@ impl CharElements {
         }
     }
 
+    /// All those of a character.
+    #[inline(always)]
+    #[tactic(auto, unfolding(crate::specs::inner::Ready::elements_ready))]
+    pub(crate) fn of_facts(facts: &CharFacts) -> CharElements
+        ensures { elements_ready result ≡ char_elements facts.now }
+    {
+        CharElements {
+            elements: facts.elements,
+            count: facts.count,
+            next: 0,
+        }
+    }
+
     /// A few elements.
     #[inline(always)]
     #[tactic(auto, unfolding(crate::specs::inner::Ready::elements_ready, icu_facts::specs::FewElements::few_elements))]
@@ -82,6 +95,11 @@ impl ReadyPlace for CharElements {
         }
         *self = CharElements::after_first(facts);
         Some(first)
+    }
+
+    #[inline(always)]
+    fn keep(&mut self, facts: &CharFacts) {
+        *self = CharElements::of_facts(facts);
     }
 
     #[inline]

@@ -16,7 +16,7 @@ use crate::digit_run::read_number;
 use crate::last_characters::LastCharacters;
 use crate::ready_elements::ReadyElements;
 use crate::ready_place::ReadyPlace;
-use crate::stands::stands_before;
+use crate::stands::{read_behind, stands_before};
 use crate::unjoined::is_unjoined;
 use crate::{CharFacts, FactsKind, Kept};
 use icu_encodings::EncodedText;
@@ -175,6 +175,9 @@ impl<'c, 'd, T: EncodedText, R: ReadyPlace> ElementCursor<'c, 'd, T, R> {
         ensures next { gives_with R.ready T.text self.old
             ≡ option_to_list result ++ gives_with R.ready T.text self.new }
     {
+        if facts.kind == FactsKind::Mark {
+            return self.take_mark(c, facts, rest);
+        }
         if !stands_before(self.tables, facts, rest) {
             return self.take_base(c, facts, rest);
         }
@@ -182,6 +185,53 @@ impl<'c, 'd, T: EncodedText, R: ReadyPlace> ElementCursor<'c, 'd, T, R> {
             return self.take_one(c, facts, rest);
         }
         self.read_facts(c, facts, rest)
+    }
+
+    /// The first element of a mark, which is read with the next character where that one may be read by itself too. The
+    /// others are kept.
+    #[inline(always)]
+    fn take_mark(&mut self, c: char, facts: &CharFacts, rest: T) -> Option<CollationElement>
+        requires nothing { HasNothingReady R.ready self.old }
+        requires text { T.text self.old.text ≡ c ∷ T.text rest }
+        requires facts { Serves (cursor_reading self.old.tables.now) c facts.now }
+        requires mark { facts.now.kind ≡ FactsKind.Mark }
+        ensures next { gives_with R.ready T.text self.old
+            ≡ option_to_list result ++ gives_with R.ready T.text self.new }
+    {
+        let tables = self.tables;
+        let found = read_behind(tables, facts.class, rest)?;
+        match found {
+            Some(next) if facts.count == 1 => self.take_both(c, facts, rest, next),
+            _ => self.read_facts(c, facts, rest),
+        }
+    }
+
+    /// The element of a character that has one, and is read with the next character. The elements of that one are kept.
+    #[inline(always)]
+    fn take_both(
+        &mut self,
+        c: char,
+        facts: &CharFacts,
+        rest: T,
+        next: (char, &CharFacts, T),
+    ) -> Option<CollationElement>
+        requires nothing { HasNothingReady R.ready self.old }
+        requires text { T.text self.old.text ≡ c ∷ T.text rest }
+        requires stands { StandsBefore (cursor_reading self.old.tables.now) c
+            (char_elements facts.now) (T.text rest) }
+        requires one { facts.now.count ≡ 1 }
+        requires next { T.text rest ≡ next.0 ∷ T.text next.2 }
+        requires next_stands { StandsBefore (cursor_reading self.old.tables.now) next.0
+            (char_elements next.1.now) (T.text next.2) }
+        ensures next { gives_with R.ready T.text self.old
+            ≡ option_to_list result ++ gives_with R.ready T.text self.new }
+    {
+        self.text = next.2;
+        self.recent.push(c);
+        self.recent.push(next.0);
+        self.ready.keep(next.1);
+        let elements = &facts.elements[..];
+        Some(elements[0])
     }
 
     /// The first element of a character that begins contractions, by itself where none goes on, or with the next one

@@ -4,16 +4,16 @@ ghost use Rattle.std.specs.Prelude.{◌≡◌, ◌∷◌, [], ℕ, List, IfSome}
 ghost use Rattle.unicode_normalization.specs.Forms.{nfd};
 ghost use Rattle.icu_elements.specs.TextElements.{elements_after};
 ghost use Rattle.icu_facts.specs.FewElements.{few_elements};
-ghost use Rattle.icu_facts.specs.KeptFacts.{IsPair};
+ghost use Rattle.icu_facts.specs.KeptFacts.{IsPair, char_elements};
 ghost use Rattle.icu_cursor.specs.Cursors.{cursor_reading};
 ghost use Rattle.icu_cursor.specs.inner.Ready.{elements_ready};
-ghost use Rattle.icu_cursor.specs.inner.Standing.{Serves, StandsAnywhere};
+ghost use Rattle.icu_cursor.specs.inner.Standing.{Serves, StandsAnywhere, StandsBefore};
 
 use crate::char_elements::CharElements;
 use crate::cursor_tables::CursorTables;
 use crate::digit_run::read_weight;
 use crate::ready_place::ReadyPlace;
-use crate::stands::stands_before;
+use crate::stands::{read_behind, stands_at_once, stands_before};
 use crate::unjoined::is_unjoined;
 use crate::{CharFacts, FactsKind, Kept};
 use icu_encodings::EncodedText;
@@ -149,11 +149,83 @@ impl<'c, 'd, T: EncodedText> FactsCursor<'c, 'd, T> {
         requires facts { Serves (cursor_reading self.old.tables.now) c facts.now }
         ensures { IfSome result (λ e. GoesOn T.text self.old e self.new) }
     {
+        if !stands_at_once(self.tables, facts, rest) {
+            return self.begin_other(c, facts, rest);
+        }
+        self.begin_alone(c, facts, rest)
+    }
+
+    /// The first element of a character that stands before the rest. The others are kept.
+    #[inline(always)]
+    fn begin_alone(&mut self, c: char, facts: &CharFacts, rest: T) -> Option<CollationElement>
+        requires nothing { elements_ready self.old.ready ≡ [] }
+        requires text { T.text self.old.text ≡ c ∷ T.text rest }
+        requires stands { StandsBefore (cursor_reading self.old.tables.now) c
+            (char_elements facts.now) (T.text rest) }
+        ensures { IfSome result (λ e. GoesOn T.text self.old e self.new) }
+    {
+        self.text = rest;
+        self.ready.begin(facts)
+    }
+
+    /// The first element of a character of another kind. Out of line: most letters are read without it.
+    #[inline(never)]
+    fn begin_other(&mut self, c: char, facts: &CharFacts, rest: T) -> Option<CollationElement>
+        requires nothing { elements_ready self.old.ready ≡ [] }
+        requires text { T.text self.old.text ≡ c ∷ T.text rest }
+        requires facts { Serves (cursor_reading self.old.tables.now) c facts.now }
+        ensures { IfSome result (λ e. GoesOn T.text self.old e self.new) }
+    {
+        if facts.kind == FactsKind::Mark {
+            return self.begin_mark(c, facts, rest);
+        }
         if !stands_before(self.tables, facts, rest) {
             return self.begin_base(c, facts, rest);
         }
-        self.text = rest;
-        self.ready.begin(facts)
+        self.begin_alone(c, facts, rest)
+    }
+
+    /// The first element of a mark, which is read with the next character where that one may be read by itself too. The
+    /// others are kept.
+    #[inline(always)]
+    fn begin_mark(&mut self, c: char, facts: &CharFacts, rest: T) -> Option<CollationElement>
+        requires nothing { elements_ready self.old.ready ≡ [] }
+        requires text { T.text self.old.text ≡ c ∷ T.text rest }
+        requires facts { Serves (cursor_reading self.old.tables.now) c facts.now }
+        requires mark { facts.now.kind ≡ FactsKind.Mark }
+        ensures { IfSome result (λ e. GoesOn T.text self.old e self.new) }
+    {
+        let tables = self.tables;
+        let found = read_behind(tables, facts.class, rest)?;
+        match found {
+            Some(next) if facts.count == 1 => self.begin_both(c, facts, rest, next),
+            _ => self.begin_alone(c, facts, rest),
+        }
+    }
+
+    /// The element of a character that has one, and is read with the next character. The elements of that one are kept.
+    #[inline(always)]
+    fn begin_both(
+        &mut self,
+        c: char,
+        facts: &CharFacts,
+        rest: T,
+        next: (char, &CharFacts, T),
+    ) -> Option<CollationElement>
+        requires nothing { elements_ready self.old.ready ≡ [] }
+        requires text { T.text self.old.text ≡ c ∷ T.text rest }
+        requires stands { StandsBefore (cursor_reading self.old.tables.now) c
+            (char_elements facts.now) (T.text rest) }
+        requires one { facts.now.count ≡ 1 }
+        requires next { T.text rest ≡ next.0 ∷ T.text next.2 }
+        requires next_stands { StandsBefore (cursor_reading self.old.tables.now) next.0
+            (char_elements next.1.now) (T.text next.2) }
+        ensures { IfSome result (λ e. GoesOn T.text self.old e self.new) }
+    {
+        self.text = next.2;
+        self.ready.keep(next.1);
+        let elements = &facts.elements[..];
+        Some(elements[0])
     }
 
     /// The first element of a character that begins contractions, by itself where none goes on, or with the next one

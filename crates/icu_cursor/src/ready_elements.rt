@@ -149,6 +149,12 @@ impl<'d> ReadyPlace for ReadyElements<'d> {
         first
     }
 
+    #[inline(always)]
+    fn keep(&mut self, facts: &CharFacts) {
+        self.may_be_left = true;
+        self.few.keep(facts);
+    }
+
     #[inline]
     fn begin_few(&mut self, few: &FewElements) -> Option<CollationElement> {
         self.may_be_left = true;

@@ -27,6 +27,11 @@ pub trait ReadyPlace {
         requires { ready self.old ≡ [] }
         ensures { char_elements facts.now ≡ option_to_list result ++ ready self.new };
 
+    /// All elements of a character are kept, where none is left.
+    fn keep(&mut self, facts: &CharFacts)
+        requires { ready self.old ≡ [] }
+        ensures { ready self.new ≡ char_elements facts.now };
+
     /// The first of a few elements, where none is left. The others of them are kept.
     fn begin_few(&mut self, few: &FewElements) -> Option<CollationElement>
         requires { ready self.old ≡ [] }

@@ -1,5 +1,6 @@
 -- The first level decides, or where it ties the second one.
 use Rattle.std.proofs.Common.{◌≡◌, ◌≢◌, Equal, refl, sym, ◌∙◌, rules}
+use Rattle.icu_collator.specs.declared.forward_levels.Level.TheVariants.{Primary}
 use Rattle.icu_collator.specs.inner.FactsInStep.{plain_left}
 use Rattle.icu_collator.specs.inner.InStep.{from_first, three_levels}
 use Rattle.icu_collator.proofs.InStepLemmas.{first_decides}
@@ -11,7 +12,7 @@ returns-then-eq g c = λ b d third.
     let us = plain_left g.L.EncodedText.text c.args.left.now b in
     let vs = plain_left g.R.EncodedText.text c.args.right.now d in
     let ties : c.in_ok-order.order ≡ Equal = search rules in
-    out_decides (three_levels c.args.first c.args.form) third (from_first c.args.pair.0 us) (from_first c.args.pair.1 vs) us vs c.args.pair.0 c.args.pair.1 c.decide-decided.result refl refl
+    out_decides (three_levels (Primary c.args.reordering) c.args.form) third (from_first c.args.pair.0 us) (from_first c.args.pair.1 vs) us vs c.args.pair.0 c.args.pair.1 c.decide-decided.result refl refl
     (sym (c.in_ok-order.ensures b d) ∙ ties) c.decide-decided.ensures
 
 pub returns-else-eq : goal.returns-else-eq
@@ -19,4 +20,4 @@ returns-else-eq g c = λ b d third.
     let us = plain_left g.L.EncodedText.text c.args.left.now b in
     let vs = plain_left g.R.EncodedText.text c.args.right.now d in
     let differs : c.in_ok-order.order ≢ Equal = search rules in
-    first_decides (three_levels c.args.first c.args.form) third (from_first c.args.pair.0 us) (from_first c.args.pair.1 vs) c.in_ok-order.order (c.in_ok-order.ensures b d) differs
+    first_decides (three_levels (Primary c.args.reordering) c.args.form) third (from_first c.args.pair.0 us) (from_first c.args.pair.1 vs) c.in_ok-order.order (c.in_ok-order.ensures b d) differs

@@ -1,12 +1,5 @@
 use Rattle.std.proofs.Common.{rules}
-use Rattle.icu_facts.specs.KeptFacts.{char_elements}
-use Rattle.icu_cursor.specs.Cursors.{cursor_reading}
-use Rattle.icu_cursor.specs.FactsCursors.{facts_give}
-use Rattle.icu_cursor.proofs.CursorLemmas.{facts_goes_on}
 use Rattle.icu_cursor.proofs.facts_cursor.FactsCursor.begin.Goals as goal
 
-pub returns : goal.returns
-unfolding facts_give
-returns g c =
-    facts_goes_on (cursor_reading c.args.self.now.tables.now) _ _ c.args.c (char_elements c.args.facts.now) _ (g.T.EncodedText.text c.args.rest) c.begin.result
-    c.requires.nothing c.requires.text (c.stands_before.ensures c.args.c c.requires.facts (search rules)) c.begin.ensures
+pub begin_alone-requires-clause-stands : goal.begin_alone-requires-clause-stands
+begin_alone-requires-clause-stands g c = c.stands_at_once.ensures c.args.c c.requires.facts (search rules)
