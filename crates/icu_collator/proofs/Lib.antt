@@ -4,6 +4,7 @@ pub mod OrdersInTurn
 pub mod SegmentLemmas
 pub mod InStepLemmas
 mod KeyCharacterLemmas
+mod PlainCharacterLemmas
 mod FirstPrimaryLemmas
 mod TieLemmas
 pub mod OtherSettings

@@ -1,14 +1,15 @@
 //! The characters of a text in canonical decomposition, in a list.
 
-ghost use Rattle.std.specs.Prelude.{◌≡◌, ◌<◌, ◌≤◌, ◌++◌, ◌∷◌, [], None, true, flat_map, length, IfOk, IfSome, IsTrue, OnOk};
+ghost use Rattle.std.specs.Prelude.{◌≡◌, ◌++◌, ◌∷◌, [], None, true, false, flat_map, IfOk, IfSome, IsTrue, OnOk};
 ghost use Rattle.std.specs.List.{list_all};
 ghost use Rattle.ucd_normal.specs.declared.forms.Form.TheVariants.{Nfd};
 ghost use Rattle.unicode_normalization.specs.Decompose.{decompose};
 ghost use Rattle.unicode_normalization.specs.Forms.{nfd};
-ghost use Rattle.unicode_normalization.specs.Order.{is_starter};
+ghost use Rattle.unicode_normalization.specs.Order.{is_reorderable, is_starter};
 ghost use Rattle.icu_boundaries.specs.Alone.{all_stay};
 ghost use Rattle.icu_collator.specs.inner.KeyCharacters.{EndsMarks};
 
+use crate::plain_characters::is_plain;
 use icu_decomposed_text::DecomposedText;
 use icu_encodings::EncodedText;
 use std::alloc::{AllocError, Global};
@@ -61,6 +62,9 @@ fn ends_marks<T: EncodedText>(text: T) -> bool
     let Some((c, _)) = text.split_first_char() else {
         return true;
     };
+    if is_plain(c) {
+        return true;
+    }
     let mut room = [c; 3];
     match decomposition(c, Form::Nfd, &mut room) {
         [first, ..] => is_starter(*first),
@@ -93,6 +97,28 @@ fn two_stay<T: EncodedText>(first: char, second: char, text: T) -> bool
     ends_marks(text)
 }
 
+/// Whether a character doesn't go before one that stands before it. False says nothing.
+#[inline(always)]
+#[tactic(auto, using(crate::proofs::KeyCharacterLemmas::keeps_order))]
+fn keep_order(first: char, second: char) -> bool
+    ensures { IsTrue result → is_reorderable first second ≡ false }
+{
+    canonical_combining_class(first) <= canonical_combining_class(second)
+}
+
+/// Whether three characters stay where they stand before a text. False says nothing.
+#[inline(always)]
+#[tactic(auto, using(crate::proofs::KeyCharacterLemmas::three_stay))]
+fn three_stay<T: EncodedText>(first: char, second: char, third: char, text: T) -> bool
+    ensures { IsTrue result → all_stay (first ∷ second ∷ third ∷ [])
+        (flat_map (decompose Nfd) (T.text text)) ≡ true }
+{
+    if !is_starter(first) || !keep_order(second, third) {
+        return false;
+    }
+    ends_marks(text)
+}
+
 /// Whether what a character decomposes to stays as it is before a text. False says nothing.
 #[inline(always)]
 #[tactic(auto, using(crate::proofs::KeyCharacterLemmas::starters_stay))]
@@ -102,6 +128,9 @@ fn stays<T: EncodedText>(parts: &[char], text: T) -> bool
     match parts {
         [only] => one_stays(*only, text),
         [first, second] => two_stay(*first, *second, text),
+        [first, second, third] if !is_starter(*third) => {
+            three_stay(*first, *second, *third, text)
+        }
         _ => are_starters(parts),
     }
 }
@@ -121,57 +150,43 @@ fn push_parts(list: &mut Vec<char>, parts: &[char]) -> Result<(), AllocError>
     }
 }
 
-/// Appends the ASCII characters that a text begins with, which decompose to themselves, and returns the text after
-/// them.
+/// Appends what a character decomposes to, where that stays as it is before a text, and returns whether it does:
+/// nothing is appended where it doesn't.
 #[inline(always)]
-fn push_ascii<T: EncodedText>(list: &mut Vec<char>, text: T) -> Result<T, AllocError>
-    ensures after { IfOk result (λ rest.
-        list.new.items ++ nfd (T.text rest) ≡ list.old.items ++ nfd (T.text text)) }
-    ensures shorter { IfOk result (λ rest. length (T.text rest) ≤ length (T.text text)) }
+fn push_staying<T: EncodedText>(list: &mut Vec<char>, c: char, after: T) -> Result<bool, AllocError>
+    ensures stays { IfOk result (λ stays. IsTrue stays →
+        list.new.items ++ nfd (T.text after) ≡ list.old.items ++ nfd (c ∷ T.text after)) }
+    ensures not { IfOk result (λ stays. stays ≡ false → list.new.items ≡ list.old.items) }
 {
-    let mut rest = text;
-    'ascii: while let Some((byte, after)) = rest.split_first_ascii() {
-        push(list, char::from(byte))?;
-        rest = after;
+    if is_plain(c) {
+        push(list, c)?;
+        return Ok(true);
     }
-    Ok(rest)
-}
-
-/// Appends what the character that begins a text decomposes to, where that stays as it is, and returns the text after
-/// it and after the ASCII characters that follow. `None` where it doesn't stay, or the text is empty: nothing is
-/// appended then.
-#[inline(always)]
-fn push_first<T: EncodedText>(list: &mut Vec<char>, text: T) -> Result<Option<T>, AllocError>
-    ensures after { IfOk result (λ found. IfSome found (λ rest.
-        list.new.items ++ nfd (T.text rest) ≡ list.old.items ++ nfd (T.text text))) }
-    ensures shorter { IfOk result (λ found. IfSome found (λ rest.
-        length (T.text rest) < length (T.text text))) }
-    ensures none { IfOk result (λ found. found ≡ None → list.new.items ≡ list.old.items) }
-{
-    let Some((c, after)) = text.split_first_char() else {
-        return Ok(None);
-    };
     let mut room = [c; 3];
     let parts = decomposition(c, Form::Nfd, &mut room);
     if !stays(parts, after) {
-        return Ok(None);
+        return Ok(false);
     }
     push_parts(list, parts)?;
-    let rest = push_ascii(list, after)?;
-    Ok(Some(rest))
+    Ok(true)
 }
 
 /// Appends what the characters that a text begins with decompose to, as long as that stays as it is, and returns the
-/// text after them.
-fn push_staying<T: EncodedText>(list: &mut Vec<char>, text: T) -> Result<T, AllocError>
-    ensures { IfOk result (λ rest.
-        list.new.items ++ nfd (T.text rest) ≡ list.old.items ++ nfd (T.text text)) }
+/// text after them: `None` where they are all.
+fn push_front<T: EncodedText>(list: &mut Vec<char>, text: T) -> Result<Option<T>, AllocError>
+    ensures some { IfOk result (λ left. IfSome left (λ rest.
+        list.new.items ++ nfd (T.text rest) ≡ list.old.items ++ nfd (T.text text))) }
+    ensures none { IfOk result (λ left. left ≡ None →
+        list.new.items ≡ list.old.items ++ nfd (T.text text)) }
 {
     let mut rest = text;
-    'chars: while let Some(after) = push_first(list, rest)? {
+    'chars: while let Some((c, after)) = rest.split_first_char() {
+        if !push_staying(list, c, after)? {
+            return Ok(Some(rest));
+        }
         rest = after;
     }
-    Ok(rest)
+    Ok(None)
 }
 
 /// Appends the canonical decomposition of a text.
@@ -192,8 +207,8 @@ pub(crate) fn decomposed<T: EncodedText>(alloc: Global, text: T) -> Result<Vec<c
     ensures { IfOk result (λ cs. cs.items ≡ nfd (T.text text)) }
 {
     let mut list = Vec::with_capacity(alloc, text.unit_count())?;
-    let ascii = push_ascii(&mut list, text)?;
-    let rest = push_staying(&mut list, ascii)?;
-    push_decomposed(&mut list, rest)?;
+    if let Some(rest) = push_front(&mut list, text)? {
+        push_decomposed(&mut list, rest)?;
+    }
     Ok(list)
 }

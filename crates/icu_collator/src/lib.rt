@@ -19,6 +19,7 @@ mod identical_level;
 mod in_step;
 mod key_characters;
 mod key_text;
+mod plain_characters;
 mod rests;
 mod segments;
 pub mod sort_key;

@@ -84,6 +84,22 @@ fn middle(difference: u32) -> u8
     (3 + difference / TAILS % TAILS) as u8
 }
 
+/// The two bytes of a difference that two bytes spell, which comes as d plus `SHIFT`: `None` where it takes one, or
+/// more.
+#[inline(always)]
+pub(crate) fn double(difference: u32) -> Option<(u8, u8)>
+    ensures { IfSome result (λ bytes. difference_bytes difference ≡ bytes.0 ∷ bytes.1 ∷ []) }
+{
+    let e = difference;
+    if e >= SHIFT - 10_668 && e < SHIFT - 80 {
+        Some(((49 + e / TAILS - TAILS * TAILS) as u8, lowest(e)))
+    } else if e >= SHIFT + 81 && e < SHIFT + 10_668 {
+        Some(((210 + e / TAILS - TAILS * TAILS) as u8, lowest(e)))
+    } else {
+        None
+    }
+}
+
 /// The first of three tails.
 fn highest(difference: u32) -> u8
     ensures { result ≡ first_tail difference }

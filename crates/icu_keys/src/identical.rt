@@ -4,8 +4,9 @@ ghost use Rattle.std.specs.Prelude.{◌≡◌, ℕ, ◌<◌, List, ◌∷◌};
 ghost use Rattle.icu_levels.specs.Identical.{base_after, difference_bytes, identical_level};
 ghost use Rattle.icu_keys.specs.Writes.{Feeds, Writes};
 
-use crate::differences::{SHIFT, single, spelled};
+use crate::differences::{SHIFT, double, single, spelled};
 use crate::sink::CollationKeySink;
+use crate::writes::write_both;
 
 /// The base of the first character, and of the one after U+FFFE.
 const FIRST_BASE: u32 = 80;
@@ -25,7 +26,8 @@ fn next_base(character: u32) -> u32
     }
 }
 
-/// Writes the bytes of a difference d, which comes as d plus `SHIFT`: mostly one. An error is the sink's own.
+/// Writes the bytes of a difference d, which comes as d plus `SHIFT`: one or two, but for characters far from the base.
+/// Two are written one after the other, since a write of both would copy them. An error is the sink's own.
 #[inline(always)]
 fn write_difference<S: CollationKeySink>(
     sink: &mut S,
@@ -39,6 +41,9 @@ fn write_difference<S: CollationKeySink>(
 {
     if let Some(byte) = single(difference) {
         return sink.write_byte(state, byte);
+    }
+    if let Some((first, last)) = double(difference) {
+        return write_both(sink, state, Some(first), Some(last));
     }
     let spelled = spelled(difference);
     sink.write(state, &spelled.bytes[..spelled.length])

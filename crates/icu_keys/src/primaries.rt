@@ -43,6 +43,7 @@ fn change_of_lead(dropped: u8, new: u8) -> Option<u8>
 
 /// The lead that is dropped after a weight, 0 for none. Whether it is compressible is asked of the lead before
 /// reordering.
+#[inline(always)]
 fn lead_to_drop<C: PrimaryCompression>(compression: &C, weight: u32, reordered: u32) -> u8
     requires { reordered ≡ (C.compression compression.now).reorder weight }
     ensures { result ≡ dropped_after (C.compression compression.now) weight }

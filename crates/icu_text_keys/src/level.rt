@@ -2,9 +2,10 @@
 
 ghost use Rattle.std.specs.Prelude.{◌≡◌, ◌<◌, ℕ, List, ◌∷◌, Option, Some, IfSome, OnOk};
 ghost use Rattle.icu_entries.specs.Elements.{Element};
-ghost use Rattle.icu_keys.specs.HeldRests.{held_tertiary_form};
+ghost use Rattle.icu_keys.specs.HeldRests.{held_quaternaries, held_tertiary_form};
 ghost use Rattle.icu_levels.specs.declared.forms.SecondaryForm.TheVariants.{Forward};
 ghost use Rattle.icu_weighting.specs.Handled.{HandledElement, stayed, shifted_primary};
+ghost use Rattle.icu_weighting.specs.Levels.{quaternary_weight};
 ghost use Rattle.icu_text_keys.specs.LevelRests.{segments_left, secondaries_after, secondaries_left, cases_after, tertiaries_after, quaternaries_after, cases_left, tertiaries_left, quaternaries_left};
 
 use crate::written_weights::{case_of, quaternary_weight, secondary_or_none, tertiary_or_none};
@@ -19,7 +20,7 @@ use icu_keys::primaries::PrimaryCompression;
 use icu_keys::quaternaries::QuaternaryWeight;
 use icu_keys::two_levels::{push_secondary, push_tertiary};
 use icu_levels::forms::{CaseForm, QuaternaryForm, SecondaryForm, TertiaryForm};
-use icu_weighting::element_weights::case_read;
+use icu_weighting::element_weights::{case_read, quaternary_number};
 use std::alloc::AllocError;
 
 /// Holds the secondary of an element, or ends the segment at a merge separator, which gives no secondary itself.
@@ -172,6 +173,19 @@ pub(crate) fn push_case(
     }
 }
 
+/// Adds the quaternary weight of an element that stayed: mostly the common one, which is only counted.
+#[inline(always)]
+fn push_bits(level: &mut HeldQuaternaries, element: CollationElement) -> Result<(), AllocError>
+    ensures { OnOk result ((ws : List ℕ) →
+        held_quaternaries level.old (quaternary_weight element ∷ ws)
+        ≡ held_quaternaries level.new ws) }
+{
+    if quaternary_number(element) == 0 {
+        return level.push_commons(1);
+    }
+    level.push(quaternary_weight(element))
+}
+
 /// Holds the quaternary of an element that stayed, where there is the level.
 #[inline(always)]
 #[tactic(auto, unfolding(icu_weighting::specs::Levels::quaternaries))]
@@ -188,7 +202,7 @@ pub(crate) fn push_quaternary(
         return Ok(());
     }
     match level {
-        Some(level) => level.push(quaternary_weight(element)),
+        Some(level) => push_bits(level, element),
         None => Ok(()),
     }
 }

@@ -1,6 +1,6 @@
 use Rattle.std.specs.Prelude.{◌≡◌, ◌++◌, length}
 use Rattle.unicode_normalization.specs.Forms.{nfd}
-use Rattle.icu_collator.proofs.key_characters.push_staying.Given as goal
+use Rattle.icu_collator.proofs.key_characters.push_front.Given as goal
 
 -- what is in the list and what is left are the whole
 abbrev pub invariant-chars : goal.invariant-chars
