@@ -65,10 +65,13 @@ impl<'s, 'c> SearchedText<'s, 'c> {
         requires some { equals_pattern (searched_in self.now) [] ≡ false }
         ensures { IsTrue result → TellsLeastStop (matches_in self.now) start last None }
     {
+        let piece = self.piece_from(start, last);
+        if self.searcher.begins_otherwise(piece, 1) {
+            return true;
+        }
         if self.begins_silently(start) {
             return true;
         }
-        let piece = self.piece_from(start, last);
         let most = if last < self.text.char_count() {
             self.searcher.looks_at()
         } else {
