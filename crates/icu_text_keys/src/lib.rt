@@ -12,6 +12,7 @@ pub mod later_levels;
 pub mod laws;
 mod level;
 mod next_element;
+mod two_levels;
 mod usual_forms;
 pub mod whole_key;
 pub mod writer;
