@@ -9,8 +9,8 @@ use crate::run::Run;
 use crate::sink::CollationKeySink;
 use icu_levels::run_bytes::SECONDARY_RUNS;
 
-/// Writes so many common weights, 0500 each, at the front of a level, and then one that isn't common. What comes after it
-/// is written as a level of its own would be. An error is the sink's own.
+/// Writes so many common weights, 0500 each, at the front of a level, and then one that isn't common. What comes after
+/// it is written as a level of its own would be. An error is the sink's own.
 #[inline(always)]
 pub(crate) fn write_after_commons<S: CollationKeySink>(
     sink: &mut S,
@@ -91,8 +91,8 @@ impl SecondaryWriter {
         self.run.write_commons(&SECONDARY_RUNS, sink, state, more)
     }
 
-    /// How many common weights came last, as far as no byte stands for them yet. A new writer that is fed as many goes on
-    /// as this one.
+    /// How many common weights came last, as far as no byte stands for them yet. A new writer that is fed as many goes
+    /// on as this one.
     #[tactic(auto, using(crate::proofs::CommonSteps::commons_counted))]
     pub(crate) fn counted(&self) -> u32
         ensures { (ws : List ℕ) →

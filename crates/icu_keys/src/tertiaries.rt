@@ -158,8 +158,8 @@ impl TertiaryWriter {
         self.run.write_commons(&runs, sink, state, more)
     }
 
-    /// How many common weights came last, as far as no byte stands for them yet. A new writer that is fed as many goes on
-    /// as this one.
+    /// How many common weights came last, as far as no byte stands for them yet. A new writer that is fed as many goes
+    /// on as this one.
     #[tactic(auto, using(crate::proofs::CommonSteps::commons_counted))]
     pub(crate) fn counted(&self) -> u32
         ensures { let form = tertiary_form_of self.now in (ws : List ℕ) →

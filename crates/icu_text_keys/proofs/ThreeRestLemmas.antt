@@ -16,7 +16,7 @@ use Rattle.icu_text_keys.specs.LevelRests.{characters_left}
 use Rattle.icu_text_keys.specs.CommonRests.{common_rest, parts_after_commons}
 use Rattle.icu_text_keys.specs.ThreeRests.{parts_after_held, three_rest}
 use Rattle.icu_text_keys.specs.declared.common_elements.CommonElements.{CommonElements}
-use Rattle.icu_text_keys.specs.declared.two_levels.TwoLevels.{TwoLevels}
+use Rattle.icu_text_keys.specs.declared.level_pair.TwoLevels.{TwoLevels}
 use Rattle.icu_text_keys.proofs.CommonElementLemmas.{same_weights}
 use Rattle.icu_text_keys.proofs.CommonRestLemmas.{two_parts, one_secondary, one_tertiary}
 

@@ -12,9 +12,10 @@ use Rattle.icu_weighting.specs.Handled.{HandledElement, stayed_elements}
 use Rattle.icu_weighting.specs.Levels.{primaries, secondaries, tertiaries}
 use Rattle.icu_text_keys.specs.LevelRests.{characters_left}
 use Rattle.icu_text_keys.specs.declared.common_elements.CommonElements.{CommonElements}
-use Rattle.icu_text_keys.specs.declared.two_levels.TwoLevels.{TwoLevels}
+use Rattle.icu_text_keys.specs.declared.level_pair.TwoLevels.{TwoLevels}
 
--- the levels after the primary one, where so many common elements were counted, by all characters and the further elements
+-- the levels after the primary one, where so many common elements were counted, by all characters and the further
+-- elements
 abbrev pub parts_after_held : TertiaryForm → Bool → ℕ → TwoLevels → List ℕ → List Element → List LevelPart
 parts_after_held t identical n l cs es =
     closed (held_secondaries l.secondaries (replicate n SECONDARY_RUNS.common ++ secondaries es)) ∷ absent

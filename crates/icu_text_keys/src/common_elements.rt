@@ -14,7 +14,7 @@ ghost use Rattle.icu_weighting.specs.Levels.{level_lists};
 ghost use Rattle.icu_text_keys.specs.ThreeRests.{parts_after_held, HasTertiaryForm};
 
 use crate::counted_levels::is_common;
-use crate::two_levels::TwoLevels;
+use crate::level_pair::TwoLevels;
 use crate::writer::push_primary;
 use crate::written_levels::write_identical;
 use icu_entries::CollationElement;

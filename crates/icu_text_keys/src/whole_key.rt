@@ -12,8 +12,8 @@ ghost use Rattle.icu_text_keys.specs.ThreeRests.{three_rest, HasTertiaryForm};
 ghost use Rattle.icu_text_keys.specs.UsualForms.{form_of, form_of_three};
 
 use crate::common_elements::CommonElements;
+use crate::level_pair::TwoLevels;
 use crate::next_element::next_expected;
-use crate::two_levels::TwoLevels;
 use crate::usual_forms::{UsualForm, tertiary_of_three, usual_form};
 use crate::writer::KeyWriter;
 use crate::written_form::{
@@ -81,8 +81,8 @@ fn write_held<S: CollationKeySink, C: PrimaryCompression, H: HandledSource>(
     commons.close_held(form, identical, sink, state, levels, characters)
 }
 
-/// Writes the rest of a key of three levels, from an element on whose weights aren't common beside its primary, or which
-/// is shifted.
+/// Writes the rest of a key of three levels, from an element on whose weights aren't common beside its primary, or
+/// which is shifted.
 #[inline(always)]
 fn write_from<S: CollationKeySink, C: PrimaryCompression, H: HandledSource>(
     alloc: Global,

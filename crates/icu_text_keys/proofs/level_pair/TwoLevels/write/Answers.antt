@@ -6,7 +6,7 @@ use Rattle.icu_keys.specs.KeyWrites.{KeyWrites}
 use Rattle.icu_keys.proofs.KeyWriting.{key_after, key_front}
 use Rattle.icu_weighting.specs.Levels.{weights}
 use Rattle.icu_text_keys.specs.LevelRests.{characters_left}
-use Rattle.icu_text_keys.proofs.two_levels.TwoLevels.write.Goals as goal
+use Rattle.icu_text_keys.proofs.level_pair.TwoLevels.write.Goals as goal
 
 pub returns-in_err-write_secondaries-clause-bytes : goal.returns-in_err-write_secondaries-clause-bytes
 unfolding weights
