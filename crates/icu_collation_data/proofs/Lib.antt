@@ -16,6 +16,7 @@ pub mod ViolationLemmas
 pub mod CollectedWeightLemmas
 pub mod BothLemmas
 pub mod ImplicitLemmas
+mod PlainLemmas
 pub mod RunLemmas
 mod SpelledLemmas
 mod WorkedData
