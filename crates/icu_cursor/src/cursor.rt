@@ -130,6 +130,7 @@ impl<'c, 'd, T: EncodedText, R: ReadyPlace> ElementCursor<'c, 'd, T, R> {
             Kept::Facts(facts) if facts.kind == FactsKind::Starters && facts.count == 1 => {
                 self.take_one(c, facts, rest)
             }
+            Kept::Facts(facts) if facts.kind == FactsKind::Mark => self.take_mark(c, facts, rest),
             kept => self.take_kept(c, kept, rest),
         }
     }
@@ -175,9 +176,6 @@ impl<'c, 'd, T: EncodedText, R: ReadyPlace> ElementCursor<'c, 'd, T, R> {
         ensures next { gives_with R.ready T.text self.old
             ≡ option_to_list result ++ gives_with R.ready T.text self.new }
     {
-        if facts.kind == FactsKind::Mark {
-            return self.take_mark(c, facts, rest);
-        }
         if !stands_before(self.tables, facts, rest) {
             return self.take_base(c, facts, rest);
         }
@@ -188,8 +186,8 @@ impl<'c, 'd, T: EncodedText, R: ReadyPlace> ElementCursor<'c, 'd, T, R> {
     }
 
     /// The first element of a mark, which is read with the next character where that one may be read by itself too. The
-    /// others are kept.
-    #[inline(always)]
+    /// others are kept. Out of line, and apart from `take_kept`: in most scripts of India each fifth character is a mark.
+    #[inline(never)]
     fn take_mark(&mut self, c: char, facts: &CharFacts, rest: T) -> Option<CollationElement>
         requires nothing { HasNothingReady R.ready self.old }
         requires text { T.text self.old.text ≡ c ∷ T.text rest }
@@ -355,7 +353,7 @@ impl<'c, 'd, T: EncodedText> ElementCursor<'c, 'd, T> {
 
     /// The next element, or `None` after the last one. `LongPiece` where the characters that come next have to be read
     /// together and are more than 64: the elements to come stay the same then.
-    #[inline]
+    #[inline(always)]
     pub fn next(&mut self) -> Result<Option<CollationElement>, LongPiece>
         ensures next { IfOk result (λ next. cursor_gives T.text self.old
             ≡ option_to_list next ++ cursor_gives T.text self.new) }
