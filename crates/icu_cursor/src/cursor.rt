@@ -130,7 +130,6 @@ impl<'c, 'd, T: EncodedText, R: ReadyPlace> ElementCursor<'c, 'd, T, R> {
             Kept::Facts(facts) if facts.kind == FactsKind::Starters && facts.count == 1 => {
                 self.take_one(c, facts, rest)
             }
-            Kept::Facts(facts) if facts.kind == FactsKind::Mark => self.take_mark(c, facts, rest),
             kept => self.take_kept(c, kept, rest),
         }
     }
@@ -147,6 +146,7 @@ impl<'c, 'd, T: EncodedText, R: ReadyPlace> ElementCursor<'c, 'd, T, R> {
     {
         match kept {
             Kept::Own => self.take_own(c, rest),
+            Kept::Facts(facts) if facts.kind == FactsKind::Mark => self.take_mark(c, facts, rest),
             Kept::Facts(facts) => self.take_char(c, facts, rest),
             Kept::Nothing => self.take_syllable(c, rest),
         }
@@ -167,8 +167,9 @@ impl<'c, 'd, T: EncodedText, R: ReadyPlace> ElementCursor<'c, 'd, T, R> {
         Some(element)
     }
 
-    /// The first element of a character of which this is known, where it is read by itself. The others are kept.
-    #[inline(always)]
+    /// The first element of a character of which this is known, where it is read by itself. The others are kept. Out of
+    /// line, so that it is one test whether a character is a mark, as each fifth is in many scripts of India.
+    #[inline(never)]
     fn take_char(&mut self, c: char, facts: &CharFacts, rest: T) -> Option<CollationElement>
         requires nothing { HasNothingReady R.ready self.old }
         requires text { T.text self.old.text ≡ c ∷ T.text rest }
@@ -186,8 +187,8 @@ impl<'c, 'd, T: EncodedText, R: ReadyPlace> ElementCursor<'c, 'd, T, R> {
     }
 
     /// The first element of a mark, which is read with the next character where that one may be read by itself too. The
-    /// others are kept. Out of line, and apart from `take_kept`: in most scripts of India each fifth character is a mark.
-    #[inline(never)]
+    /// others are kept.
+    #[inline(always)]
     fn take_mark(&mut self, c: char, facts: &CharFacts, rest: T) -> Option<CollationElement>
         requires nothing { HasNothingReady R.ready self.old }
         requires text { T.text self.old.text ≡ c ∷ T.text rest }
@@ -352,7 +353,8 @@ impl<'c, 'd, T: EncodedText> ElementCursor<'c, 'd, T> {
     }
 
     /// The next element, or `None` after the last one. `LongPiece` where the characters that come next have to be read
-    /// together and are more than 64: the elements to come stay the same then.
+    /// together and are more than 64: the elements to come stay the same then. Most characters are read where it is
+    /// called, without a call.
     #[inline(always)]
     pub fn next(&mut self) -> Result<Option<CollationElement>, LongPiece>
         ensures next { IfOk result (λ next. cursor_gives T.text self.old
