@@ -146,6 +146,7 @@ impl<'c, 'd, T: EncodedText, R: ReadyPlace> ElementCursor<'c, 'd, T, R> {
     {
         match kept {
             Kept::Own => self.take_own(c, rest),
+            Kept::Facts(facts) if facts.kind == FactsKind::Mark => self.take_mark(c, facts, rest),
             Kept::Facts(facts) => self.take_char(c, facts, rest),
             Kept::Nothing => self.take_syllable(c, rest),
         }
@@ -166,8 +167,9 @@ impl<'c, 'd, T: EncodedText, R: ReadyPlace> ElementCursor<'c, 'd, T, R> {
         Some(element)
     }
 
-    /// The first element of a character of which this is known, where it is read by itself. The others are kept.
-    #[inline(always)]
+    /// The first element of a character of which this is known, where it is read by itself. The others are kept. Out of
+    /// line, so that it is one test whether a character is a mark, as each fifth is in many scripts of India.
+    #[inline(never)]
     fn take_char(&mut self, c: char, facts: &CharFacts, rest: T) -> Option<CollationElement>
         requires nothing { HasNothingReady R.ready self.old }
         requires text { T.text self.old.text ≡ c ∷ T.text rest }
@@ -175,9 +177,6 @@ impl<'c, 'd, T: EncodedText, R: ReadyPlace> ElementCursor<'c, 'd, T, R> {
         ensures next { gives_with R.ready T.text self.old
             ≡ option_to_list result ++ gives_with R.ready T.text self.new }
     {
-        if facts.kind == FactsKind::Mark {
-            return self.take_mark(c, facts, rest);
-        }
         if !stands_before(self.tables, facts, rest) {
             return self.take_base(c, facts, rest);
         }
@@ -354,8 +353,9 @@ impl<'c, 'd, T: EncodedText> ElementCursor<'c, 'd, T> {
     }
 
     /// The next element, or `None` after the last one. `LongPiece` where the characters that come next have to be read
-    /// together and are more than 64: the elements to come stay the same then.
-    #[inline]
+    /// together and are more than 64: the elements to come stay the same then. Most characters are read where it is
+    /// called, without a call.
+    #[inline(always)]
     pub fn next(&mut self) -> Result<Option<CollationElement>, LongPiece>
         ensures next { IfOk result (λ next. cursor_gives T.text self.old
             ≡ option_to_list next ++ cursor_gives T.text self.new) }
