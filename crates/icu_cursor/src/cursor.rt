@@ -16,7 +16,7 @@ use crate::digit_run::read_number;
 use crate::last_characters::LastCharacters;
 use crate::ready_elements::ReadyElements;
 use crate::ready_place::ReadyPlace;
-use crate::stands::{read_behind, stands_before};
+use crate::stands::{begins_plainly, read_behind, stands_before};
 use crate::unjoined::is_unjoined;
 use crate::{CharFacts, FactsKind, Kept};
 use icu_encodings::EncodedText;
@@ -94,7 +94,10 @@ impl<'c, 'd, T: EncodedText, R: ReadyPlace> ElementCursor<'c, 'd, T, R> {
         let facts = tables.facts(c)?;
         match facts.kind {
             FactsKind::Starters if facts.count == 1 => self.take_one(c, facts, rest),
-            _ => None,
+            FactsKind::Base if facts.count == 1 && begins_plainly(tables, rest) => {
+                self.take_one(c, facts, rest)
+            }
+            _ => self.take_kept(c, Kept::Facts(facts), rest),
         }
     }
 
