@@ -182,6 +182,7 @@ fn split_first_decoded(bytes: &[u8]) -> Option<(char, &[u8])>
         (λ p. utf8_text bytes.now ≡ p.0 ∷ utf8_text p.1.now) }
 {
     let found = match bytes {
+        [] => return None,
         [first, ..] if *first >= 0xE0 => split_first_three(bytes),
         _ => split_first_two(bytes),
     };
