@@ -16,7 +16,7 @@ use crate::digit_run::read_number;
 use crate::last_characters::LastCharacters;
 use crate::ready_elements::ReadyElements;
 use crate::ready_place::ReadyPlace;
-use crate::stands::{begins_plainly, read_behind, stands_before};
+use crate::stands::{read_behind, stands_before};
 use crate::unjoined::is_unjoined;
 use crate::{CharFacts, FactsKind, Kept};
 use icu_encodings::EncodedText;
@@ -94,11 +94,24 @@ impl<'c, 'd, T: EncodedText, R: ReadyPlace> ElementCursor<'c, 'd, T, R> {
         let facts = tables.facts(c)?;
         match facts.kind {
             FactsKind::Starters if facts.count == 1 => self.take_one(c, facts, rest),
-            FactsKind::Base if facts.count == 1 && begins_plainly(tables, rest) => {
-                self.take_one(c, facts, rest)
-            }
-            _ => self.take_kept(c, Kept::Facts(facts), rest),
+            _ => None,
         }
+    }
+
+    /// The next element, where nothing stands ready, and the next character is an ASCII one that is read by itself, but
+    /// not at once, as a letter that begins contractions. `None` says nothing: the elements to come stay the same then.
+    #[inline(never)]
+    pub fn next_ascii(&mut self) -> Option<CollationElement>
+        ensures { gives_with R.ready T.text self.old
+            ≡ option_to_list result ++ gives_with R.ready T.text self.new }
+    {
+        if !self.ready.is_empty() {
+            return None;
+        }
+        let (byte, rest) = self.text.split_first_ascii()?;
+        let c = char::from(byte);
+        let tables = self.tables;
+        self.take_kept(c, tables.kept(c), rest)
     }
 
     /// The element of a character that has one. Nothing stands ready then, and nothing is stored of what does.

@@ -94,20 +94,6 @@ pub(crate) fn begins_at_boundary<T: EncodedText>(tables: &CursorTables<'_>, text
     }
 }
 
-/// Whether a text begins with an ASCII character before which it may be cut, by what is kept of it. False says nothing.
-#[inline(always)]
-pub(crate) fn begins_plainly<T: EncodedText>(tables: &CursorTables<'_>, text: T) -> bool
-    ensures { IsTrue result → BeginsAtBoundary (cursor_reading tables.now) (T.text text) }
-{
-    match text.split_first_ascii() {
-        Some((byte, _)) => match tables.facts(char::from(byte)) {
-            Some(facts) => facts.has_boundary_before,
-            None => false,
-        },
-        None => false,
-    }
-}
-
 /// Whether a character of one of the kinds that most letters are gives its own elements before a text, and changes
 /// nothing of the text's. False says nothing.
 #[inline(always)]
