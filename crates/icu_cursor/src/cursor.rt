@@ -98,6 +98,22 @@ impl<'c, 'd, T: EncodedText, R: ReadyPlace> ElementCursor<'c, 'd, T, R> {
         }
     }
 
+    /// The next element, where nothing stands ready, and the next character is an ASCII one that is read by itself, but
+    /// not at once, as a letter that begins contractions. `None` says nothing: the elements to come stay the same then.
+    #[inline(never)]
+    pub fn next_ascii(&mut self) -> Option<CollationElement>
+        ensures { gives_with R.ready T.text self.old
+            ≡ option_to_list result ++ gives_with R.ready T.text self.new }
+    {
+        if !self.ready.is_empty() {
+            return None;
+        }
+        let (byte, rest) = self.text.split_first_ascii()?;
+        let c = char::from(byte);
+        let tables = self.tables;
+        self.take_kept(c, tables.kept(c), rest)
+    }
+
     /// The element of a character that has one. Nothing stands ready then, and nothing is stored of what does.
     #[inline(always)]
     fn take_one(&mut self, c: char, facts: &CharFacts, rest: T) -> Option<CollationElement>
