@@ -18,5 +18,6 @@ pub mod BothLemmas
 pub mod ImplicitLemmas
 mod PlainLemmas
 pub mod RunLemmas
+mod OffsetRunLemmas
 mod SpelledLemmas
 mod WorkedData
