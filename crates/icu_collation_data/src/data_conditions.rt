@@ -19,7 +19,7 @@ use std::convert::Infallible;
 /// Whether an element has common weights below a primary weight with three bytes at least, whose lead byte isn't below
 /// 03, as most elements have. Such a one fails no condition.
 #[inline(always)]
-#[tactic(auto, using(crate::proofs::PlainLemmas::plain_passes, crate::proofs::PlainLemmas::plain_meets))]
+#[tactic(auto, using(crate::proofs::PlainElementLemmas::plain_passes, crate::proofs::PlainElementLemmas::plain_meets))]
 fn is_plain(element: CollationElement) -> bool
     ensures passes { result ≡ true → first_failing_element element ≡ None }
     ensures meets { result ≡ true
