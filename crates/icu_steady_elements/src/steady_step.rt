@@ -193,7 +193,8 @@ pub(crate) fn read_char<'d, X: TextForMatches>(
     given: &mut StepElements<'d>,
 ) -> Option<CollationElement>
     requires { IsBetweenSteps given.old }
-    ensures elements { option_to_list result ++ elements_to_give (reading_of reading.entry) given.new
+    ensures elements { option_to_list result
+        ++ elements_to_give (reading_of reading.entry) given.new
         (recent_chars at.new.recent) (X.unread at.new.text)
         ≡ elements_from (reading_of reading.entry) (recent_chars at.old.recent) c
         (step (reading_of reading.entry) (recent_chars at.old.recent) c (X.unread at.old.text)) }

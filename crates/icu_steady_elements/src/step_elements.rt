@@ -18,8 +18,8 @@ pub(crate) enum StepKind {
     Run(u8),
 }
 
-/// The elements of a step that are still to be given. A number stands beside the elements of other steps, since its room
-/// is large: these don't write it.
+/// The elements of a step that are still to be given. A number stands beside the elements of other steps, since its
+/// room is large: these don't write it.
 #[derive(Debug, Clone, Copy)]
 pub(crate) struct StepElements<'d> {
     pub(crate) kind: StepKind,

@@ -26,6 +26,7 @@ kind_left Final f n = final_left f
 kind_left Digit f n = weights_given n
 kind_left (Run lead) f n = weights_given n
 
+-- those of a step
 abbrev pub given_left : StepElements → List Element
 given_left s = kind_left s.kind s.elements s.number
 
@@ -35,6 +36,7 @@ kind_lead Final = None
 kind_lead Digit = None
 kind_lead (Run lead) = Some lead
 
+-- that of a step
 abbrev pub run_lead : StepElements → Option ℕ
 run_lead s = kind_lead s.kind
 
