@@ -276,8 +276,11 @@ impl<'c, 'd, T: EncodedText, R: ReadyPlace> ElementCursor<'c, 'd, T, R> {
         ensures next { gives_with R.ready T.text self.old
             ≡ option_to_list result ++ gives_with R.ready T.text self.new }
     {
-        if is_plainly_unjoined(self.tables, c, rest) {
-            return self.take_alone(c, facts, rest);
+        if let Some(unjoined) = is_plainly_unjoined(self.tables, c, rest) {
+            if unjoined {
+                return self.take_alone(c, facts, rest);
+            }
+            return None;
         }
         let (x, after) = rest.split_first_char()?;
         match self.tables.pair(c, x) {

@@ -238,8 +238,11 @@ impl<'c, 'd, T: EncodedText> FactsCursor<'c, 'd, T> {
         requires base { facts.now.kind ≡ FactsKind.Base }
         ensures { IfSome result (λ e. GoesOn T.text self.old e self.new) }
     {
-        if is_plainly_unjoined(self.tables, c, rest) {
-            return self.begin_alone(c, facts, rest);
+        if let Some(unjoined) = is_plainly_unjoined(self.tables, c, rest) {
+            if unjoined {
+                return self.begin_alone(c, facts, rest);
+            }
+            return None;
         }
         let (x, after) = rest.split_first_char()?;
         match self.tables.pair(c, x) {

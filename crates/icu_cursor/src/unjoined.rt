@@ -49,12 +49,9 @@ fn mappings_of<'d>(tables: &CursorTables<'d>, c: char) -> Option<FoundContext<'d
     if reading.numeric_primary.is_some() || reading.tables.secondary_of_diacritic(c).is_some() {
         return None;
     }
-    if !is_plain(c) {
-        return None;
-    }
     let (home, ce32) = reading.tables.homed_entry(c);
     match ce32.kind() {
-        EntryKind::Contraction => Some(home.get_context(ce32.index())),
+        EntryKind::Contraction if is_plain(c) => Some(home.get_context(ce32.index())),
         _ => None,
     }
 }
@@ -255,23 +252,24 @@ fn joins_no_mark<T: EncodedText>(
 }
 
 /// Whether a character that begins contractions gives before a text what it gives at the end of one, as `is_unjoined`
-/// has it: at the end, before a boundary, and before most marks, by one look at the next character. False says nothing.
+/// has it, by one look at the next character: at the end and before a boundary it does, and before marks if none of them
+/// is joined. `None` where another character follows. `Some(false)` and `None` say nothing.
 #[inline(never)]
 pub(crate) fn is_plainly_unjoined<T: EncodedText>(
     tables: &CursorTables<'_>,
     c: char,
     text: T,
-) -> bool
-    ensures { IsTrue result → (es : List Element)
+) -> Option<bool>
+    ensures { IfSome result (λ yes. IsTrue yes → (es : List Element)
         → StandsBefore (cursor_reading tables.now) c es []
-        → StandsBefore (cursor_reading tables.now) c es (T.text text) }
+        → StandsBefore (cursor_reading tables.now) c es (T.text text)) }
 {
     let Some((x, rest)) = text.split_first_char() else {
-        return true;
+        return Some(true);
     };
     match kept_follower(tables, x) {
-        Follower::Boundary => true,
-        Follower::Head(d, class) if class != 0 => joins_no_mark(tables, c, (d, class), rest),
-        _ => false,
+        Follower::Boundary => Some(true),
+        Follower::Head(d, class) if class != 0 => Some(joins_no_mark(tables, c, (d, class), rest)),
+        _ => None,
     }
 }

@@ -1,4 +1,4 @@
-use Rattle.std.proofs.Common.{◌≡◌, ◌∷◌, ℕ, ◌≤◌, arith, rules}
+use Rattle.std.proofs.Common.{◌∷◌, ◌≤◌, arith, rules}
 use Rattle.icu_collation_data.specs.StoredData.{found_context}
 use Rattle.icu_cursor.specs.Cursors.{cursor_reading}
 use Rattle.icu_cursor.specs.inner.Unjoined.{BeginsNone, IsUnjoinedBefore}
@@ -14,6 +14,6 @@ returns-then-begins_none g c = λ yes x head other es stands.
     let none : BeginsNone context c.args.head.0 = c.begins_none.ensures (search rules) in
     let least : 0 ≤ c.args.head.1 = omega arith in
     let h : IsUnjoinedBefore reading context 0 (x ∷ text) =
-        mark_before reading context 0 x c.args.head.0 c.args.head.1 text head other least none (c.joins_none.ensures yes) in
+    mark_before reading context 0 x c.args.head.0 c.args.head.1 text head other least none (c.joins_none.ensures yes) in
     cut_stands reading c.args.c es (x ∷ text) h.front h.rest h.parts h.boundary
     (unjoined_stands reading c.args.c context c.in-Some.ensures.begins h.front h.unjoined es stands)

@@ -4,4 +4,4 @@ use Rattle.icu_cursor.proofs.cursor.ElementCursor.take_base.Goals as goal
 
 pub take_alone-requires-clause-stands : goal.take_alone-requires-clause-stands
 take_alone-requires-clause-stands g c =
-    c.is_plainly_unjoined.ensures (search rules) (char_elements c.args.facts.now) (c.requires.facts.base c.requires.base [] tt)
+    c.in-Some.ensures (search rules) (char_elements c.args.facts.now) (c.requires.facts.base c.requires.base [] tt)

@@ -4,4 +4,4 @@ use Rattle.icu_cursor.proofs.facts_cursor.FactsCursor.begin_base.Goals as goal
 
 pub begin_alone-requires-clause-stands : goal.begin_alone-requires-clause-stands
 begin_alone-requires-clause-stands g c =
-    c.is_plainly_unjoined.ensures (search rules) (char_elements c.args.facts.now) (c.requires.facts.base c.requires.base [] tt)
+    c.in-Some.ensures (search rules) (char_elements c.args.facts.now) (c.requires.facts.base c.requires.base [] tt)
