@@ -41,7 +41,7 @@ still_some best (mapping ∷ mappings) text h =
       | inr other ↦ still_some best mappings text (rw other at h)
     ]
 
-begins_whole : (chars : List ℕ) (m : ℕ) → bytes_eq chars (m ∷ []) ≡ true → starts_with nat_eq (m ∷ []) chars ≡ true
+pub begins_whole : (chars : List ℕ) (m : ℕ) → bytes_eq chars (m ∷ []) ≡ true → starts_with nat_eq (m ∷ []) chars ≡ true
 begins_whole [] m h = cc
 begins_whole (y ∷ []) m h = h
 begins_whole (y ∷ (z ∷ zs)) m h = absurd (true≢false (sym h ∙ and_false (nat_eq y m)))
@@ -59,7 +59,7 @@ others mapping mappings m h =
     ]
 
 -- what no mapping begins with none is
-none_whole : (mappings : List Mapping) (m : ℕ) → longest_mapping mappings (m ∷ []) ≡ None → mapping_entry mappings (m ∷ []) ≡ None
+pub none_whole : (mappings : List Mapping) (m : ℕ) → longest_mapping mappings (m ∷ []) ≡ None → mapping_entry mappings (m ∷ []) ≡ None
 unfolding longest_from mapping_entry
 none_whole [] m h = refl
 none_whole (mapping ∷ mappings) m h =
@@ -114,16 +114,16 @@ contracted_none context text none h =
     ]) none
     ∙ none_joins context context.default [] text h
 
-first_none : (context : Context) (d : ℕ) (ds : List ℕ) → BeginsNone context d → longest_mapping context.mappings (d ∷ ds) ≡ None
+pub first_none : (context : Context) (d : ℕ) (ds : List ℕ) → BeginsNone context d → longest_mapping context.mappings (d ∷ ds) ≡ None
 first_none context d ds h = longest_from-decided None context.mappings (d ∷ []) ds h.decided ∙ h.none
 
 -- ---- the step
 
-no_lead : (o : Option ℕ) (f : ℕ → Step) (y : Step) → o ≡ None → (elim o as (λ _. Step) [ None ↦ y | Some lead ↦ f lead ]) ≡ y
+pub no_lead : (o : Option ℕ) (f : ℕ → Step) (y : Step) → o ≡ None → (elim o as (λ _. Step) [ None ↦ y | Some lead ↦ f lead ]) ≡ y
 no_lead (Some lead) f y h = cc
 no_lead None f y h = refl
 
-no_secondary : (o : Option ℕ) (f : ℕ → Step) (y : Step) → o ≡ None → (elim o as (λ _. Step) [ Some s ↦ f s | None ↦ y ]) ≡ y
+pub no_secondary : (o : Option ℕ) (f : ℕ → Step) (y : Step) → o ≡ None → (elim o as (λ _. Step) [ Some s ↦ f s | None ↦ y ]) ≡ y
 no_secondary (Some s) f y h = cc
 no_secondary None f y h = refl
 
@@ -211,7 +211,7 @@ module _ (reading : Reading) (c : ℕ) (context : Context) (h : BeginsContractio
 
 -- ---- runs of marks
 
-or_true : (b : Bool) → ((b || true) && true) ≡ true
+pub or_true : (b : Bool) → ((b || true) && true) ≡ true
 or_true true = refl
 or_true false = refl
 

@@ -13,6 +13,7 @@ ghost use Rattle.icu_elements.specs.TextElements.{Reading};
 ghost use Rattle.icu_elements.specs.inner.StepsTaken.{FirstIsEarlier, FirstIsLater, NoneBeginsWith};
 ghost use Rattle.icu_cursor.specs.inner.Unjoined.{BeginsContractions, BeginsNone, IsFollower, IsHead, IsUnjoinedBefore};
 
+use crate::composed::stands_composed;
 use crate::cursor_tables::CursorTables;
 use crate::{FactsKind, Kept};
 use icu_collation_data::FoundContext;
@@ -112,7 +113,7 @@ fn finds_none(context: FoundContext<'_>, d: char) -> bool
 
 /// Whether no mapping of a context begins with a character. Mostly the first and the last one say so.
 #[inline(always)]
-fn begins_none(context: FoundContext<'_>, d: char) -> bool
+pub(crate) fn begins_none(context: FoundContext<'_>, d: char) -> bool
     requires { IsTrue (has_ascending_mappings (found_context context)) }
     ensures { IsTrue result → BeginsNone (found_context context.entry) d }
 {
@@ -145,7 +146,7 @@ fn decomposed_follower(c: char) -> Follower
 
 /// What a character is that follows one that begins contractions, by what is kept of it.
 #[inline(always)]
-fn kept_follower(tables: &CursorTables<'_>, c: char) -> Follower
+pub(crate) fn kept_follower(tables: &CursorTables<'_>, c: char) -> Follower
     ensures { IsFollower (cursor_reading tables.now) c result }
 {
     match tables.kept(c) {
@@ -247,7 +248,7 @@ fn joins_no_mark<T: EncodedText>(
 {
     match mappings_of(tables, c) {
         Some(context) => begins_none(context, head.0) && joins_none(tables, context, head.1, rest),
-        None => false,
+        None => stands_composed(tables, c, head, rest),
     }
 }
 
