@@ -1,18 +1,22 @@
 -- What a source of decomposed characters has left once it was read.
-use Rattle.std.proofs.Common.{◌≡◌, ℕ, ◌≤◌, Bool, true, false, List, [], ◌∷◌, ◌++◌, flat_map, Option, Some, None, refl, sym, ap, subst, ◌∙◌, arith}
+use Rattle.std.proofs.Common.{◌≡◌, ℕ, ◌<◌, ◌≤◌, Bool, true, false, List, [], ◌∷◌, ◌++◌, flat_map, Option, Some, None, refl, sym, ap, subst, ◌∙◌, arith}
 use Rattle.ucd_normal.specs.CanonicalCombiningClass.{canonical_combining_class as ccc}
 use Rattle.ucd_normal.specs.declared.forms.Form.TheVariants.{Nfd}
+use Rattle.ucd_normal.specs.declared.forms.QuickCheck.TheVariants.{Yes}
+use Rattle.ucd_normal.specs.QuickCheck.{quick_check}
 use Rattle.unicode_normalization.specs.Decompose.{decompose_canonical}
 use Rattle.unicode_normalization.specs.Forms.{nfd, decomposed}
-use Rattle.unicode_normalization.specs.Iter.{Spells, SourceSpells}
+use Rattle.unicode_normalization.specs.Iter.{Spells, SourceSpells, IsFirstOf}
 use Rattle.unicode_normalization.specs.Order.{is_starter, canonical_order}
-use Rattle.unicode_normalization.proofs.FormsLemmas.{normalize-Nfd}
+use Rattle.unicode_normalization.proofs.DecomposeLemmas.{decompose-final}
+use Rattle.unicode_normalization.proofs.FormsLemmas.{normalize-Nfd, is_final-Nfd, class-latin, quick_check-below}
 use Rattle.unicode_normalization.proofs.IterLemmas.{Spells-next, Spells-end}
 use Rattle.unicode_normalization.proofs.OrderLemmas.{canonical_order-nil, canonical_order-at_starter}
-use Rattle.std.proofs.lemmas.Bool.{eqb-true}
+use Rattle.std.proofs.lemmas.Bool.{eqb-true, eq-eqb, not-true, not-false}
+use Rattle.std.specs.Prelude.{is_some, not, IfSome, IfNone, MatchOption}
 use Rattle.icu_elements.specs.declared.decomposed_source.DecomposedSource.{DecomposedSource}
 use Rattle.icu_elements.specs.declared.decomposed_source.held_chars.HeldChars.{HeldChars}
-use Rattle.icu_elements.specs.inner.HeldChars.{held_before, held_count, PassesOn}
+use Rattle.icu_elements.specs.inner.HeldChars.{held_before, held_count, marks_count, PassesOn}
 use Rattle.icu_elements.specs.inner.Iterating.{StillSpells, StillReads, ReadsNext, GivesNext}
 use Rattle.icu_elements.proofs.HeldCharLemmas.{held_before-empty}
 
@@ -34,6 +38,9 @@ module _ {I : Type 0} (steps : I → Option ℕ → I → Type 0) where
   spelled_none : (s : DecomposedSource I) → s.is_done ≡ true → StillSpells steps s []
   spelled_none s e = subst (λ b. SourceSpells steps b s.iter []) (sym e) refl
 
+  moved : (old new : DecomposedSource I) (cs : List ℕ) → new.iter ≡ old.iter → new.is_done ≡ old.is_done → StillSpells steps old cs → StillSpells steps new cs
+  moved old new cs iter done h = subst (λ b. SourceSpells steps b new.iter cs) (sym done) (subst (λ (it : I). SourceSpells steps old.is_done it cs) (sym iter) h)
+
   -- it has ended
   pub ReadsNext-done : (s : DecomposedSource I) → s.is_done ≡ true → ReadsNext steps None s s
   ReadsNext-done s e = λ cs h. (subst (λ b. SourceSpells steps b s.iter cs) e h, spelled_none s e)
@@ -46,6 +53,10 @@ module _ {I : Type 0} (steps : I → Option ℕ → I → Type 0) where
   pub ReadsNext-some : (old new : DecomposedSource I) (c : ℕ) → old.is_done ≡ false → steps old.iter (Some c) new.iter → new.is_done ≡ false → ReadsNext steps (Some c) old new
   ReadsNext-some old new c before step after = λ cs h.
       let next = Spells-next steps old.iter new.iter c cs step (spells old cs before h) in (next.0, next.1, spelled_by new next.0 after next.2)
+
+  pub ReadsNext-read : (old new : DecomposedSource I) (found : Option ℕ) → old.is_done ≡ false → steps old.iter found new.iter → is_some found ≡ not new.is_done → ReadsNext steps found old new
+  ReadsNext-read old new (Some c) before step after = ReadsNext-some old new c before step (not-true _ (sym after))
+  ReadsNext-read old new None before step after = ReadsNext-none old new new.iter before step (not-false _ (sym after))
 
   -- ---- what it gives
 
@@ -81,31 +92,46 @@ module _ {I : Type 0} (steps : I → Option ℕ → I → Type 0) where
       let next = reads h.unread h.spelled in
       record {
         unread = next.0;
-        spelled = subst (λ b. SourceSpells steps b new.iter next.0) (sym done) (subst (λ (it : I). SourceSpells steps mid.is_done it next.0) (sym iter) next.2);
+        spelled = moved mid new next.0 iter done next.2;
         text = h.text ∙ ap (λ (l : List ℕ). held_before old.held (flat_map decompose_canonical l)) next.1 ∙ pushed.at (flat_map decompose_canonical next.0);
       }
 
-  -- the delegate has no more, and those that are held were put in order
-  pub StillReads-settled : (old mid new : DecomposedSource I) → ReadsNext steps None old mid → new.iter ≡ mid.iter → new.is_done ≡ mid.is_done → held_before new.held [] ≡ held_before old.held []
-      → (cs : List ℕ) → StillReads steps old cs → (StillSpells steps new []) × (cs ≡ held_before new.held [])
-  StillReads-settled old mid new reads iter done same cs h =
-      let none = reads h.unread h.spelled in (
-        subst (λ b. SourceSpells steps b new.iter []) (sym done) (subst (λ (it : I). SourceSpells steps mid.is_done it []) (sym iter) none.1),
-        h.text ∙ ap (λ (l : List ℕ). held_before old.held (flat_map decompose_canonical l)) none.0 ∙ sym same,
-      )
-
-  -- one was taken of those that are held
-  pub GivesNext-taken : (old new : DecomposedSource I) (c : ℕ) → new.iter ≡ old.iter → new.is_done ≡ old.is_done → PassesOn old.held [] (c ∷ []) new.held → GivesNext steps (Some c) old new
-  GivesNext-taken old new c iter done taken = λ cs h. (
+  -- one of those that are held was ready
+  pub GivesNext-ready : (old new : DecomposedSource I) (found : Option ℕ) → new.iter ≡ old.iter → new.is_done ≡ old.is_done → marks_count old.held < held_count old.held
+      → IfSome found (λ c. PassesOn old.held [] (c ∷ []) new.held) → IfNone found ((new.held ≡ old.held) × (held_count old.held ≡ marks_count old.held)) → GivesNext steps found old new
+  GivesNext-ready old new (Some c) iter done ready some none = λ cs h. (
     held_before new.held (flat_map decompose_canonical h.unread),
-    h.text ∙ taken.at (flat_map decompose_canonical h.unread),
-    record {
-      unread = h.unread;
-      spelled = subst (λ b. SourceSpells steps b new.iter h.unread) (sym done) (subst (λ (it : I). SourceSpells steps old.is_done it h.unread) (sym iter) h.spelled);
-      text = refl;
-    },
+    h.text ∙ some.at (flat_map decompose_canonical h.unread),
+    record { unread = h.unread; spelled = moved old new h.unread iter done h.spelled; text = refl },
   )
+  GivesNext-ready old new None iter done ready some none = absurd (omega arith)
+
+  last_of : (new : DecomposedSource I) (settled : HeldChars) (found : Option ℕ) (cs : List ℕ) → StillSpells steps new [] → cs ≡ held_before settled [] → marks_count settled ≡ 0
+      → IfSome found (λ c. PassesOn settled [] (c ∷ []) new.held) → IfNone found ((new.held ≡ settled) × (held_count settled ≡ marks_count settled))
+      → MatchOption found ((cs ≡ []) × StillReads steps new []) (IsFirstOf (StillReads steps) cs new)
+  last_of new settled (Some c) cs spelled left ready some none = (held_before new.held [], left ∙ some.at [], record { unread = []; spelled = spelled; text = refl })
+  last_of new settled None cs spelled left ready some none =
+      let nothing : held_before settled [] ≡ [] = held_before-empty settled [] (omega (arith, none.1)) ∙ canonical_order-nil in
+      (left ∙ nothing, record { unread = []; spelled = spelled; text = sym (ap (λ (h : HeldChars). held_before h []) none.0 ∙ nothing) })
+
+  -- the delegate had no more: those that are held were put in order, and the first of them taken, or none was there
+  pub GivesNext-last : (old mid new : DecomposedSource I) (settled : HeldChars) (found : Option ℕ) → ReadsNext steps None old mid → new.iter ≡ mid.iter → new.is_done ≡ mid.is_done
+      → held_before settled [] ≡ held_before old.held [] → marks_count settled ≡ 0
+      → IfSome found (λ c. PassesOn settled [] (c ∷ []) new.held) → IfNone found ((new.held ≡ settled) × (held_count settled ≡ marks_count settled)) → GivesNext steps found old new
+  GivesNext-last old mid new settled found reads iter done same ready some none = λ cs h.
+      let ended = reads h.unread h.spelled in
+      let spelled = moved mid new [] iter done ended.1 in
+      let left : cs ≡ held_before settled [] = h.text ∙ ap (λ (l : List ℕ). held_before old.held (flat_map decompose_canonical l)) ended.0 ∙ sym same in
+      last_of new settled found cs spelled left ready some none
 
 -- what is given of what is left after more was read is given of what was left before
 pub GivesNext-then : {I : Type 0} (steps : I → Option ℕ → I → Type 0) (old mid new : DecomposedSource I) (found : Option ℕ) → ((cs : List ℕ) → StillReads steps old cs → StillReads steps mid cs) → GivesNext steps found mid new → GivesNext steps found old new
 GivesNext-then steps old mid new found same gives = λ cs h. gives cs (same cs h)
+
+-- a character of class 0 that passes the quick check is a starter that decomposes to itself
+pub decomposed_starter : (c : ℕ) → ccc c ≡ 0 → quick_check Nfd c ≡ Yes → (is_starter c ≡ true) × (decompose_canonical c ≡ c ∷ [])
+decomposed_starter c class passes = (eq-eqb (ccc c) 0 class, decompose-final Nfd c (is_final-Nfd c passes))
+
+-- so is each below U+00C0
+pub latin_starter : (c : ℕ) → c < 0xC0 → (is_starter c ≡ true) × (decompose_canonical c ≡ c ∷ [])
+latin_starter c low = decomposed_starter c (class-latin c (omega arith)) (quick_check-below Nfd c low)

@@ -43,9 +43,9 @@ impl HeldChars {
         self.chars.is_empty()
     }
 
-    /// Whether one is ready.
+    /// Whether one is ready. False says nothing.
     pub(crate) fn has_ready(&self) -> bool
-        ensures { result ≡ false → held_count self.now ≡ marks_count self.now }
+        ensures { IsTrue result → marks_count self.now < held_count self.now }
     {
         self.next < self.ready
     }
@@ -56,6 +56,7 @@ impl HeldChars {
         ensures none { IfNone result
             ((self.new ≡ self.old) × (held_count self.old ≡ marks_count self.old)) }
         ensures fewer { OnSome result (held_count self.new < held_count self.old) }
+        ensures count { held_count self.new ≤ held_count self.old }
     {
         if self.next >= self.ready {
             return None;

@@ -4,8 +4,8 @@ use Rattle.icu_elements.specs.inner.HeldChars.{held_before}
 use Rattle.icu_elements.proofs.HeldCharLemmas.{PassesOn-last}
 use Rattle.icu_elements.proofs.decomposed_source.held_chars.HeldChars.take_ready.Goals as goal
 
-pub returns-then-self-next-eqlen-clause-some : goal.returns-then-self-next-eqlen-clause-some
-returns-then-self-next-eqlen-clause-some c =
+pub returns-then-self-len-clause-some : goal.returns-then-self-len-clause-some
+returns-then-self-len-clause-some c =
     PassesOn-last c.args.self.now _ _ (omega arith) (omega arith) c.index-c.ensures c.clear.ensures
 
 pub returns-clause-some : goal.returns-clause-some
