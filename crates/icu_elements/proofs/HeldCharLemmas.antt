@@ -1,5 +1,5 @@
 -- The characters that a source holds.
-use Rattle.std.proofs.Common.{◌≡◌, ℕ, ◌+◌, ◌<◌, ◌≤◌, List, [], ◌∷◌, ◌++◌, length, get_or, take, drop, refl, sym, ap, ◌∙◌, arith, append_assoc}
+use Rattle.std.proofs.Common.{◌≡◌, ℕ, ◌+◌, ◌<◌, ◌≤◌, List, [], ◌∷◌, ◌++◌, length, get_or, sym, ap, ◌∙◌, arith, append_assoc}
 use Rattle.unicode_normalization.specs.Order.{canonical_order}
 use Rattle.unicode_normalization.proofs.Steps.ReorderLemmas.{out-pop, out-empty}
 use Rattle.icu_elements.specs.declared.decomposed_source.held_chars.HeldChars.{HeldChars}

@@ -1,4 +1,4 @@
-use Rattle.std.proofs.Common.{arith, rules}
+use Rattle.std.proofs.Common.{arith}
 use Rattle.unicode_normalization.proofs.Steps.ReorderLemmas.{out-pop}
 use Rattle.icu_elements.specs.inner.HeldChars.{held_before}
 use Rattle.icu_elements.proofs.HeldCharLemmas.{PassesOn-last}
