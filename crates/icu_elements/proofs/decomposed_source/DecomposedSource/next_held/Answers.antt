@@ -16,8 +16,8 @@ returns-in_default-clause-gives g c =
     (record { iter = c.read_char.new.self.iter; is_done = c.read_char.new.self.is_done; held = c.take_ready.new.self })
     c.take_ready.result c.reading.invariant.same
     (GivesNext-last g.I.Iterator.next_gives c.reading.self c.read_char.new.self _ c.settle_marks.new.self c.take_ready.result c.in_default.ensures.reads refl refl
-      (c.in_ok-settle_marks.ensures.same ∙ ap (λ h. held_before h []) c.in_default.ensures.held)
-      c.in_ok-settle_marks.ensures.ready c.take_ready.ensures.some c.take_ready.ensures.none)
+    (c.in_ok-settle_marks.ensures.same ∙ ap (λ h. held_before h []) c.in_default.ensures.held)
+    c.in_ok-settle_marks.ensures.ready c.take_ready.ensures.some c.take_ready.ensures.none)
 
 pub returns-clause-gives : goal.returns-clause-gives
 returns-clause-gives g c =

@@ -17,7 +17,7 @@ pub returns-clause-gives : goal.returns-clause-gives
 returns-clause-gives g c =
     IfOk-weaker c.next_held.result _ _
     (λ found. GivesNext-then g.I.Iterator.next_gives c.args.self.now _ c.next_held.new.self found
-      (StillReads-pushed g.I.Iterator.next_gives c.args.self.now c.read_char.new.self
-        (record { iter = c.read_char.new.self.iter; is_done = c.read_char.new.self.is_done; held = c.push_decomposed.new.self })
-        c.in-Some.c c.in-Some.ensures.reads refl refl (rw c.in-Some.ensures.held at c.in_ok-push_decomposed.ensures.ok)))
+    (StillReads-pushed g.I.Iterator.next_gives c.args.self.now c.read_char.new.self
+    (record { iter = c.read_char.new.self.iter; is_done = c.read_char.new.self.is_done; held = c.push_decomposed.new.self })
+    c.in-Some.c c.in-Some.ensures.reads refl refl (rw c.in-Some.ensures.held at c.in_ok-push_decomposed.ensures.ok)))
     c.next_held.ensures.gives
