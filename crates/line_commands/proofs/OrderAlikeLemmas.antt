@@ -66,7 +66,7 @@ module _ (key : List ℕ → List ℕ) (lines keys : List (List ℕ)) (h : Order
       → firsts_behind (λ x y. is_eq (by_key h.other x y)) x xs ≡ firsts_behind (λ x y. is_eq (by_key key x y)) x xs
   behind_alike x [] hx are = refl
   behind_alike x (y ∷ ys) hx are =
-      behind_at (is_eq (by_key h.other x y)) (is_eq (by_key key x y)) y _ _ _ _ (ap is_eq (keys_alike x y hx are.0)) (behind_alike x ys hx are.1)
+      behind_at (is_eq (by_key h.other x y)) (is_eq (by_key key x y)) y _ _ _ _ (ap is_eq (keys_alike x y hx are.0)) (behind_alike y ys are.0 are.1)
       (behind_alike y ys are.0 are.1)
 
   printed_alike : (r : Repeats) (xs : List (List ℕ)) → AllByRecursion Is xs

@@ -130,7 +130,7 @@ module _ (f : FrontCounts) (key : List ℕ → List ℕ) (lines : List (List ℕ
         (bytes_at i low) (bytes_at j high)
         (short_number (is_shared f (prefix_of (key (line i)))) (key (line i)) (bytes_at i low))
         (short_number (is_shared f (prefix_of (key (line j)))) (key (line j)) (bytes_at j high)) less
-    at (inr no) (inl more) = above_alike (short (line i)) (short (line j)) (key (line i)) (key (line j))
+    at (inr most) (inl more) = above_alike (short (line i)) (short (line j)) (key (line i)) (key (line j))
         (short_bytes (is_shared f (prefix_of (key (line i)))) (key (line i)) (bytes_at i low))
         (short_bytes (is_shared f (prefix_of (key (line j)))) (key (line j)) (bytes_at j high))
         (bytes_at i low) (bytes_at j high)
