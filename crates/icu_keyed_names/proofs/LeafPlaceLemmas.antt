@@ -7,7 +7,7 @@ use Rattle.std.specs.List.{AllByRecursion, AllWithin}
 use Rattle.std.specs.List.Sorted.{IsPartitionedBy, IsPartitionPoint}
 use Rattle.icu_collation_data.proofs.ListLemmas.{all_first, all_second}
 use Rattle.icu_keyed_names.specs.declared.name_entries.Entry.{Entry}
-use Rattle.icu_keyed_names.specs.inner.Leaves.{AreFilled, IsParted, Parts, entries_of, leaf_at, leaf_before}
+use Rattle.icu_keyed_names.specs.inner.Leaves.{AreFilled, FailsAt, IsParted, Parts, PassesBefore, entries_of, leaf_at, leaf_before}
 
 -- ---- a list that a test parts
 
@@ -36,6 +36,28 @@ module _ {X : Type 0} (test : X → Bool) where
   parted_by (x ∷ xs) parted zero (suc j) d le low h = passed_here (test x) x xs refl parted j d (omega arith) h
   parted_by (x ∷ xs) parted (suc i) zero d le low h = absurd (omega arith)
   parted_by (x ∷ xs) parted (suc i) (suc j) d le low h = parted_by xs parted.1 i j d (omega arith) (omega arith) h
+
+  pub same_got : (xs : List X) (i : ℕ) (d e : X) → i < length xs → get_or xs i d ≡ get_or xs i e
+  same_got [] i d e low = absurd (omega arith)
+  same_got (x ∷ xs) zero d e low = refl
+  same_got (x ∷ xs) (suc i) d e low = same_got xs i d e (omega arith)
+
+  still_fails : (xs : List X) (i k : ℕ) (d : X) → IsParted test xs → i ≤ k → k < length xs → test (get_or xs i d) ≡ false → (b : Bool) → test (get_or xs k d) ≡ b → test (get_or xs k d) ≡ false
+  still_fails xs i k d parted le low no false e = e
+  still_fails xs i k d parted le low no true e = let yes = parted_by xs parted i k d le low e in absurd (cc)
+
+  -- a place that an element which passes stands before, and one which fails behind
+  pub point_here : (xs : List X) (i : ℕ) → IsParted test xs → i ≤ length xs → PassesBefore test xs i → FailsAt test xs i → IsPartitionPoint Passes Fails xs i
+  point_here xs i parted low passes fail =
+      (λ k d at below. parted_by xs parted k (i - 1) d (omega arith) (omega arith) (passes d (omega arith)),
+      λ k d at below. still_fails xs i k d parted at below (fail d (omega arith)) (test (get_or xs k d)) refl)
+
+  -- by the one element that is looked at
+  pub passes_before : (xs : List X) (i : ℕ) (x : X) → i ≤ length xs → x ≡ get_or xs (i - 1) x → test x ≡ true → PassesBefore test xs i
+  passes_before xs i x low is h d some = subst (λ y. test y ≡ true) (is ∙ same_got xs (i - 1) x d (omega arith)) h
+
+  pub fails_at : (xs : List X) (i : ℕ) (x : X) → x ≡ get_or xs i x → test x ≡ false → FailsAt test xs i
+  fails_at xs i x is h d low = subst (λ y. test y ≡ false) (is ∙ same_got xs i x d low) h
 
   -- ---- what it leaves of a list
 

@@ -9,7 +9,7 @@ use crate::name_entries::{Entry, Sought};
 use std::alloc::{AllocError, Global};
 
 /// How many entries a leaf has at most.
-const ENTRIES: usize = 256;
+const ENTRIES: usize = 128;
 
 /// For how many entries room is made at once.
 const ROOM: usize = 8;
@@ -25,8 +25,27 @@ fn cut(leaves: &mut Vec<Vec<Entry>>, at: usize, len: usize)
     leaf.shrink_to(len);
 }
 
+/// Notes the number that a leaf begins with.
+fn note(firsts: &mut Vec<u64>, at: usize, first: u64) {
+    if at < firsts.len() {
+        firsts[at] = first;
+    }
+}
+
+/// Notes the number that a further leaf begins with, behind another leaf. There is room for it.
+fn note_more(firsts: &mut Vec<u64>, behind: usize, first: u64) {
+    if behind < firsts.len() {
+        let _room = firsts.insert(behind + 1, first);
+    }
+}
+
 /// Parts a leaf in two.
-fn split(alloc: Global, leaves: &mut Vec<Vec<Entry>>, at: usize) -> Result<(), AllocError>
+fn split(
+    alloc: Global,
+    leaves: &mut Vec<Vec<Entry>>,
+    firsts: &mut Vec<u64>,
+    at: usize,
+) -> Result<(), AllocError>
     ensures entries { entries_of leaves.new.items ≡ entries_of leaves.old.items }
     ensures filled { AreFilled leaves.old.items → AreFilled leaves.new.items }
 {
@@ -35,9 +54,12 @@ fn split(alloc: Global, leaves: &mut Vec<Vec<Entry>>, at: usize) -> Result<(), A
     if middle == 0 {
         return Ok(());
     }
+    let first = leaf[middle].prefix;
     let upper = Vec::from_slice(alloc, &leaf[middle..])?;
+    firsts.reserve(1)?;
     leaves.insert(at + 1, upper)?;
     cut(leaves, at, middle);
+    note_more(firsts, at, first);
     Ok(())
 }
 
@@ -59,6 +81,7 @@ fn put(leaf: &mut Vec<Entry>, place: usize, entry: Entry) -> Result<(), AllocErr
 fn put_at(
     alloc: Global,
     leaves: &mut Vec<Vec<Entry>>,
+    firsts: &mut Vec<u64>,
     place: Place,
     entry: Entry,
 ) -> Result<(), AllocError>
@@ -71,10 +94,16 @@ fn put_at(
     ensures filled { AreFilled leaves.new.items }
 {
     if place.leaf < leaves.len() {
-        return put(&mut leaves[place.leaf], place.index, entry);
+        put(&mut leaves[place.leaf], place.index, entry)?;
+        if place.index == 0 {
+            note(firsts, place.leaf, entry.prefix);
+        }
+        return Ok(());
     }
     let leaf = Vec::from_array(alloc, [entry])?;
+    firsts.reserve(1)?;
     leaves.push(leaf)?;
+    let _room = firsts.push(entry.prefix);
     Ok(())
 }
 
@@ -83,6 +112,7 @@ pub(crate) fn add(
     alloc: Global,
     bytes: &[u8],
     leaves: &mut Vec<Vec<Entry>>,
+    firsts: &mut Vec<u64>,
     sought: &Sought<'_>,
     entry: Entry,
 ) -> Result<(), AllocError>
@@ -95,11 +125,11 @@ pub(crate) fn add(
     ensures err { OnErr result (entries_of leaves.new.items ≡ entries_of leaves.old.items) }
     ensures filled { AreFilled leaves.new.items }
 {
-    let place = find_place(bytes, leaves.as_slice(), sought);
+    let place = find_place(bytes, leaves.as_slice(), firsts.as_slice(), sought);
     if leaf_at(leaves.as_slice(), place.leaf).len() < ENTRIES {
-        return put_at(alloc, leaves, place, entry);
+        return put_at(alloc, leaves, firsts, place, entry);
     }
-    split(alloc, leaves, place.leaf)?;
-    let other = find_place(bytes, leaves.as_slice(), sought);
-    put_at(alloc, leaves, other, entry)
+    split(alloc, leaves, firsts, place.leaf)?;
+    let other = find_place(bytes, leaves.as_slice(), firsts.as_slice(), sought);
+    put_at(alloc, leaves, firsts, other, entry)
 }

@@ -1,10 +1,9 @@
-use Rattle.std.proofs.Common.{rules}
-use Rattle.std.proofs.lemmas.List.Sorted.{IsPartitionPoint-from_clause}
-use Rattle.icu_keyed_names.proofs.LeafPlaceLemmas.{parted_by}
+use Rattle.icu_keyed_names.proofs.LeafPlaceLemmas.{point_here}
 use Rattle.icu_keyed_names.specs.inner.NameEntries.{entry_before}
 use Rattle.icu_keyed_names.proofs.leaf_places.entries_before.Goals as goal
 
 pub returns-clause-point : goal.returns-clause-point
 returns-clause-point c = λ parted.
-    let test = entry_before c.args.bytes.now c.args.sought.now.border in
-    IsPartitionPoint-from_clause test c.args.leaf.now c.partition_point.result c.partition_point.ensures.partitioned (parted_by test c.args.leaf.now parted) (λ a r f k. search rules)
+    let bytes = c.args.bytes.now in
+    point_here (entry_before bytes c.args.sought.now.border) c.args.leaf.now c.partition_point-count.result parted c.partition_point-count.ensures.bound
+    (c.if-entry_is_below.ensures bytes c.if-entry_is_below.false) (c.if-entry_is_above.ensures bytes c.if-entry_is_above.false)
