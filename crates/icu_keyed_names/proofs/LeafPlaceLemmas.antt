@@ -43,8 +43,8 @@ module _ {X : Type 0} (test : X → Bool) where
   same_got (x ∷ xs) (suc i) d e low = same_got xs i d e (omega arith)
 
   still_fails : (xs : List X) (i k : ℕ) (d : X) → IsParted test xs → i ≤ k → k < length xs → test (get_or xs i d) ≡ false → (b : Bool) → test (get_or xs k d) ≡ b → test (get_or xs k d) ≡ false
-  still_fails xs i k d parted le low no false e = e
-  still_fails xs i k d parted le low no true e = let yes = parted_by xs parted i k d le low e in absurd (cc)
+  still_fails xs i k d parted le low failed false e = e
+  still_fails xs i k d parted le low failed true e = let passed = parted_by xs parted i k d le low e in absurd (cc)
 
   -- a place that an element which passes stands before, and one which fails behind
   pub point_here : (xs : List X) (i : ℕ) → IsParted test xs → i ≤ length xs → PassesBefore test xs i → FailsAt test xs i → IsPartitionPoint Passes Fails xs i

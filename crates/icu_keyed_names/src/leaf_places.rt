@@ -100,7 +100,9 @@ fn leaves_before(
         (λ l. leaf_before test l.items ≡ false) leaves.now result }
 {
     let prefix = sought.prefix;
-    let count = firsts.partition_point(|first| -> bool { *first < prefix });
+    let count = firsts
+        .partition_point(|first| -> bool { *first < prefix })
+        .saturating_add(1);
     if count > leaves.len() {
         return leaves_by_keys(bytes, leaves, sought);
     }

@@ -12,7 +12,7 @@ use std::alloc::{AllocError, Global};
 const ENTRIES: usize = 128;
 
 /// For how many entries room is made at once.
-const ROOM: usize = 8;
+const ROOM: usize = 4;
 
 /// Leaves the first entries of a leaf, as many as are told, and keeps no more room than for them.
 fn cut(leaves: &mut Vec<Vec<Entry>>, at: usize, len: usize)
@@ -25,17 +25,24 @@ fn cut(leaves: &mut Vec<Vec<Entry>>, at: usize, len: usize)
     leaf.shrink_to(len);
 }
 
-/// Notes the number that a leaf begins with.
-fn note(firsts: &mut Vec<u64>, at: usize, first: u64) {
-    if at < firsts.len() {
-        firsts[at] = first;
+/// Makes room for one more leaf, and for the number that it begins with.
+fn reserve_leaf(leaves: &mut Vec<Vec<Entry>>, firsts: &mut Vec<u64>) -> Result<(), AllocError>
+    ensures { leaves.new.items ≡ leaves.old.items }
+{
+    let more = leaves.len() / 16 + 1;
+    if firsts.len() == firsts.capacity() {
+        firsts.reserve_exact(more)?;
     }
+    if leaves.len() == leaves.capacity() {
+        leaves.reserve_exact(more)?;
+    }
+    Ok(())
 }
 
-/// Notes the number that a further leaf begins with, behind another leaf. There is room for it.
-fn note_more(firsts: &mut Vec<u64>, behind: usize, first: u64) {
-    if behind < firsts.len() {
-        let _room = firsts.insert(behind + 1, first);
+/// Notes the number that a new leaf begins with, behind another one. There is room for it.
+fn note(firsts: &mut Vec<u64>, behind: usize, first: u64) {
+    if behind <= firsts.len() {
+        let _room = firsts.insert(behind, first);
     }
 }
 
@@ -56,10 +63,9 @@ fn split(
     }
     let first = leaf[middle].prefix;
     let upper = Vec::from_slice(alloc, &leaf[middle..])?;
-    firsts.reserve(1)?;
     leaves.insert(at + 1, upper)?;
     cut(leaves, at, middle);
-    note_more(firsts, at, first);
+    note(firsts, at, first);
     Ok(())
 }
 
@@ -81,7 +87,6 @@ fn put(leaf: &mut Vec<Entry>, place: usize, entry: Entry) -> Result<(), AllocErr
 fn put_at(
     alloc: Global,
     leaves: &mut Vec<Vec<Entry>>,
-    firsts: &mut Vec<u64>,
     place: Place,
     entry: Entry,
 ) -> Result<(), AllocError>
@@ -94,16 +99,10 @@ fn put_at(
     ensures filled { AreFilled leaves.new.items }
 {
     if place.leaf < leaves.len() {
-        put(&mut leaves[place.leaf], place.index, entry)?;
-        if place.index == 0 {
-            note(firsts, place.leaf, entry.prefix);
-        }
-        return Ok(());
+        return put(&mut leaves[place.leaf], place.index, entry);
     }
     let leaf = Vec::from_array(alloc, [entry])?;
-    firsts.reserve(1)?;
     leaves.push(leaf)?;
-    let _room = firsts.push(entry.prefix);
     Ok(())
 }
 
@@ -127,9 +126,10 @@ pub(crate) fn add(
 {
     let place = find_place(bytes, leaves.as_slice(), firsts.as_slice(), sought);
     if leaf_at(leaves.as_slice(), place.leaf).len() < ENTRIES {
-        return put_at(alloc, leaves, firsts, place, entry);
+        return put_at(alloc, leaves, place, entry);
     }
+    reserve_leaf(leaves, firsts)?;
     split(alloc, leaves, firsts, place.leaf)?;
     let other = find_place(bytes, leaves.as_slice(), firsts.as_slice(), sought);
-    put_at(alloc, leaves, firsts, other, entry)
+    put_at(alloc, leaves, other, entry)
 }
