@@ -37,6 +37,7 @@ module _ {X : Type 0} (test : X → Bool) where
   parted_by (x ∷ xs) parted (suc i) zero d le low h = absurd (omega arith)
   parted_by (x ∷ xs) parted (suc i) (suc j) d le low h = parted_by xs parted.1 i j d (omega arith) (omega arith) h
 
+  -- an element that is there is read alike, whatever stands for one that isn't
   pub same_got : (xs : List X) (i : ℕ) (d e : X) → i < length xs → get_or xs i d ≡ get_or xs i e
   same_got [] i d e low = absurd (omega arith)
   same_got (x ∷ xs) zero d e low = refl
@@ -48,16 +49,10 @@ module _ {X : Type 0} (test : X → Bool) where
 
   -- a place that an element which passes stands before, and one which fails behind
   pub point_here : (xs : List X) (i : ℕ) → IsParted test xs → i ≤ length xs → PassesBefore test xs i → FailsAt test xs i → IsPartitionPoint Passes Fails xs i
-  point_here xs i parted low passes fail =
-      (λ k d at below. parted_by xs parted k (i - 1) d (omega arith) (omega arith) (passes d (omega arith)),
-      λ k d at below. still_fails xs i k d parted at below (fail d (omega arith)) (test (get_or xs k d)) refl)
-
-  -- by the one element that is looked at
-  pub passes_before : (xs : List X) (i : ℕ) (x : X) → i ≤ length xs → x ≡ get_or xs (i - 1) x → test x ≡ true → PassesBefore test xs i
-  passes_before xs i x low is h d some = subst (λ y. test y ≡ true) (is ∙ same_got xs (i - 1) x d (omega arith)) h
-
-  pub fails_at : (xs : List X) (i : ℕ) (x : X) → x ≡ get_or xs i x → test x ≡ false → FailsAt test xs i
-  fails_at xs i x is h d low = subst (λ y. test y ≡ false) (is ∙ same_got xs i x d low) h
+  point_here xs i parted low passes fail = (
+    λ k d at below. parted_by xs parted k (i - 1) d (omega arith) (omega arith) (passes d (omega arith)),
+    λ k d at below. still_fails xs i k d parted at below (fail d (omega arith)) (test (get_or xs k d)) refl,
+  )
 
   -- ---- what it leaves of a list
 

@@ -18,7 +18,7 @@ use std::alloc::{AllocError, Global};
 /// How many bytes the counts of a key and a name take at most.
 const COUNTS: usize = 18;
 
-/// Makes room for more bytes, a thirty-second of those that there are or more.
+/// Makes room for more bytes, a fortieth of those that there are or more.
 fn reserve(bytes: &mut Vec<u8>, more: usize) -> Result<(), AllocError>
     ensures { bytes.new.items ≡ bytes.old.items }
 {
@@ -26,7 +26,7 @@ fn reserve(bytes: &mut Vec<u8>, more: usize) -> Result<(), AllocError>
     if more <= spare {
         return Ok(());
     }
-    let step = bytes.len() / 32;
+    let step = bytes.len() / 40;
     bytes.reserve_exact(if more < step { step } else { more })
 }
 

@@ -87,12 +87,7 @@ fn leaf_is_above(leaves: &[Vec<Entry>], index: usize, sought: &Sought<'_>) -> bo
 }
 
 /// How many of the leaves begin before a border. The numbers that they begin with tell it mostly.
-fn leaves_before(
-    bytes: &[u8],
-    leaves: &[Vec<Entry>],
-    firsts: &[u64],
-    sought: &Sought<'_>,
-) -> usize
+fn leaves_before(bytes: &[u8], leaves: &[Vec<Entry>], firsts: &[u64], sought: &Sought<'_>) -> usize
     ensures bound { result ≤ length leaves.now }
     ensures point { let test = entry_before bytes.now sought.now.border in
         IsParted (λ l. leaf_before test l.items) leaves.now
@@ -181,7 +176,12 @@ pub(crate) fn leaf_at(leaves: &[Vec<Entry>], index: usize) -> &[Entry]
 }
 
 /// The place of a border: in the last leaf that begins before it, or in the first one.
-pub(crate) fn find_place(bytes: &[u8], leaves: &[Vec<Entry>], firsts: &[u64], sought: &Sought<'_>) -> Place
+pub(crate) fn find_place(
+    bytes: &[u8],
+    leaves: &[Vec<Entry>],
+    firsts: &[u64],
+    sought: &Sought<'_>,
+) -> Place
     ensures there { result.leaf ≤ length leaves.now }
     ensures within { result.index ≤ length (leaf_at leaves.now result.leaf) }
     ensures parts { let test = entry_before bytes.now sought.now.border in
