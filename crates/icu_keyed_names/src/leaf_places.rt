@@ -1,9 +1,9 @@
 //! Where a border stands among the entries of leaves.
 
-ghost use Rattle.std.specs.Prelude.{◌≡◌, ℕ, ◌≤◌, List, true, false, length, IsTrue};
+ghost use Rattle.std.specs.Prelude.{◌≡◌, ◌≤◌, true, false, length, IsTrue};
 ghost use Rattle.std.specs.List.Sorted.{IsPartitionPoint};
 ghost use Rattle.icu_keyed_names.specs.inner.NameEntries.{entry_before};
-ghost use Rattle.icu_keyed_names.specs.inner.Leaves.{AreFilled, FailsAt, IsParted, Parts, PassesBefore, entries_of, leaf_at, leaf_before};
+ghost use Rattle.icu_keyed_names.specs.inner.Leaves.{AreFilled, IsInside, IsParted, Parts, entries_of, leaf_at, leaf_before};
 
 use crate::name_entries::{Entry, Sought};
 
@@ -24,8 +24,8 @@ fn begins_before(bytes: &[u8], leaf: &[Entry], sought: &Sought<'_>) -> bool
     }
 }
 
-/// How many of the leaves begin before a border, by the keys that they begin with.
-fn leaves_by_keys(bytes: &[u8], leaves: &[Vec<Entry>], sought: &Sought<'_>) -> usize
+/// How many of the leaves begin before a border.
+fn leaves_before(bytes: &[u8], leaves: &[Vec<Entry>], sought: &Sought<'_>) -> usize
     ensures bound { result ≤ length leaves.now }
     ensures point { let test = entry_before bytes.now sought.now.border in
         IsParted (λ l. leaf_before test l.items) leaves.now
@@ -40,78 +40,8 @@ fn leaves_by_keys(bytes: &[u8], leaves: &[Vec<Entry>], sought: &Sought<'_>) -> u
     )
 }
 
-/// Whether a leaf begins with a number below that of a border.
-fn begins_below(leaf: &[Entry], sought: &Sought<'_>) -> bool
-    ensures { (bytes : List ℕ) → IsTrue result
-        → leaf_before (entry_before bytes sought.now.border) leaf.now ≡ true }
-{
-    match leaf.first() {
-        Some(entry) => entry.is_below(sought),
-        None => true,
-    }
-}
-
-/// Whether a leaf begins with a number above that of a border.
-fn begins_above(leaf: &[Entry], sought: &Sought<'_>) -> bool
-    ensures { (bytes : List ℕ) → IsTrue result
-        → leaf_before (entry_before bytes sought.now.border) leaf.now ≡ false }
-{
-    match leaf.first() {
-        Some(entry) => entry.is_above(sought),
-        None => false,
-    }
-}
-
-/// Whether the leaf before an index, if there is one, begins with a number below that of a border.
-fn leaf_is_below(leaves: &[Vec<Entry>], index: usize, sought: &Sought<'_>) -> bool
-    requires { index ≤ length leaves.now }
-    ensures { (bytes : List ℕ) → IsTrue result
-        → PassesBefore (λ l. leaf_before (entry_before bytes sought.now.border) l.items) leaves.now index }
-{
-    if index == 0 {
-        return true;
-    }
-    begins_below(leaves[index - 1].as_slice(), sought)
-}
-
-/// Whether the leaf at an index, if there is one, begins with a number above that of a border.
-fn leaf_is_above(leaves: &[Vec<Entry>], index: usize, sought: &Sought<'_>) -> bool
-    requires { index ≤ length leaves.now }
-    ensures { (bytes : List ℕ) → IsTrue result
-        → FailsAt (λ l. leaf_before (entry_before bytes sought.now.border) l.items) leaves.now index }
-{
-    if index == leaves.len() {
-        return true;
-    }
-    begins_above(leaves[index].as_slice(), sought)
-}
-
-/// How many of the leaves begin before a border. The numbers that they begin with tell it mostly.
-fn leaves_before(bytes: &[u8], leaves: &[Vec<Entry>], firsts: &[u64], sought: &Sought<'_>) -> usize
-    ensures bound { result ≤ length leaves.now }
-    ensures point { let test = entry_before bytes.now sought.now.border in
-        IsParted (λ l. leaf_before test l.items) leaves.now
-        → IsPartitionPoint (λ l. leaf_before test l.items ≡ true)
-        (λ l. leaf_before test l.items ≡ false) leaves.now result }
-{
-    let prefix = sought.prefix;
-    let count = firsts
-        .partition_point(|first| -> bool { *first < prefix })
-        .saturating_add(1);
-    if count > leaves.len() {
-        return leaves_by_keys(bytes, leaves, sought);
-    }
-    if !leaf_is_below(leaves, count, sought) {
-        return leaves_by_keys(bytes, leaves, sought);
-    }
-    if !leaf_is_above(leaves, count, sought) {
-        return leaves_by_keys(bytes, leaves, sought);
-    }
-    count
-}
-
-/// How many entries of a leaf stand before a border, by their keys.
-fn entries_by_keys(bytes: &[u8], leaf: &[Entry], sought: &Sought<'_>) -> usize
+/// How many entries of a leaf stand before a border.
+fn entries_before(bytes: &[u8], leaf: &[Entry], sought: &Sought<'_>) -> usize
     ensures bound { result ≤ length leaf.now }
     ensures point { let test = entry_before bytes.now sought.now.border in IsParted test leaf.now
         → IsPartitionPoint (λ e. test e ≡ true) (λ e. test e ≡ false) leaf.now result }
@@ -121,47 +51,6 @@ fn entries_by_keys(bytes: &[u8], leaf: &[Entry], sought: &Sought<'_>) -> usize
             ensures { result ≡ entry_before bytes.entry.now sought.entry.now.border entry.now }
         { entry.is_before(bytes, sought) },
     )
-}
-
-/// Whether the entry before an index, if there is one, has a number below that of a border.
-fn entry_is_below(leaf: &[Entry], index: usize, sought: &Sought<'_>) -> bool
-    requires { index ≤ length leaf.now }
-    ensures { (bytes : List ℕ) → IsTrue result
-        → PassesBefore (entry_before bytes sought.now.border) leaf.now index }
-{
-    if index == 0 {
-        return true;
-    }
-    leaf[index - 1].is_below(sought)
-}
-
-/// Whether the entry at an index, if there is one, has a number above that of a border.
-fn entry_is_above(leaf: &[Entry], index: usize, sought: &Sought<'_>) -> bool
-    requires { index ≤ length leaf.now }
-    ensures { (bytes : List ℕ) → IsTrue result
-        → FailsAt (entry_before bytes sought.now.border) leaf.now index }
-{
-    if index == leaf.len() {
-        return true;
-    }
-    leaf[index].is_above(sought)
-}
-
-/// How many entries of a leaf stand before a border. Their numbers tell it mostly.
-fn entries_before(bytes: &[u8], leaf: &[Entry], sought: &Sought<'_>) -> usize
-    ensures bound { result ≤ length leaf.now }
-    ensures point { let test = entry_before bytes.now sought.now.border in IsParted test leaf.now
-        → IsPartitionPoint (λ e. test e ≡ true) (λ e. test e ≡ false) leaf.now result }
-{
-    let prefix = sought.prefix;
-    let count = leaf.partition_point(|entry| -> bool { entry.prefix < prefix });
-    if !entry_is_below(leaf, count, sought) {
-        return entries_by_keys(bytes, leaf, sought);
-    }
-    if !entry_is_above(leaf, count, sought) {
-        return entries_by_keys(bytes, leaf, sought);
-    }
-    count
 }
 
 /// The entries of a leaf, none where there is no such leaf.
@@ -175,7 +64,51 @@ pub(crate) fn leaf_at(leaves: &[Vec<Entry>], index: usize) -> &[Entry]
     }
 }
 
-/// The place of a border: in the last leaf that begins before it, or in the first one.
+/// The place of a border, by keys: in the last leaf that begins before it, or in the first one.
+fn find_by_keys(bytes: &[u8], leaves: &[Vec<Entry>], sought: &Sought<'_>) -> Place
+    ensures there { result.leaf ≤ length leaves.now }
+    ensures within { result.index ≤ length (leaf_at leaves.now result.leaf) }
+    ensures parts { let test = entry_before bytes.now sought.now.border in
+        AreFilled leaves.now → IsParted test (entries_of leaves.now)
+        → Parts test leaves.now result.leaf result.index }
+{
+    let leaf = leaves_before(bytes, leaves, sought).saturating_sub(1);
+    let index = entries_before(bytes, leaf_at(leaves, leaf), sought);
+    Place { leaf, index }
+}
+
+/// A leaf that has the place of a border, where the numbers that the leaves behind the first one begin with tell it.
+fn leaf_by_numbers(firsts: &[u64], prefix: u64) -> usize {
+    firsts.partition_point(|first| -> bool { *first < prefix })
+}
+
+/// How many entries of a leaf have a number below that of a border, or where it is among them, stand before the border.
+fn index_by_numbers(bytes: &[u8], leaf: &[Entry], sought: &Sought<'_>) -> usize {
+    let prefix = sought.prefix;
+    let count = leaf.partition_point(|entry| -> bool { entry.prefix < prefix });
+    match leaf.get(count) {
+        Some(entry) if entry.prefix == prefix => entries_before(bytes, leaf, sought),
+        _ => count,
+    }
+}
+
+/// Whether the entry before an index of a leaf stands before a border, and the one at the index behind it.
+fn has_place(bytes: &[u8], leaf: &[Entry], index: usize, sought: &Sought<'_>) -> bool
+    ensures { IsTrue result → IsInside (entry_before bytes.now sought.now.border) leaf.now index }
+{
+    if index == 0 {
+        return false;
+    }
+    if index >= leaf.len() {
+        return false;
+    }
+    if !leaf[index - 1].is_before(bytes, sought) {
+        return false;
+    }
+    !leaf[index].is_before(bytes, sought)
+}
+
+/// The place of a border. Numbers tell it mostly, and what stands beside it is looked at.
 pub(crate) fn find_place(
     bytes: &[u8],
     leaves: &[Vec<Entry>],
@@ -188,7 +121,14 @@ pub(crate) fn find_place(
         AreFilled leaves.now → IsParted test (entries_of leaves.now)
         → Parts test leaves.now result.leaf result.index }
 {
-    let leaf = leaves_before(bytes, leaves, firsts, sought).saturating_sub(1);
-    let index = entries_before(bytes, leaf_at(leaves, leaf), sought);
+    let leaf = leaf_by_numbers(firsts, sought.prefix);
+    if leaves.len() <= leaf {
+        return find_by_keys(bytes, leaves, sought);
+    }
+    let entries = leaf_at(leaves, leaf);
+    let index = index_by_numbers(bytes, entries, sought);
+    if !has_place(bytes, entries, index, sought) {
+        return find_by_keys(bytes, leaves, sought);
+    }
     Place { leaf, index }
 }

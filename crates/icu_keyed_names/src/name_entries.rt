@@ -1,6 +1,6 @@
 //! Entries of names: where they stand in the buffer.
 
-ghost use Rattle.std.specs.Prelude.{◌≡◌, ℕ, List, true, false, drop, IsTrue};
+ghost use Rattle.std.specs.Prelude.{◌≡◌, drop};
 ghost use Rattle.icu_levels.specs.ListOrder.{list_order};
 ghost use Rattle.icu_keyed_names.specs.inner.NameEntries.{behind_counted, count_of, entry_before, first_counted, key_in, name_in, prefix_of};
 ghost use Rattle.icu_beginnings.specs.KeyBeginnings.{AreBytes};
@@ -70,22 +70,6 @@ impl Entry {
         let key = self.key(bytes);
         let first = key.count.min(FIRST).cmp(&other.len().min(FIRST));
         first.then(key.bytes.cmp(skip(other, FIRST)))
-    }
-
-    /// Whether the key begins with a number below that of a border.
-    pub(crate) fn is_below(&self, sought: &Sought<'_>) -> bool
-        ensures { (bytes : List ℕ) → IsTrue result
-            → entry_before bytes sought.now.border self.now ≡ true }
-    {
-        self.prefix < sought.prefix
-    }
-
-    /// Whether the key begins with a number above that of a border.
-    pub(crate) fn is_above(&self, sought: &Sought<'_>) -> bool
-        ensures { (bytes : List ℕ) → IsTrue result
-            → entry_before bytes sought.now.border self.now ≡ false }
-    {
-        sought.prefix < self.prefix
     }
 
     /// Whether the key stands before a border.

@@ -34,6 +34,13 @@ PassesBefore {X} test xs i = (d : X) → 0 < i → test (slice_index_or xs (i - 
 abbrev pub FailsAt : {X : Type 0} → (X → Bool) → List X → ℕ → Type 0
 FailsAt {X} test xs i = (d : X) → i < length xs → test (slice_index_or xs i d) ≡ false
 
+-- an index has elements on both sides, of which the one before it passes a test and the one at it fails
+pub record IsInside {X : Type 0} (test : X → Bool) (xs : List X) (i : ℕ) : Type 0 where
+  pub some : 0 < i
+  pub low : i < length xs
+  pub passes : PassesBefore test xs i
+  pub fails : FailsAt test xs i
+
 -- no key is less than one before it
 abbrev pub Rise : List (List ℕ) → Type 0
 Rise [] = Unit {0}
