@@ -60,7 +60,7 @@ pub struct KeyedNames {
     bytes: Vec<u8>,
     /// The entries in the order of the keys.
     leaves: Vec<Vec<Entry>>,
-    /// The numbers that the leaves behind the first one begin with. A search goes by them, and then looks at the leaves.
+    /// The numbers that the leaves behind the first one begin with. A search goes by them, and then looks at leaves.
     firsts: Vec<u64>,
     len: usize,
     ghost sound: { AreEntriesIn bytes.items (entries_of leaves.items) } by { Prim.hlevel props },
