@@ -17,7 +17,7 @@ use crate::last_characters::LastCharacters;
 use crate::ready_elements::ReadyElements;
 use crate::ready_place::ReadyPlace;
 use crate::stands::{read_behind, stands_before};
-use crate::unjoined::is_unjoined;
+use crate::unjoined::{is_plainly_unjoined, is_unjoined};
 use crate::{CharFacts, FactsKind, Kept};
 use icu_encodings::EncodedText;
 use icu_entries::CollationElement;
@@ -193,9 +193,25 @@ impl<'c, 'd, T: EncodedText, R: ReadyPlace> ElementCursor<'c, 'd, T, R> {
         ensures next { gives_with R.ready T.text self.old
             ≡ option_to_list result ++ gives_with R.ready T.text self.new }
     {
-        if !stands_before(self.tables, facts, rest) {
+        if facts.kind == FactsKind::Base {
             return self.take_base(c, facts, rest);
         }
+        if !stands_before(self.tables, facts, rest) {
+            return None;
+        }
+        self.take_alone(c, facts, rest)
+    }
+
+    /// The first element of a character that stands before the rest. The others are kept.
+    #[inline(always)]
+    fn take_alone(&mut self, c: char, facts: &CharFacts, rest: T) -> Option<CollationElement>
+        requires nothing { HasNothingReady R.ready self.old }
+        requires text { T.text self.old.text ≡ c ∷ T.text rest }
+        requires stands { StandsBefore (cursor_reading self.old.tables.now) c
+            (char_elements facts.now) (T.text rest) }
+        ensures next { gives_with R.ready T.text self.old
+            ≡ option_to_list result ++ gives_with R.ready T.text self.new }
+    {
         if facts.count == 1 {
             return self.take_one(c, facts, rest);
         }
@@ -256,10 +272,14 @@ impl<'c, 'd, T: EncodedText, R: ReadyPlace> ElementCursor<'c, 'd, T, R> {
         requires nothing { HasNothingReady R.ready self.old }
         requires text { T.text self.old.text ≡ c ∷ T.text rest }
         requires facts { Serves (cursor_reading self.old.tables.now) c facts.now }
+        requires base { facts.now.kind ≡ FactsKind.Base }
         ensures next { gives_with R.ready T.text self.old
             ≡ option_to_list result ++ gives_with R.ready T.text self.new }
     {
-        if facts.kind != FactsKind::Base {
+        if let Some(unjoined) = is_plainly_unjoined(self.tables, c, rest) {
+            if unjoined {
+                return self.take_alone(c, facts, rest);
+            }
             return None;
         }
         let (x, after) = rest.split_first_char()?;
@@ -305,7 +325,7 @@ impl<'c, 'd, T: EncodedText, R: ReadyPlace> ElementCursor<'c, 'd, T, R> {
         if !is_unjoined(self.tables, c, rest) {
             return None;
         }
-        self.read_facts(c, facts, rest)
+        self.take_alone(c, facts, rest)
     }
 
     /// The first element of a Hangul syllable, by its jamo. The others are kept.
