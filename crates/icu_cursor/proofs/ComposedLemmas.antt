@@ -30,14 +30,14 @@ use Rattle.icu_cursor.specs.inner.Places.{MayBeCut}
 use Rattle.icu_cursor.specs.inner.Standing.{StandsBefore}
 use Rattle.icu_cursor.proofs.StandLemmas.{cut_stands, nothing_rises, one_in_run}
 use Rattle.icu_cursor.specs.inner.Unjoined.{BeginsNone, IsHead}
-use Rattle.icu_cursor.specs.inner.Composed.{AreBelow, AreBelowBefore, IsComposed}
+use Rattle.icu_cursor.specs.inner.Composed.{AreLowerMarks, AreLowerMarksBefore, IsComposed}
 use Rattle.icu_cursor.proofs.UnjoinedLemmas.{none_whole, begins_whole, first_none, no_lead, no_secondary, or_true}
 
 -- ---- order
 
 -- the mark sinks behind all marks of lower classes
-pub sinks_below : (context : Context) (m : ℕ) (ds : List ℕ) → AreBelow context (class_of m) ds → sink m ds ≡ ds ++ m ∷ []
-unfolding AreBelow
+pub sinks_below : (context : Context) (m : ℕ) (ds : List ℕ) → AreLowerMarks context (class_of m) ds → sink m ds ≡ ds ++ m ∷ []
+unfolding AreLowerMarks
 sinks_below context m [] h = sink-nil m
 sinks_below context m (d ∷ ds) h =
     sink-past m d ds (is_reorderable_from m d h.0.mark h.0.below)
@@ -63,9 +63,9 @@ still_free (p ∷ ps) m d below free =
 
 -- the mark joins, wherever marks of lower classes stand before it
 joins_behind : (context : Context) (entry joined m : ℕ) (passed ds : List ℕ) → is_starter m ≡ false → mapping_entry context.mappings (m ∷ []) ≡ Some joined
-    → is_blocked passed m ≡ false → AreBelow context (class_of m) ds
+    → is_blocked passed m ≡ false → AreLowerMarks context (class_of m) ds
     → with_marks context.mappings entry [] passed (ds ++ m ∷ []) ≡ joined_match joined (m ∷ []) (passed ++ ds)
-unfolding with_marks AreBelow
+unfolding with_marks AreLowerMarks
 joins_behind context entry joined m passed [] mark is free h = rw (mark, free, is) (ap (joined_match joined (m ∷ [])) (sym (append-nil passed)))
 joins_behind context entry joined m passed (d ∷ ds) mark is free h =
     let other : is_starter d ≡ false = ne_eqb (class_of d) 0 (λ e. omega (arith, e, h.0.mark)) in
@@ -181,8 +181,8 @@ module _ (reading : Reading) (c : ℕ) (context : Context) (k : ℕ) (h : IsComp
   unfolding IsSmall
   exact = exact_from None context.mappings mark h.joins.mapping tt h.joins.joined (ap (λ (l : List ℕ). bytes_eq l (mark ∷ [])) h.joins.chars ∙ same_one mark)
 
-  contracted_behind : (ds : List ℕ) → AreBelow context (class_of mark) ds → contracted context (ds ++ mark ∷ []) ≡ joined_match entry (mark ∷ []) ds
-  unfolding contracted AreBelow with_marks is_blocked
+  contracted_behind : (ds : List ℕ) → AreLowerMarks context (class_of mark) ds → contracted context (ds ++ mark ∷ []) ≡ joined_match entry (mark ∷ []) ds
+  unfolding contracted AreLowerMarks with_marks is_blocked
   contracted_behind [] below =
       ap (λ (o : Option Mapping). elim o as (λ _. Match) [
         | Some mapping ↦ with_marks context.mappings mapping.entry mapping.chars [] (drop (length mapping.chars) (mark ∷ []))
@@ -196,7 +196,7 @@ module _ (reading : Reading) (c : ℕ) (context : Context) (k : ℕ) (h : IsComp
       ]) (first_none context d (ds ++ mark ∷ []) below.0.none)
       ∙ joins_behind context context.default entry mark [] (d ∷ ds) nonstarter exact refl below
 
-  matched : (before ds : List ℕ) → AreBelow context (class_of mark) ds → match_of (entry_of reading.tables base) before (ds ++ mark ∷ []) ≡ joined_match entry (mark ∷ []) ds
+  matched : (before ds : List ℕ) → AreLowerMarks context (class_of mark) ds → match_of (entry_of reading.tables base) before (ds ++ mark ∷ []) ≡ joined_match entry (mark ∷ []) ds
   matched before ds below =
       let at = entry_of reading.tables base in
       let text = ds ++ mark ∷ [] in
@@ -214,7 +214,7 @@ module _ (reading : Reading) (c : ℕ) (context : Context) (k : ℕ) (h : IsComp
   unfolding matched_step
   undiacritic text ds = no_secondary (diacritic_of reading.tables base) _ _ h.has.no_diacritic ∙ stepped ds
 
-  read_on : (before ds : List ℕ) → AreBelow context (class_of mark) ds
+  read_on : (before ds : List ℕ) → AreLowerMarks context (class_of mark) ds
       → elements_after reading before (base ∷ ds ++ mark ∷ []) ≡ given ++ elements_after reading (last_two before (base ∷ mark ∷ [])) ds
   read_on before ds below =
       let text = ds ++ mark ∷ [] in
@@ -222,7 +222,7 @@ module _ (reading : Reading) (c : ℕ) (context : Context) (k : ℕ) (h : IsComp
       ∙ ap (λ (s : Step). s.elements ++ elements_after reading (last_two before (consumed base s)) s.rest)
       (ap (matched_step reading base text) (matched before ds below) ∙ undiacritic text ds)
 
-  decomposed_so : (front : List ℕ) → AreBelow context (class_of mark) (nfd front) → nfd (c ∷ front) ≡ base ∷ nfd front ++ mark ∷ []
+  decomposed_so : (front : List ℕ) → AreLowerMarks context (class_of mark) (nfd front) → nfd (c ∷ front) ≡ base ∷ nfd front ++ mark ∷ []
   unfolding normalize decomposed
   decomposed_so front below =
       nfd-begins c base (mark ∷ []) front h.decomposes (eq-eqb (class_of base) 0 h.starter)
@@ -233,15 +233,15 @@ module _ (reading : Reading) (c : ℕ) (context : Context) (k : ℕ) (h : IsComp
   context_same before = ap (context_after before) (sym h.decomposes)
 
   -- before such marks it gives what it gives by itself
-  pub composed_stands : (front : List ℕ) → AreBelow context (class_of mark) (nfd front) → (es : List Element) → StandsBefore reading c es [] → StandsBefore reading c es front
-  unfolding AreBelow
+  pub composed_stands : (front : List ℕ) → AreLowerMarks context (class_of mark) (nfd front) → (es : List Element) → StandsBefore reading c es [] → StandsBefore reading c es front
+  unfolding AreLowerMarks
   composed_stands front below es stands = λ before.
       let after = context_after [] (decompose Nfd c) in
       let own : given ≡ es =
       sym (append-nil given)
       ∙ ap (λ (xs : List Element). given ++ xs) (sym (elements_after_nil reading (last_two [] (base ∷ mark ∷ []))))
       ∙ sym (read_on [] [] tt)
-      ∙ ap (elements_after reading []) (sym (decomposed_so [] (subst (AreBelow context (class_of mark)) (sym nfd-nil) tt) ∙ ap (λ (l : List ℕ). base ∷ l ++ mark ∷ []) nfd-nil))
+      ∙ ap (elements_after reading []) (sym (decomposed_so [] (subst (AreLowerMarks context (class_of mark)) (sym nfd-nil) tt) ∙ ap (λ (l : List ℕ). base ∷ l ++ mark ∷ []) nfd-nil))
       ∙ stands []
       ∙ ap (λ (t : List ℕ). es ++ elements_after reading after t) nfd-nil
       ∙ ap (λ (xs : List Element). es ++ xs) (elements_after_nil reading after)
@@ -251,25 +251,25 @@ module _ (reading : Reading) (c : ℕ) (context : Context) (k : ℕ) (h : IsComp
       ∙ ap (λ (xs : List Element). xs ++ elements_after reading (last_two before (base ∷ mark ∷ [])) (nfd front)) own
       ∙ ap (λ (b : List ℕ). es ++ elements_after reading b (nfd front)) (context_same before)
 
-  pub composed_stands_before : (text : List ℕ) → AreBelowBefore reading context k 0 text → (es : List Element) → StandsBefore reading c es [] → StandsBefore reading c es text
+  pub composed_stands_before : (text : List ℕ) → AreLowerMarksBefore reading context k 0 text → (es : List Element) → StandsBefore reading c es [] → StandsBefore reading c es text
   composed_stands_before text b es stands =
       cut_stands reading c es text b.front b.rest b.parts b.boundary
-      (composed_stands b.front (subst (λ n. AreBelow context n (nfd b.front)) (sym h.class) b.below) es stands)
+      (composed_stands b.front (subst (λ n. AreLowerMarks context n (nfd b.front)) (sym h.class) b.below) es stands)
 
 -- ---- texts that may be cut behind such marks
 
 module _ (reading : Reading) (context : Context) (k : ℕ) where
-  pub below_ended : (least : ℕ) → AreBelowBefore reading context k least []
-  unfolding AreBelow
-  below_ended least = record { front = []; rest = []; parts = refl; rises = nothing_rises least; below = subst (AreBelow context k) (sym nfd-nil) tt; boundary = tt }
+  pub below_ended : (least : ℕ) → AreLowerMarksBefore reading context k least []
+  unfolding AreLowerMarks
+  below_ended least = record { front = []; rest = []; parts = refl; rises = nothing_rises least; below = subst (AreLowerMarks context k) (sym nfd-nil) tt; boundary = tt }
 
-  pub below_cut : (least c : ℕ) (text : List ℕ) → MayBeCut reading c → AreBelowBefore reading context k least (c ∷ text)
-  unfolding AreBelow
-  below_cut least c text cut = record { front = []; rest = c ∷ text; parts = refl; rises = nothing_rises least; below = subst (AreBelow context k) (sym nfd-nil) tt; boundary = cut }
+  pub below_cut : (least c : ℕ) (text : List ℕ) → MayBeCut reading c → AreLowerMarksBefore reading context k least (c ∷ text)
+  unfolding AreLowerMarks
+  below_cut least c text cut = record { front = []; rest = c ∷ text; parts = refl; rises = nothing_rises least; below = subst (AreLowerMarks context k) (sym nfd-nil) tt; boundary = cut }
 
   pub below_more : (least c d class : ℕ) (text : List ℕ) → IsHead c d class → class ≢ 0 → least ≤ class → class < k → BeginsNone context d
-      → AreBelowBefore reading context k class text → AreBelowBefore reading context k least (c ∷ text)
-  unfolding AreBelow all_stay
+      → AreLowerMarksBefore reading context k class text → AreLowerMarksBefore reading context k least (c ∷ text)
+  unfolding AreLowerMarks all_stay
   below_more least c d class text h other fits below none left =
       let same : class_of d ≡ class = h.class in
       let mark : is_starter d ≡ false = ne_eqb (class_of d) 0 (λ e. other (sym same ∙ e)) in
@@ -283,7 +283,7 @@ module _ (reading : Reading) (context : Context) (k : ℕ) where
         rest = left.rest;
         parts = ap (λ (l : List ℕ). c ∷ l) left.parts;
         rises = (one_in_run c d split).goes_on (λ e. other (sym same ∙ e)) least left.front (omega (arith, fits, same)) rises;
-        below = subst (AreBelow context k) (sym (nfd-stay c (d ∷ []) left.front split stay))
+        below = subst (AreLowerMarks context k) (sym (nfd-stay c (d ∷ []) left.front split stay))
             (record { none = none; mark = omega (arith, same, other); below = omega (arith, same, below) }, left.below);
         boundary = left.boundary;
       }

@@ -7,7 +7,7 @@ ghost use Rattle.icu_entries.specs.Elements.{Element};
 ghost use Rattle.icu_collation_data.specs.Contexts.{has_ascending_mappings};
 ghost use Rattle.icu_collation_data.specs.StoredData.{found_context};
 ghost use Rattle.icu_cursor.specs.Cursors.{cursor_reading};
-ghost use Rattle.icu_cursor.specs.inner.Composed.{AreBelowBefore, HasContractions, IsComposed, JoinsAlone};
+ghost use Rattle.icu_cursor.specs.inner.Composed.{AreLowerMarksBefore, HasContractions, IsComposed, JoinsAlone};
 ghost use Rattle.icu_cursor.specs.inner.Standing.{StandsBefore};
 ghost use Rattle.icu_cursor.specs.inner.Unjoined.{IsHead};
 
@@ -100,7 +100,7 @@ pub(crate) fn are_below<T: EncodedText>(
     text: T,
 ) -> bool
     requires { IsTrue (has_ascending_mappings (found_context context)) }
-    ensures { IsTrue result → AreBelowBefore (cursor_reading tables.now)
+    ensures { IsTrue result → AreLowerMarksBefore (cursor_reading tables.now)
         (found_context context.entry) class least (T.text text) }
 {
     let mut last = least;

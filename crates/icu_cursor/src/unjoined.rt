@@ -253,8 +253,8 @@ fn joins_no_mark<T: EncodedText>(
 }
 
 /// Whether a character that begins contractions gives before a text what it gives at the end of one, as `is_unjoined`
-/// has it, by one look at the next character: at the end and before a boundary it does, and before marks if none of them
-/// is joined. `None` where another character follows. `Some(false)` and `None` say nothing.
+/// has it, by one look at the next character: at the end and before a boundary it does, and before marks if none of
+/// them is joined. `None` where another character follows. `Some(false)` and `None` say nothing.
 #[inline(never)]
 pub(crate) fn is_plainly_unjoined<T: EncodedText>(
     tables: &CursorTables<'_>,

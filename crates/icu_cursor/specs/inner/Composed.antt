@@ -15,23 +15,23 @@ use Rattle.icu_cursor.specs.inner.Places.{BeginsAtBoundary}
 use Rattle.icu_cursor.specs.inner.Unjoined.{BeginsNone}
 
 -- a mark of a class below this one, with which no mapping begins
-pub record IsBelow (context : Context) (k d : ℕ) : Type 0 where
+pub record IsLowerMark (context : Context) (k d : ℕ) : Type 0 where
   pub none : BeginsNone context d
   pub mark : 0 < class_of d
   pub below : class_of d < k
 
 -- all characters are such marks
-unfoldable pub AreBelow : Context → ℕ → List ℕ → Type 0
-AreBelow context k [] = ⊤
-AreBelow context k (d ∷ ds) = IsBelow context k d × AreBelow context k ds
+unfoldable pub AreLowerMarks : Context → ℕ → List ℕ → Type 0
+AreLowerMarks context k [] = ⊤
+AreLowerMarks context k (d ∷ ds) = IsLowerMark context k d × AreLowerMarks context k ds
 
 -- a beginning of the text is such marks, whose classes rise from this one, and the text may be cut after it
-pub record AreBelowBefore (reading : Reading) (context : Context) (k least : ℕ) (text : List ℕ) : Type 0 where
+pub record AreLowerMarksBefore (reading : Reading) (context : Context) (k least : ℕ) (text : List ℕ) : Type 0 where
   pub front : List ℕ
   pub rest : List ℕ
   pub parts : text ≡ front ++ rest
   pub rises : Rises least front
-  pub below : AreBelow context k (nfd front)
+  pub below : AreLowerMarks context k (nfd front)
   pub boundary : BeginsAtBoundary reading rest
 
 -- a character that is no diacritic and begins the contractions of a context, where no digits are read as numbers
