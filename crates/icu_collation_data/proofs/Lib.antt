@@ -16,6 +16,8 @@ pub mod ViolationLemmas
 pub mod CollectedWeightLemmas
 pub mod BothLemmas
 pub mod ImplicitLemmas
+mod PlainElementLemmas
 pub mod RunLemmas
+mod OffsetRunLemmas
 mod SpelledLemmas
 mod WorkedData

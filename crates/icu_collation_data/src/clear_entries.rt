@@ -122,6 +122,7 @@ fn is_clear_entry(
 
 /// Whether a character leads to no entry of the part. `false` leaves that open. Contexts that lead to none are
 /// remembered.
+#[inline(always)]
 #[tactic(auto, using(crate::proofs::SpelledLemmas::spelled_clear))]
 pub(crate) fn is_clear(
     part: Part,

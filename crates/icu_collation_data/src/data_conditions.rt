@@ -1,6 +1,8 @@
 //! The conditions on one entry of a root or a tailoring.
-ghost use Rattle.std.specs.Prelude.{◌≡◌, Bool, IsTrue};
+ghost use Rattle.std.specs.Prelude.{◌≡◌, Bool, IsTrue, None, true};
 ghost use Rattle.icu_entries.specs.Entries.{kind_of};
+ghost use Rattle.icu_entries.specs.declared.element_conditions.ElementCondition.{ElementCondition};
+ghost use Rattle.icu_entries.specs.ElementConditions.{element_meets};
 ghost use Rattle.icu_collation_data.specs.inner.Visitors.{all_meet, first_failing_element};
 ghost use Rattle.icu_collation_data.specs.ReachableConditions.{elements_meet, first_failing};
 ghost use Rattle.icu_collation_data.specs.StoredData.{data_of};
@@ -9,12 +11,41 @@ ghost use Rattle.icu_collation_data.specs.DataConditions.{is_inside, has_short_m
 use crate::data::CollationData;
 use crate::element_walk::{VisitElement, visit_elements};
 use crate::reachable_condition::ReachableCondition;
+use icu_entries::element::COMMON_WEIGHT16;
 use icu_entries::element_conditions::ElementCondition;
 use icu_entries::{CollationElement, CollationElement32, EntryKind};
 use std::convert::Infallible;
 
+/// Whether an element has common weights below a primary weight with three bytes at least, whose lead byte isn't below
+/// 03, as most elements have. Such a one fails no condition.
+#[inline(always)]
+#[tactic(auto, using(crate::proofs::PlainElementLemmas::plain_passes, crate::proofs::PlainElementLemmas::plain_meets))]
+fn is_plain(element: CollationElement) -> bool
+    ensures passes { result ≡ true → first_failing_element element ≡ None }
+    ensures meets { result ≡ true
+        → (condition : ElementCondition) → element_meets condition element ≡ true }
+{
+    let primary = element.primary();
+    primary >= 0x0300_0000
+        && primary / 0x1_0000 % 256 != 0
+        && primary / 256 % 256 != 0
+        && element.secondary() == COMMON_WEIGHT16
+        && element.lower() == COMMON_WEIGHT16
+}
+
 /// The first condition that one element fails.
+#[inline(always)]
 fn first_failing_element(element: CollationElement) -> Option<ReachableCondition>
+    ensures { result ≡ first_failing_element element }
+{
+    if is_plain(element) {
+        return None;
+    }
+    first_failing_in_turn(element)
+}
+
+/// The first condition that one element fails, asked one by one.
+fn first_failing_in_turn(element: CollationElement) -> Option<ReachableCondition>
     ensures { result ≡ first_failing_element element }
 {
     if !ElementCondition::Shape.holds(element) {
@@ -176,6 +207,9 @@ impl VisitElement for ElementsMeet {
     ghost after = { all_meet };
 
     fn visit(&mut self, element: CollationElement) -> Result<(), Infallible> {
+        if is_plain(element) {
+            return Ok(());
+        }
         self.shapes = self.shapes && ElementCondition::Shape.holds(element);
         self.leads = self.leads && ElementCondition::Leads.holds(element);
         self.primaries = self.primaries && ElementCondition::Primary.holds(element);

@@ -1,5 +1,7 @@
 //! The conditions on the entries that are reachable in a root or a tailoring, as a list.
-ghost use Rattle.std.specs.Prelude.{◌≡◌, ◌<◌, IfSome};
+ghost use Rattle.std.specs.Prelude.{◌≡◌, ◌<◌, ◌-◌, IfSome, IsTrue};
+ghost use Rattle.icu_entries.specs.EntryConditions.{has_offset_weight};
+ghost use Rattle.icu_entries.specs.Weights.{offset_element};
 ghost use Rattle.icu_collation_data.specs.StoredData.{data_of};
 ghost use Rattle.icu_collation_data.specs.inner.Visitors.{IsRunData};
 ghost use Rattle.icu_collation_data.specs.ReachableConditions.{kind_for, first_failing};
@@ -85,6 +87,28 @@ pub(crate) fn run_data(
         }
         _ => None,
     }
+}
+
+/// The element of a character by offset data, from that of the character before, whose third byte goes on where it can.
+#[inline(always)]
+pub(crate) fn next_offset_element(
+    offset: CollationElement,
+    element: CollationElement,
+    c: char,
+) -> CollationElement
+    requires positive { 0 < c }
+    requires before { IsTrue (has_offset_weight offset (c - 1)) }
+    requires element { element ≡ offset_element offset (c - 1) }
+    requires fits { IsTrue (has_offset_weight offset c) }
+    ensures { result ≡ offset_element offset c }
+{
+    let weight = element.primary();
+    let step = offset.non_primary().bits() % 0x80;
+    let third = weight / 0x100 % 0x100;
+    if third + step > 0xFF {
+        return offset.offset_element(c);
+    }
+    CollationElement::new_from_primary(weight + step * 256)
 }
 
 /// The judge of a root or a tailoring alone: the first condition that an entry fails.

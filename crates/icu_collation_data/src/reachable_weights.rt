@@ -12,7 +12,7 @@ ghost use Rattle.icu_collation_data.specs.inner.Visitors.{holds, collected, coll
 use crate::block_walk::{goes_by_character, visit_chars};
 use crate::data::CollationData;
 use crate::element_walk::{VisitElement, visit_elements};
-use crate::reachable_condition::run_data;
+use crate::reachable_condition::{next_offset_element, run_data};
 use crate::walk::{Visit, visit_from};
 use icu_entries::{CollationElement, CollationElement32, EntryKind};
 use std::alloc::AllocError;
@@ -231,10 +231,13 @@ impl<'w, W: Weigh, H: HoldWeights> Visit for Collector<'w, W, H> {
         let Some(data) = run_data(home, first, entry) else {
             return Ok(false);
         };
+        let mut element = data.offset_element(first);
+        VisitElement::visit(self, element)?;
         let start = first as u32;
-        for code in start..start + 64 {
+        for code in start + 1..start + 64 {
             if let Some(c) = char::from_u32(code) {
-                VisitElement::visit(self, data.offset_element(c))?;
+                element = next_offset_element(data, element, c);
+                VisitElement::visit(self, element)?;
             }
         }
         Ok(true)

@@ -76,6 +76,7 @@ pub trait Judge {
 }
 
 /// The violation with the lesser rank; of two with one rank, the best so far.
+#[inline(always)]
 #[tactic(auto, unfolding(crate::specs::Violations::earlier))]
 pub fn earlier<F: Ranked>(best: Option<F>, found: Option<F>) -> Option<F>
     ensures { result ≡ earlier F.rank best found }

@@ -153,6 +153,21 @@ impl<'c, 'd, T: CountedText> KeyElements<'c, 'd, T> {
         match &mut self.pieces {
             Some(pieces) => pieces.next_read(),
             None if self.lone.is_at_end() => Ok(None),
+            None => self.next_ascii(),
+        }
+    }
+
+    /// The next element, or `None` after the last one, before the first piece: of an ASCII character that is read by
+    /// itself, or else of that piece.
+    #[inline(always)]
+    fn next_ascii(&mut self) -> Result<Option<CollationElement>, AllocError>
+        requires { self.old.pieces ≡ None }
+        ensures next { IfOk result (λ next. key_elements_left T.text self.old
+            ≡ option_to_list next ++ key_elements_left T.text self.new) }
+        ensures end { IfOk result (λ next. next ≡ None → key_elements_left T.text self.old ≡ []) }
+    {
+        match self.lone.next_ascii() {
+            Some(element) => Ok(Some(element)),
             None => self.begin_pieces(),
         }
     }

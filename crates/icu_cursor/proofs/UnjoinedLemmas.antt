@@ -1,5 +1,5 @@
 -- A character that begins contractions, before a text that goes on none of them, gives what it gives at the end of one.
-use Rattle.std.proofs.Common.{◌≡◌, ◌≢◌, ℕ, ◌≤◌, Bool, true, false, ◌&&◌, nat_eq, List, [], ◌∷◌, ◌++◌, length, drop, append-nil, append_assoc, Option, Some, None, if◌then◌else◌, refl, sym, ap, ◌∙◌, inl, inr, arith, flat_map, subst, eq-eqb, ◌||◌}
+use Rattle.std.proofs.Common.{◌≡◌, ◌≢◌, ℕ, ◌≤◌, Bool, true, false, ◌&&◌, nat_eq, List, [], ◌∷◌, ◌++◌, length, drop, append-nil, append_assoc, Option, Some, None, refl, sym, ap, ◌∙◌, inl, inr, flat_map, subst, eq-eqb, ◌||◌}
 use Rattle.std.specs.Prelude.{bytes_eq}
 use Rattle.std.specs.List.{starts_with}
 use Rattle.std.proofs.lemmas.Bool.{cases_Bool, and_from, ne_eqb, true≢false}
@@ -8,7 +8,6 @@ use Rattle.ucd_normal.specs.declared.forms.Form.TheVariants.{Nfd}
 use Rattle.unicode_normalization.specs.Decompose.{decompose}
 use Rattle.unicode_normalization.specs.Forms.{nfd}
 use Rattle.unicode_normalization.specs.Order.{is_starter}
-use Rattle.icu_entries.specs.declared.entry.EntryKind.{EntryKind}
 use Rattle.icu_entries.specs.declared.entry.EntryKind.TheVariants.{Digit}
 use Rattle.icu_entries.specs.Elements.{Element}
 use Rattle.icu_entries.specs.Entries.{kind_of}
@@ -16,7 +15,6 @@ use Rattle.icu_collation_data.specs.Data.{Mapping, Context, Data, homed, plain_o
 use Rattle.icu_collation_data.specs.Final.{final_elements}
 use Rattle.icu_provider.specs.Tables.{entry_of, diacritic_of}
 use Rattle.icu_matches.specs.Matches.{Match, after_prefix, is_blocked, with_marks, contracted, match_of}
-use Rattle.icu_matches.specs.MatchesAhead.{are_decided}
 use Rattle.icu_matches.proofs.ChoiceLemmas.{either, digit_by}
 use Rattle.icu_matches.proofs.ReadAheadLemmas.{longest_from-decided, match_of-contraction}
 use Rattle.icu_elements.specs.TextElements.{Reading, Step, entry_step, matched_step, step, consumed, last_two, elements_after}
@@ -26,7 +24,7 @@ use Rattle.icu_elements.proofs.StepLemmas.{elements_after_cons, elements_after_n
 use Rattle.icu_boundaries.specs.Alone.{context_after, stays_first, all_stay}
 use Rattle.icu_boundaries.proofs.NfdLemmas.{nfd-starters, nfd-nil, nfd-begins, nfd-stay, stays_first-rises}
 use Rattle.icu_facts.proofs.KeptBaseLemmas.{own_entry}
-use Rattle.icu_cursor.specs.inner.MarkRuns.{Rises, IsMarkItself}
+use Rattle.icu_cursor.specs.inner.MarkRuns.{IsMarkItself}
 use Rattle.icu_cursor.specs.inner.Places.{MayBeCut}
 use Rattle.icu_cursor.specs.inner.Standing.{StandsBefore}
 use Rattle.icu_cursor.specs.inner.Unjoined.{BeginsNone, GoesOnNone, IsUnjoined, IsUnjoinedBefore, BeginsContractions, HeadsRun, IsHead}
@@ -43,7 +41,7 @@ still_some best (mapping ∷ mappings) text h =
       | inr other ↦ still_some best mappings text (rw other at h)
     ]
 
-begins_whole : (chars : List ℕ) (m : ℕ) → bytes_eq chars (m ∷ []) ≡ true → starts_with nat_eq (m ∷ []) chars ≡ true
+pub begins_whole : (chars : List ℕ) (m : ℕ) → bytes_eq chars (m ∷ []) ≡ true → starts_with nat_eq (m ∷ []) chars ≡ true
 begins_whole [] m h = cc
 begins_whole (y ∷ []) m h = h
 begins_whole (y ∷ (z ∷ zs)) m h = absurd (true≢false (sym h ∙ and_false (nat_eq y m)))
@@ -61,7 +59,7 @@ others mapping mappings m h =
     ]
 
 -- what no mapping begins with none is
-none_whole : (mappings : List Mapping) (m : ℕ) → longest_mapping mappings (m ∷ []) ≡ None → mapping_entry mappings (m ∷ []) ≡ None
+pub none_whole : (mappings : List Mapping) (m : ℕ) → longest_mapping mappings (m ∷ []) ≡ None → mapping_entry mappings (m ∷ []) ≡ None
 unfolding longest_from mapping_entry
 none_whole [] m h = refl
 none_whole (mapping ∷ mappings) m h =
@@ -116,16 +114,16 @@ contracted_none context text none h =
     ]) none
     ∙ none_joins context context.default [] text h
 
-first_none : (context : Context) (d : ℕ) (ds : List ℕ) → BeginsNone context d → longest_mapping context.mappings (d ∷ ds) ≡ None
+pub first_none : (context : Context) (d : ℕ) (ds : List ℕ) → BeginsNone context d → longest_mapping context.mappings (d ∷ ds) ≡ None
 first_none context d ds h = longest_from-decided None context.mappings (d ∷ []) ds h.decided ∙ h.none
 
 -- ---- the step
 
-no_lead : (o : Option ℕ) (f : ℕ → Step) (y : Step) → o ≡ None → (elim o as (λ _. Step) [ None ↦ y | Some lead ↦ f lead ]) ≡ y
+pub no_lead : (o : Option ℕ) (f : ℕ → Step) (y : Step) → o ≡ None → (elim o as (λ _. Step) [ None ↦ y | Some lead ↦ f lead ]) ≡ y
 no_lead (Some lead) f y h = cc
 no_lead None f y h = refl
 
-no_secondary : (o : Option ℕ) (f : ℕ → Step) (y : Step) → o ≡ None → (elim o as (λ _. Step) [ Some s ↦ f s | None ↦ y ]) ≡ y
+pub no_secondary : (o : Option ℕ) (f : ℕ → Step) (y : Step) → o ≡ None → (elim o as (λ _. Step) [ Some s ↦ f s | None ↦ y ]) ≡ y
 no_secondary (Some s) f y h = cc
 no_secondary None f y h = refl
 
@@ -213,7 +211,7 @@ module _ (reading : Reading) (c : ℕ) (context : Context) (h : BeginsContractio
 
 -- ---- runs of marks
 
-or_true : (b : Bool) → ((b || true) && true) ≡ true
+pub or_true : (b : Bool) → ((b || true) && true) ≡ true
 or_true true = refl
 or_true false = refl
 

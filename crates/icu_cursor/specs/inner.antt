@@ -9,4 +9,5 @@ pub mod Pieces
 pub mod MarkRuns
 pub mod Standing
 pub mod Unjoined
+pub mod Composed
 pub mod Unread

@@ -17,7 +17,7 @@ use crate::last_characters::LastCharacters;
 use crate::ready_elements::ReadyElements;
 use crate::ready_place::ReadyPlace;
 use crate::stands::{read_behind, stands_before};
-use crate::unjoined::is_unjoined;
+use crate::unjoined::{is_plainly_unjoined, is_unjoined};
 use crate::{CharFacts, FactsKind, Kept};
 use icu_encodings::EncodedText;
 use icu_entries::CollationElement;
@@ -98,6 +98,22 @@ impl<'c, 'd, T: EncodedText, R: ReadyPlace> ElementCursor<'c, 'd, T, R> {
         }
     }
 
+    /// The next element, where nothing stands ready, and the next character is an ASCII one that is read by itself, but
+    /// not at once, as a letter that begins contractions. `None` says nothing: the elements to come stay the same then.
+    #[inline(never)]
+    pub fn next_ascii(&mut self) -> Option<CollationElement>
+        ensures { gives_with R.ready T.text self.old
+            ≡ option_to_list result ++ gives_with R.ready T.text self.new }
+    {
+        if !self.ready.is_empty() {
+            return None;
+        }
+        let (byte, rest) = self.text.split_first_ascii()?;
+        let c = char::from(byte);
+        let tables = self.tables;
+        self.take_kept(c, tables.kept(c), rest)
+    }
+
     /// The element of a character that has one. Nothing stands ready then, and nothing is stored of what does.
     #[inline(always)]
     fn take_one(&mut self, c: char, facts: &CharFacts, rest: T) -> Option<CollationElement>
@@ -146,6 +162,7 @@ impl<'c, 'd, T: EncodedText, R: ReadyPlace> ElementCursor<'c, 'd, T, R> {
     {
         match kept {
             Kept::Own => self.take_own(c, rest),
+            Kept::Facts(facts) if facts.kind == FactsKind::Mark => self.take_mark(c, facts, rest),
             Kept::Facts(facts) => self.take_char(c, facts, rest),
             Kept::Nothing => self.take_syllable(c, rest),
         }
@@ -166,8 +183,9 @@ impl<'c, 'd, T: EncodedText, R: ReadyPlace> ElementCursor<'c, 'd, T, R> {
         Some(element)
     }
 
-    /// The first element of a character of which this is known, where it is read by itself. The others are kept.
-    #[inline(always)]
+    /// The first element of a character of which this is known, where it is read by itself. The others are kept. Out of
+    /// line, so that it is one test whether a character is a mark, as each fifth is in many scripts of India.
+    #[inline(never)]
     fn take_char(&mut self, c: char, facts: &CharFacts, rest: T) -> Option<CollationElement>
         requires nothing { HasNothingReady R.ready self.old }
         requires text { T.text self.old.text ≡ c ∷ T.text rest }
@@ -175,12 +193,25 @@ impl<'c, 'd, T: EncodedText, R: ReadyPlace> ElementCursor<'c, 'd, T, R> {
         ensures next { gives_with R.ready T.text self.old
             ≡ option_to_list result ++ gives_with R.ready T.text self.new }
     {
-        if facts.kind == FactsKind::Mark {
-            return self.take_mark(c, facts, rest);
-        }
-        if !stands_before(self.tables, facts, rest) {
+        if facts.kind == FactsKind::Base {
             return self.take_base(c, facts, rest);
         }
+        if !stands_before(self.tables, facts, rest) {
+            return None;
+        }
+        self.take_alone(c, facts, rest)
+    }
+
+    /// The first element of a character that stands before the rest. The others are kept.
+    #[inline(always)]
+    fn take_alone(&mut self, c: char, facts: &CharFacts, rest: T) -> Option<CollationElement>
+        requires nothing { HasNothingReady R.ready self.old }
+        requires text { T.text self.old.text ≡ c ∷ T.text rest }
+        requires stands { StandsBefore (cursor_reading self.old.tables.now) c
+            (char_elements facts.now) (T.text rest) }
+        ensures next { gives_with R.ready T.text self.old
+            ≡ option_to_list result ++ gives_with R.ready T.text self.new }
+    {
         if facts.count == 1 {
             return self.take_one(c, facts, rest);
         }
@@ -241,10 +272,14 @@ impl<'c, 'd, T: EncodedText, R: ReadyPlace> ElementCursor<'c, 'd, T, R> {
         requires nothing { HasNothingReady R.ready self.old }
         requires text { T.text self.old.text ≡ c ∷ T.text rest }
         requires facts { Serves (cursor_reading self.old.tables.now) c facts.now }
+        requires base { facts.now.kind ≡ FactsKind.Base }
         ensures next { gives_with R.ready T.text self.old
             ≡ option_to_list result ++ gives_with R.ready T.text self.new }
     {
-        if facts.kind != FactsKind::Base {
+        if let Some(unjoined) = is_plainly_unjoined(self.tables, c, rest) {
+            if unjoined {
+                return self.take_alone(c, facts, rest);
+            }
             return None;
         }
         let (x, after) = rest.split_first_char()?;
@@ -290,7 +325,7 @@ impl<'c, 'd, T: EncodedText, R: ReadyPlace> ElementCursor<'c, 'd, T, R> {
         if !is_unjoined(self.tables, c, rest) {
             return None;
         }
-        self.read_facts(c, facts, rest)
+        self.take_alone(c, facts, rest)
     }
 
     /// The first element of a Hangul syllable, by its jamo. The others are kept.
@@ -354,8 +389,9 @@ impl<'c, 'd, T: EncodedText> ElementCursor<'c, 'd, T> {
     }
 
     /// The next element, or `None` after the last one. `LongPiece` where the characters that come next have to be read
-    /// together and are more than 64: the elements to come stay the same then.
-    #[inline]
+    /// together and are more than 64: the elements to come stay the same then. Most characters are read where it is
+    /// called, without a call.
+    #[inline(always)]
     pub fn next(&mut self) -> Result<Option<CollationElement>, LongPiece>
         ensures next { IfOk result (λ next. cursor_gives T.text self.old
             ≡ option_to_list next ++ cursor_gives T.text self.new) }

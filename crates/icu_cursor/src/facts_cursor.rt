@@ -13,8 +13,8 @@ use crate::char_elements::CharElements;
 use crate::cursor_tables::CursorTables;
 use crate::digit_run::read_weight;
 use crate::ready_place::ReadyPlace;
-use crate::stands::{read_behind, stands_at_once, stands_before};
-use crate::unjoined::is_unjoined;
+use crate::stands::{read_behind, stands_at_once};
+use crate::unjoined::{is_plainly_unjoined, is_unjoined};
 use crate::{CharFacts, FactsKind, Kept};
 use icu_encodings::EncodedText;
 use icu_entries::CollationElement;
@@ -179,10 +179,10 @@ impl<'c, 'd, T: EncodedText> FactsCursor<'c, 'd, T> {
         if facts.kind == FactsKind::Mark {
             return self.begin_mark(c, facts, rest);
         }
-        if !stands_before(self.tables, facts, rest) {
+        if facts.kind == FactsKind::Base {
             return self.begin_base(c, facts, rest);
         }
-        self.begin_alone(c, facts, rest)
+        self.begin_number(c, facts, rest)
     }
 
     /// The first element of a mark, which is read with the next character where that one may be read by itself too. The
@@ -235,10 +235,14 @@ impl<'c, 'd, T: EncodedText> FactsCursor<'c, 'd, T> {
         requires nothing { elements_ready self.old.ready ≡ [] }
         requires text { T.text self.old.text ≡ c ∷ T.text rest }
         requires facts { Serves (cursor_reading self.old.tables.now) c facts.now }
+        requires base { facts.now.kind ≡ FactsKind.Base }
         ensures { IfSome result (λ e. GoesOn T.text self.old e self.new) }
     {
-        if facts.kind != FactsKind::Base {
-            return self.begin_number(c, facts, rest);
+        if let Some(unjoined) = is_plainly_unjoined(self.tables, c, rest) {
+            if unjoined {
+                return self.begin_alone(c, facts, rest);
+            }
+            return None;
         }
         let (x, after) = rest.split_first_char()?;
         match self.tables.pair(c, x) {

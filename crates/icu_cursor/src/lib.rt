@@ -3,6 +3,7 @@
 #![tactic(auto)]
 
 pub mod char_elements;
+mod composed;
 pub mod cursor;
 pub mod cursor_tables;
 mod digit_run;

@@ -1,6 +1,6 @@
 //! Characters that begin contractions, where none of these goes on.
 
-ghost use Rattle.std.specs.Prelude.{◌≡◌, ◌∷◌, [], List, IfSome, IsTrue, true};
+ghost use Rattle.std.specs.Prelude.{◌≡◌, ◌≢◌, ◌∷◌, [], ℕ, List, IfSome, IsTrue, true};
 ghost use Rattle.ucd_normal.specs.declared.forms.Form.TheVariants.{Nfd};
 ghost use Rattle.unicode_normalization.specs.Decompose.{decompose};
 ghost use Rattle.unicode_normalization.specs.Order.{is_starter};
@@ -11,8 +11,9 @@ ghost use Rattle.icu_cursor.specs.Cursors.{cursor_reading};
 ghost use Rattle.icu_cursor.specs.inner.Standing.{StandsBefore};
 ghost use Rattle.icu_elements.specs.TextElements.{Reading};
 ghost use Rattle.icu_elements.specs.inner.StepsTaken.{FirstIsEarlier, FirstIsLater, NoneBeginsWith};
-ghost use Rattle.icu_cursor.specs.inner.Unjoined.{BeginsContractions, BeginsNone, IsFollower, IsUnjoinedBefore};
+ghost use Rattle.icu_cursor.specs.inner.Unjoined.{BeginsContractions, BeginsNone, IsFollower, IsHead, IsUnjoinedBefore};
 
+use crate::composed::stands_composed;
 use crate::cursor_tables::CursorTables;
 use crate::{FactsKind, Kept};
 use icu_collation_data::FoundContext;
@@ -49,12 +50,9 @@ fn mappings_of<'d>(tables: &CursorTables<'d>, c: char) -> Option<FoundContext<'d
     if reading.numeric_primary.is_some() || reading.tables.secondary_of_diacritic(c).is_some() {
         return None;
     }
-    if !is_plain(c) {
-        return None;
-    }
     let (home, ce32) = reading.tables.homed_entry(c);
     match ce32.kind() {
-        EntryKind::Contraction => Some(home.get_context(ce32.index())),
+        EntryKind::Contraction if is_plain(c) => Some(home.get_context(ce32.index())),
         _ => None,
     }
 }
@@ -115,7 +113,7 @@ fn finds_none(context: FoundContext<'_>, d: char) -> bool
 
 /// Whether no mapping of a context begins with a character. Mostly the first and the last one say so.
 #[inline(always)]
-fn begins_none(context: FoundContext<'_>, d: char) -> bool
+pub(crate) fn begins_none(context: FoundContext<'_>, d: char) -> bool
     requires { IsTrue (has_ascending_mappings (found_context context)) }
     ensures { IsTrue result → BeginsNone (found_context context.entry) d }
 {
@@ -146,27 +144,56 @@ fn decomposed_follower(c: char) -> Follower
     }
 }
 
-/// What a character is that follows one that begins contractions.
-#[inline]
-fn read_follower(tables: &CursorTables<'_>, c: char) -> Follower
+/// What a character is that follows one that begins contractions, by what is kept of it.
+#[inline(always)]
+pub(crate) fn kept_follower(tables: &CursorTables<'_>, c: char) -> Follower
     ensures { IsFollower (cursor_reading tables.now) c result }
 {
     match tables.kept(c) {
         Kept::Own => Follower::Boundary,
         Kept::Facts(facts) if facts.has_boundary_before => Follower::Boundary,
         Kept::Facts(facts) if facts.kind == FactsKind::Mark => Follower::Head(c, facts.class),
-        _ => decomposed_follower(c),
+        Kept::Facts(_) => Follower::Other,
+        Kept::Nothing => unkept_follower(tables, c),
     }
 }
 
-/// Whether the classes of the marks that a text begins with rise, no mapping of a context begins with one of them, and
-/// the text may be cut after them, or no mapping begins with the starter there. False says nothing.
-fn joins_none<T: EncodedText>(tables: &CursorTables<'_>, context: FoundContext<'_>, text: T) -> bool
+/// What a character is of which nothing is kept.
+#[inline(never)]
+fn unkept_follower(tables: &CursorTables<'_>, c: char) -> Follower
+    ensures { IsFollower (cursor_reading tables.now) c result }
+{
+    if tables.has_boundary_before(c) {
+        Follower::Boundary
+    } else {
+        Follower::Other
+    }
+}
+
+/// What a character is that follows one that begins contractions.
+#[inline(always)]
+fn read_follower(tables: &CursorTables<'_>, c: char) -> Follower
+    ensures { IsFollower (cursor_reading tables.now) c result }
+{
+    match kept_follower(tables, c) {
+        Follower::Other => decomposed_follower(c),
+        known => known,
+    }
+}
+
+/// Whether the classes of the marks that a text begins with rise from this one, no mapping of a context begins with one
+/// of them, and the text may be cut after them, or no mapping begins with the starter there. False says nothing.
+fn joins_none<T: EncodedText>(
+    tables: &CursorTables<'_>,
+    context: FoundContext<'_>,
+    least: u8,
+    text: T,
+) -> bool
     requires { IsTrue (has_ascending_mappings (found_context context)) }
     ensures { IsTrue result → IsUnjoinedBefore (cursor_reading tables.now)
-        (found_context context.entry) 0 (T.text text) }
+        (found_context context.entry) least (T.text text) }
 {
-    let mut last = 0u8;
+    let mut last = least;
     let mut rest = text;
     'marks: for _ in 0..CHARS_AHEAD {
         let Some((c, after)) = rest.split_first_char() else {
@@ -201,7 +228,49 @@ pub(crate) fn is_unjoined<T: EncodedText>(tables: &CursorTables<'_>, c: char, te
         → StandsBefore (cursor_reading tables.now) c es (T.text text) }
 {
     match mappings_of(tables, c) {
-        Some(context) => joins_none(tables, context, text),
+        Some(context) => joins_none(tables, context, 0, text),
         None => false,
+    }
+}
+
+/// Whether a character that begins contractions is joined with none of the marks behind it, the first of which
+/// decomposes to this one of this class, which isn't 0. False says nothing.
+#[inline(always)]
+fn joins_no_mark<T: EncodedText>(
+    tables: &CursorTables<'_>,
+    c: char,
+    head: (char, u8),
+    rest: T,
+) -> bool
+    ensures { IsTrue result → (x : ℕ) → IsHead x head.0 head.1 → head.1 ≢ 0 → (es : List Element)
+        → StandsBefore (cursor_reading tables.now) c es []
+        → StandsBefore (cursor_reading tables.now) c es (x ∷ T.text rest) }
+{
+    match mappings_of(tables, c) {
+        Some(context) => begins_none(context, head.0) && joins_none(tables, context, head.1, rest),
+        None => stands_composed(tables, c, head, rest),
+    }
+}
+
+/// Whether a character that begins contractions gives before a text what it gives at the end of one, as `is_unjoined`
+/// has it, by one look at the next character: at the end and before a boundary it does, and before marks if none of
+/// them is joined. `None` where another character follows. `Some(false)` and `None` say nothing.
+#[inline(never)]
+pub(crate) fn is_plainly_unjoined<T: EncodedText>(
+    tables: &CursorTables<'_>,
+    c: char,
+    text: T,
+) -> Option<bool>
+    ensures { IfSome result (λ yes. IsTrue yes → (es : List Element)
+        → StandsBefore (cursor_reading tables.now) c es []
+        → StandsBefore (cursor_reading tables.now) c es (T.text text)) }
+{
+    let Some((x, rest)) = text.split_first_char() else {
+        return Some(true);
+    };
+    match kept_follower(tables, x) {
+        Follower::Boundary => Some(true),
+        Follower::Head(d, class) if class != 0 => Some(joins_no_mark(tables, c, (d, class), rest)),
+        _ => None,
     }
 }

@@ -1,14 +1,14 @@
 -- Steps that give one element, and look at nothing or at what follows directly.
-use Rattle.std.proofs.Common.{◌≡◌, ℕ, ◌<◌, ◌≤◌, zero, suc, Bool, true, false, ◌&&◌, ◌==◌, List, [], ◌∷◌, length, drop, Option, Some, None, Result, Ok, Err, is_some, refl, sym, ap, subst, ◌∙◌, arith}
-use Rattle.std.specs.Prelude.{⊤, IsTrue, IfSome, IfOk, MatchOption, slice_get}
-use Rattle.std.proofs.lemmas.Bool.{and_parts, true≢false}
+use Rattle.std.proofs.Common.{◌≡◌, ℕ, ◌<◌, ◌≤◌, zero, suc, Bool, true, false, ◌&&◌, ◌||◌, ◌==◌, List, [], ◌∷◌, length, drop, Option, Some, None, Result, Ok, Err, is_some, refl, sym, ap, subst, ◌∙◌, arith}
+use Rattle.std.specs.Prelude.{⊤, if◌then◌else◌, nat_lt, IsTrue, IfSome, IfOk, MatchOption, slice_get}
+use Rattle.std.proofs.lemmas.Bool.{and_parts, eqb-true, true≢false}
 use Rattle.std.specs.List.{list_any}
 use Rattle.unicode_normalization.specs.declared.decompose.Decompositions.{Decompositions}
 use Rattle.unicode_normalization.specs.Order.{is_starter}
 use Rattle.icu_entries.specs.declared.entry.EntryKind.{EntryKind}
-use Rattle.icu_entries.specs.declared.entry.EntryKind.TheVariants.{Expansion32, Expansion, Prefix, Contraction, Digit, Offset}
+use Rattle.icu_entries.specs.declared.entry.EntryKind.TheVariants.{Simple, LongPrimary, LongSecondary, Implicit, Expansion32, Expansion, Prefix, Contraction, Digit, Offset}
 use Rattle.icu_entries.specs.Elements.{Element}
-use Rattle.icu_entries.specs.Entries.{kind_of, entry_index}
+use Rattle.icu_entries.specs.Entries.{kind_of, entry_index, low_byte, special_low_byte, simple_element, long_primary_element, simple_or_long_primary, self_contained}
 use Rattle.icu_collation_data.proofs.EntryLemmas.{test_inside}
 use Rattle.icu_collation_data.specs.Contexts.{ascend_from}
 use Rattle.icu_collation_data.specs.Data.{Mapping, Context, Data, HomedEntry, homed, context_of, longest_mapping}
@@ -19,6 +19,7 @@ use Rattle.icu_matches.specs.Matches.{Match, after_prefix, with_marks, contracte
 use Rattle.icu_matches.specs.MatchesAhead.{are_decided, mapping_length, lone_match}
 use Rattle.icu_matches.specs.WellFormedEntries.{IsWellFormedFrom}
 use Rattle.icu_collation_data.specs.DataConditions.{is_inside, fits_offset, is_readable}
+use Rattle.icu_collation_data.specs.Final.{final_elements}
 use Rattle.icu_collation_data.specs.Reachable.{reachable_from}
 use Rattle.icu_elements.proofs.ReadableLemmas.{readable_among, itself}
 use Rattle.icu_matches.proofs.ReadAheadLemmas.{longest_from-decided, are_decided-longer, longest_mapping-has_chars, longest_mapping-fits, contracted_by, match_of-contraction, match_of-other}
@@ -28,7 +29,7 @@ use Rattle.icu_elements.specs.ReadAhead.{HasWholeStep}
 use Rattle.icu_elements.specs.declared.reader.position.Position.{Position}
 use Rattle.icu_elements.specs.inner.Positions.{consumed_last, unread_at, IsStep}
 use Rattle.icu_elements.specs.inner.ReadsAhead.{ReadsTo, ReadsMore, IsBegun, HasWholeContraction}
-use Rattle.icu_elements.specs.inner.StepsTaken.{LooksAtNothing, IsSingle, mapping_or, chosen_mapping, IsDecidedMapping, NoMarkFirst, IsWholeMatch, IsDirectMatch, IsDirectStep, StepsOrLooks}
+use Rattle.icu_elements.specs.inner.StepsTaken.{LooksAtNothing, IsSingle, mapping_or, chosen_mapping, IsDecidedMapping, NoMarkFirst, StarterFirst, IsWholeMatch, IsDirectMatch, IsDirectStep, StepsOrLooks}
 use Rattle.icu_elements.proofs.EnoughLemmas.{HasWholeStep-other, HasWholeStep-contraction}
 use Rattle.icu_elements.proofs.AheadLemmas.{HasWholeStep-by_dot}
 use Rattle.icu_elements.proofs.ReadsAheadLemmas.{ReadsTo-none, ReadsTo-weaker, ReadsTo-then}
@@ -54,6 +55,56 @@ no_digit_step _ x y h = refl
 contraction_no_prefix : (k : EntryKind) (x y : ℕ) → k ≡ Contraction → (elim k as (λ _. ℕ) [ Prefix ↦ x | _ ↦ y ]) ≡ y
 contraction_no_prefix Contraction x y h = refl
 contraction_no_prefix _ x y h = cc
+
+-- ---- entries that are one element by their low byte
+
+simple_kind : (e : ℕ) → nat_lt (low_byte e) special_low_byte ≡ true → kind_of e ≡ Simple
+unfolding kind_of
+simple_kind e below = rw (below) refl
+
+long_kind : (e : ℕ) → low_byte e ≡ 0xC1 → kind_of e ≡ LongPrimary
+unfolding kind_of
+long_kind e is = rw (is) refl
+
+final_simple : (k : EntryKind) (x y z v w : List Element) → k ≡ Simple → (elim k as (λ _. List Element) [ Expansion32 ↦ x | Expansion ↦ y | Offset ↦ z | Implicit ↦ v | _ ↦ w ]) ≡ w
+final_simple Simple x y z v w is = refl
+final_simple _ x y z v w is = cc
+
+final_long : (k : EntryKind) (x y z v w : List Element) → k ≡ LongPrimary → (elim k as (λ _. List Element) [ Expansion32 ↦ x | Expansion ↦ y | Offset ↦ z | Implicit ↦ v | _ ↦ w ]) ≡ w
+final_long LongPrimary x y z v w is = refl
+final_long _ x y z v w is = cc
+
+own_simple : (k : EntryKind) (x y z : List Element) → k ≡ Simple → (elim k as (λ _. List Element) [ Simple ↦ x | LongPrimary ↦ y | LongSecondary ↦ z | _ ↦ [] ]) ≡ x
+own_simple Simple x y z is = refl
+own_simple _ x y z is = cc
+
+own_long : (k : EntryKind) (x y z : List Element) → k ≡ LongPrimary → (elim k as (λ _. List Element) [ Simple ↦ x | LongPrimary ↦ y | LongSecondary ↦ z | _ ↦ [] ]) ≡ y
+own_long LongPrimary x y z is = refl
+own_long _ x y z is = cc
+
+simple_elements : (home : Data) (e c : ℕ) → kind_of e ≡ Simple → final_elements (homed home e) c ≡ simple_element e ∷ []
+unfolding final_elements self_contained
+simple_elements home e c is = final_simple (kind_of e) _ _ _ _ _ is ∙ own_simple (kind_of e) _ _ _ is
+
+long_elements : (home : Data) (e c : ℕ) → kind_of e ≡ LongPrimary → final_elements (homed home e) c ≡ long_primary_element e ∷ []
+unfolding final_elements self_contained
+long_elements home e c is = final_long (kind_of e) _ _ _ _ _ is ∙ own_long (kind_of e) _ _ _ is
+
+plain_of : (home : Data) (e c : ℕ) (a b : Bool) → nat_lt (low_byte e) special_low_byte ≡ a → (low_byte e == 0xC1) ≡ b
+    → IfSome (if a then Some (simple_element e) else if b then Some (long_primary_element e) else None) (IsSingle (homed home e) c)
+plain_of home e c true b below long =
+    let is : kind_of e ≡ Simple = simple_kind e below in
+    record { kind = subst LooksAtNothing (sym is) tt; elements = simple_elements home e c is }
+plain_of home e c false true below long =
+    let is : kind_of e ≡ LongPrimary = long_kind e (eqb-true (low_byte e) 0xC1 long) in
+    record { kind = subst LooksAtNothing (sym is) tt; elements = long_elements home e c is }
+plain_of home e c false false below long = tt
+
+-- the element that an entry spells by its low byte is all that it gives
+pub plain_single : (h : HomedEntry) (home : Data) (e c : ℕ) (o : Option Element) → h ≡ homed home e → o ≡ simple_or_long_primary e → IfSome o (IsSingle h c)
+plain_single h home e c o of is =
+    subst (λ (k : HomedEntry). IfSome o (IsSingle k c)) (sym of)
+    (subst (λ (p : Option Element). IfSome p (IsSingle (homed home e) c)) (sym is) (plain_of home e c (nat_lt (low_byte e) special_low_byte) (low_byte e == 0xC1) refl refl))
 
 -- ---- steps
 
@@ -187,6 +238,19 @@ starter-at [] n d h is = cc
 starter-at (x ∷ text) zero d h is = subst (λ y. is_starter y ≡ true) (sym (same_char x d h)) is
 starter-at (x ∷ text) (suc n) d h is = starter-at text n d h is
 
+-- a text that begins with a starter has one
+pub starter_head : (text : List ℕ) (d : ℕ) → slice_get text 0 ≡ Some d → is_starter d ≡ true → StarterFirst text
+starter_head [] d h is = cc
+starter_head (x ∷ text) d h is = subst (λ y. is_starter y ≡ true) (sym (same_char x d h)) is
+
+some_starter : (text : List ℕ) → StarterFirst text → list_any is_starter text ≡ true
+some_starter [] is = absurd is
+some_starter (x ∷ text) is = ap (λ (b : Bool). b || list_any is_starter text) is
+
+no_mark_before : (text : List ℕ) → StarterFirst text → NoMarkFirst text
+no_mark_before [] is = tt
+no_mark_before (x ∷ text) is = is
+
 -- ---- an entry that was looked up
 
 at_context : (k : EntryKind) (a b d f g h : Bool) → k ≡ Contraction → IsTrue (elim k as (λ _. Bool) [ Expansion32 ↦ a | Expansion ↦ b | Prefix ↦ d | Contraction ↦ f | Digit ↦ g | Offset ↦ h | _ ↦ true ]) → IsTrue f
@@ -315,6 +379,17 @@ module _ {I : Type 0} (steps : I → Option ℕ → I → Type 0) (context : Con
     ahead = ReadsTo-weaker steps (IsWholeMatch context (mapping_or context None)) IsBegun old mid text middle (λ some. absurd (not_begun_empty middle none some)) begun;
     longest = ap (longest_mapping context.mappings) none ∙ nothing_begins context.mappings ascend;
     unmarked = subst NoMarkFirst (sym none) tt;
+  }
+
+  -- the text begins with a starter, and none of the mappings begins it
+  pub direct_apart : ReadsTo steps IsBegun old text mid middle → StarterFirst middle → IsDecidedMapping context middle None
+      → IsDirectMatch steps context old text mid middle None
+  direct_apart begun starter found = record {
+    ahead =
+        ReadsTo-weaker steps (IsWholeMatch context (mapping_or context None)) IsBegun old mid text middle
+        (λ _. record { decided = found.decided; behind = some_starter middle starter }) begun;
+    longest = found.longest;
+    unmarked = no_mark_before middle starter;
   }
 
   -- a starter was read on to, or no text is left behind it

@@ -1,5 +1,5 @@
 -- What reading a text keeps: the characters consumed last, and the elements that are left.
-use Rattle.std.proofs.Common.{◌≡◌, ℕ, ◌+◌, ◌≤◌, ◌<◌, zero, suc, List, [], ◌∷◌, ◌++◌, length, take, reverse, min, get_or, Result, Ok, Err, OnOk, fold, refl, sym, ap, ap₂, ◌∙◌, append_assoc, append-nil, take_all, length-take, arith}
+use Rattle.std.proofs.Common.{◌≡◌, ℕ, ◌+◌, ◌≤◌, ◌<◌, zero, suc, List, [], ◌∷◌, ◌++◌, length, take, reverse, get_or, Result, Ok, Err, OnOk, fold, refl, sym, ap, ap₂, ◌∙◌, append_assoc, append-nil, take_all, length-take, arith}
 use Rattle.std.proofs.lemmas.List.{reverse-append, take-take}
 use Rattle.std.specs.List.{push}
 use Rattle.icu_entries.specs.Elements.{Element}
@@ -25,14 +25,23 @@ last_two-append before xs ys =
     ∙ ap (take 2) (sym (append_assoc (reverse ys) (reverse xs) before) ∙ ap (λ l. l ++ before) (sym (reverse-append xs ys)))
 
 -- two places hold one more
-pub one_more : (xs : List ℕ) (n c : ℕ) → length xs ≡ 2 → n ≤ 2 → take (min (n + 1) 2) (c ∷ get_or xs 0 0 ∷ []) ≡ last_two (take n xs) (c ∷ [])
+pub one_more : (xs : List ℕ) (n c : ℕ) → length xs ≡ 2 → n < 2 → take (n + 1) (c ∷ get_or xs 0 0 ∷ []) ≡ last_two (take n xs) (c ∷ [])
 one_more [] n c two h = absurd (omega arith)
 one_more (x ∷ []) n c two h = absurd (omega arith)
 one_more (x ∷ (y ∷ (z ∷ xs))) n c two h = absurd (omega arith)
 one_more (x ∷ (y ∷ [])) zero c two h = refl
 one_more (x ∷ (y ∷ [])) (suc zero) c two h = refl
-one_more (x ∷ (y ∷ [])) (suc (suc zero)) c two h = refl
-one_more (x ∷ (y ∷ [])) (suc (suc (suc n))) c two h = absurd (omega arith)
+one_more (x ∷ (y ∷ [])) (suc (suc n)) c two h = absurd (omega arith)
+
+-- or one in place of the last
+pub two_stay : (xs : List ℕ) (n c : ℕ) → length xs ≡ 2 → n ≤ 2 → 2 ≤ n → take n (c ∷ get_or xs 0 0 ∷ []) ≡ last_two (take n xs) (c ∷ [])
+two_stay [] n c two h more = absurd (omega arith)
+two_stay (x ∷ []) n c two h more = absurd (omega arith)
+two_stay (x ∷ (y ∷ (z ∷ xs))) n c two h more = absurd (omega arith)
+two_stay (x ∷ (y ∷ [])) zero c two h more = absurd (omega arith)
+two_stay (x ∷ (y ∷ [])) (suc zero) c two h more = absurd (omega arith)
+two_stay (x ∷ (y ∷ [])) (suc (suc zero)) c two h more = refl
+two_stay (x ∷ (y ∷ [])) (suc (suc (suc n))) c two h more = absurd (omega arith)
 
 -- two at most are kept
 pub none_more : (r : RecentChars) → last_two (recent_chars r) [] ≡ recent_chars r

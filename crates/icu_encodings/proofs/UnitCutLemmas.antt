@@ -1,6 +1,7 @@
 -- Where a text of an encoding may be cut.
 use Rattle.std.proofs.Common.{◌≡◌, ℕ, zero, suc, ◌^◌, get_or, ◌<◌, ◌≤◌, Bool, true, false, ◌==◌, ◌&&◌, not, eqb, true≢false, List, [], ◌∷◌, ◌++◌, length, take, drop, map, slice_index, slice_index_or, refl, ap, sym, ◌∙◌, arith, take-append-drop, ◌-◌, length-append, append_assoc, take_all}
 use Rattle.std.proofs.lemmas.List.{map-append, take-take, take-append-le, drop_at}
+use Rattle.std.specs.Char.{IsScalar}
 use Rattle.std.specs.Char.Utf16.{is_high_surrogate}
 use Rattle.std.proofs.lemmas.Bool.Decides.{nat_tests}
 use Rattle.std.proofs.lemmas.Slice.Eq.{bytes_eq-Decides}
@@ -139,18 +140,26 @@ utf8_first_three b c d bs low high second_fits at_least at_most =
     lossy_chars-step all (omega arith)
     ∙ ap (λ x. or_replacement x.char ∷ utf8_text (drop x.size all)) value
 
--- any byte that continues may stand after most first bytes
-pub second_of_most : (b c : ℕ) → 0xE1 ≤ b → b ≤ 0xEC → 0x80 ≤ c → c ≤ 0xBF → second b c ≡ true
-second_of_most b c low high at_least at_most =
-    let e0 : (b == 0xE0) ≡ false = grind (arith, nat_tests) in
-    let ed : (b == 0xED) ≡ false = grind (arith, nat_tests) in
+-- the second byte of three whose code is written in three bytes, by the first one
+second_of_three : (b c d : ℕ) (e0 ed : Bool) → (b == 0xE0) ≡ e0 → (b == 0xED) ≡ ed → 0xE0 ≤ b → b ≤ 0xEF → 0x80 ≤ c → c ≤ 0xBF → 0x80 ≤ d → d ≤ 0xBF
+    → 0x800 ≤ code_of_3 b c d → IsScalar (code_of_3 b c d) → second b c ≡ true
+second_of_three b c d true ed is0 isd low high at_least at_most least most above scalar =
+    let e : b ≡ 0xE0 = grind (arith, nat_tests) in
+    let wide : 0xA0 ≤ c = omega (arith, e, above) in rw is0 (grind (arith, nat_tests))
+second_of_three b c d false true is0 isd low high at_least at_most least most above scalar =
+    let e : b ≡ 0xED = grind (arith, nat_tests) in
+    let narrow : c ≤ 0x9F = grind (arith, nat_tests) in rw (is0, isd) (grind (arith, nat_tests))
+second_of_three b c d false false is0 isd low high at_least at_most least most above scalar =
     let f0 : (b == 0xF0) ≡ false = grind (arith, nat_tests) in
     let f4 : (b == 0xF4) ≡ false = grind (arith, nat_tests) in
-    let goes_on : continues c ≡ true = grind (arith, nat_tests) in rw (e0, ed, f0, f4) goes_on
+    let goes_on : continues c ≡ true = grind (arith, nat_tests) in rw (is0, isd, f0, f4) goes_on
 
--- a byte that continues and is below A0 may stand after ED
-pub second_after_ed : (c : ℕ) → 0x80 ≤ c → c ≤ 0x9F → second 0xED c ≡ true
-second_after_ed c at_least at_most = grind (arith, nat_tests)
+-- three bytes of which two continue the first, and whose code is written in three bytes, are well-formed
+pub second_of_code : (b c d : ℕ) → 0xE0 ≤ b → 0x80 ≤ c → c ≤ 0xBF → 0x80 ≤ d → d ≤ 0xBF → 0x800 ≤ code_of_3 b c d → code_of_3 b c d ≤ 0xFFFF
+    → IsScalar (code_of_3 b c d) → (b ≤ 0xEF) × (second b c ≡ true)
+second_of_code b c d low at_least at_most least most above below scalar =
+    let high : b ≤ 0xEF = omega (arith, below) in
+    (high, second_of_three b c d (b == 0xE0) (b == 0xED) refl refl low high at_least at_most least most above scalar)
 
 whole_left : (n : ℕ) (bs : List ℕ) → n ≡ length bs → take n bs ≡ bs
 whole_left n bs is = ap (λ k. take k bs) is ∙ take_all (length bs) bs (omega arith)

@@ -1,10 +1,10 @@
 //! Texts, each in its encoding, that are read character by character as often as need be.
 
-ghost use Rattle.std.specs.Prelude.{◌≡◌, false, ◌<◌, ◌≤◌, ◌∷◌, ◌++◌, [], ℕ, List, take, length, true, IsTrue, MatchOption, IfSome};
+ghost use Rattle.std.specs.Prelude.{◌≡◌, false, ◌<◌, ◌≤◌, ◌∷◌, ◌++◌, [], ℕ, List, take, length, IsTrue, MatchOption, IfSome};
 ghost use Rattle.icu_encodings.specs.inner.UnitCuts.{StartsClean, StartsNoTrail};
 ghost use Rattle.std.specs.List.{AllByRecursion};
 ghost use Rattle.std.specs.Char.{IsScalar};
-ghost use Rattle.bstr.specs.Utf8.{code_of_2, code_of_3, second};
+ghost use Rattle.bstr.specs.Utf8.{code_of_2, code_of_3};
 ghost use Rattle.std.specs.Iterator.{YieldsFirst, item_count};
 ghost use Rattle.icu_encodings.specs.DecodedTexts.{latin1_text, utf16_text, utf8_text, SpellsText};
 
@@ -127,21 +127,12 @@ fn are_two(first: u8, second: u8) -> bool
     first >= 0xC2 && first <= 0xDF && second >= 0x80 && second <= 0xBF
 }
 
-/// Whether a byte may stand after one from E0 to ED in a well-formed character. False says nothing.
+/// Whether a byte continues a character.
 #[inline(always)]
-fn is_second(first: u8, byte: u8) -> bool
-    ensures lead { IsTrue result → (0xE0 ≤ first) × (first ≤ 0xEF) × (0x80 ≤ byte) }
-    ensures second { IsTrue result → second first byte ≡ true }
+fn continues(byte: u8) -> bool
+    ensures { IsTrue result → (0x80 ≤ byte) × (byte ≤ 0xBF) }
 {
-    if byte < 0x80 || byte > 0xBF {
-        return false;
-    }
-    match first {
-        0xE1..=0xEC => true,
-        0xE0 => byte >= 0xA0,
-        0xED => byte <= 0x9F,
-        _ => false,
-    }
+    byte >= 0x80 && byte <= 0xBF
 }
 
 /// The first character of UTF-8 that begins with a well-formed one of two bytes.
@@ -159,8 +150,8 @@ fn split_first_two(bytes: &[u8]) -> Option<(char, &[u8])>
     Some((c, rest))
 }
 
-/// The first character of UTF-8 that begins with a well-formed one of three bytes, of which the first is one from E0 to
-/// ED, as it is in most letters.
+/// The first character of UTF-8 that begins with a well-formed one of three bytes. Those are the characters from U+0800
+/// to U+FFFF, and no others have them in these bits (Unicode Standard, Table 3-7).
 #[inline(always)]
 fn split_first_three(bytes: &[u8]) -> Option<(char, &[u8])>
     ensures { IfSome result (λ p. utf8_text bytes.now ≡ p.0 ∷ utf8_text p.1.now) }
@@ -168,10 +159,14 @@ fn split_first_three(bytes: &[u8]) -> Option<(char, &[u8])>
     let [first, second, third, rest @ ..] = bytes else {
         return None;
     };
-    if !is_second(*first, *second) || *third < 0x80 || *third > 0xBF {
+    if *first < 0xE0 || !continues(*second) || !continues(*third) {
         return None;
     }
-    let c = char::from_u32(code_of_three(*first, *second, *third))?;
+    let code = code_of_three(*first, *second, *third);
+    if code < 0x800 || code > 0xFFFF {
+        return None;
+    }
+    let c = char::from_u32(code)?;
     Some((c, rest))
 }
 
@@ -182,6 +177,7 @@ fn split_first_decoded(bytes: &[u8]) -> Option<(char, &[u8])>
         (λ p. utf8_text bytes.now ≡ p.0 ∷ utf8_text p.1.now) }
 {
     let found = match bytes {
+        [] => return None,
         [first, ..] if *first >= 0xE0 => split_first_three(bytes),
         _ => split_first_two(bytes),
     };

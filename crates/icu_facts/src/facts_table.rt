@@ -13,7 +13,6 @@ use crate::char_facts::CharFacts;
 use crate::char_words::{CharWords, Kept};
 use crate::joined_pairs::{KeptPair, kept_pairs, pair_slots};
 use crate::read_char::{facts_of, own_facts};
-use crate::syllables::is_syllable;
 use icu_checks::CheckedTables;
 use std::alloc::{AllocError, Global};
 
@@ -69,8 +68,6 @@ impl KeptFacts {
         let code = c as usize;
         if code < 0x380 {
             Kept::Facts(&self.latin[code])
-        } else if is_syllable(c) {
-            Kept::Nothing
         } else {
             self.words.get(c)
         }

@@ -7,7 +7,7 @@ use Rattle.std.specs.List.{AllByRecursion, AllWithin}
 use Rattle.std.specs.List.Sorted.{IsPartitionedBy, IsPartitionPoint}
 use Rattle.icu_collation_data.proofs.ListLemmas.{all_first, all_second}
 use Rattle.icu_keyed_names.specs.declared.name_entries.Entry.{Entry}
-use Rattle.icu_keyed_names.specs.inner.Leaves.{AreFilled, IsParted, Parts, entries_of, leaf_at, leaf_before}
+use Rattle.icu_keyed_names.specs.inner.Leaves.{AreFilled, FailsAt, IsInside, IsParted, Parts, PassesBefore, entries_of, leaf_at, leaf_before}
 
 -- ---- a list that a test parts
 
@@ -36,6 +36,23 @@ module _ {X : Type 0} (test : X → Bool) where
   parted_by (x ∷ xs) parted zero (suc j) d le low h = passed_here (test x) x xs refl parted j d (omega arith) h
   parted_by (x ∷ xs) parted (suc i) zero d le low h = absurd (omega arith)
   parted_by (x ∷ xs) parted (suc i) (suc j) d le low h = parted_by xs parted.1 i j d (omega arith) (omega arith) h
+
+  -- an element that is there is read alike, whatever stands for one that isn't
+  pub same_got : (xs : List X) (i : ℕ) (d e : X) → i < length xs → get_or xs i d ≡ get_or xs i e
+  same_got [] i d e low = absurd (omega arith)
+  same_got (x ∷ xs) zero d e low = refl
+  same_got (x ∷ xs) (suc i) d e low = same_got xs i d e (omega arith)
+
+  still_fails : (xs : List X) (i k : ℕ) (d : X) → IsParted test xs → i ≤ k → k < length xs → test (get_or xs i d) ≡ false → (b : Bool) → test (get_or xs k d) ≡ b → test (get_or xs k d) ≡ false
+  still_fails xs i k d parted le low failed false e = e
+  still_fails xs i k d parted le low failed true e = let passed = parted_by xs parted i k d le low e in absurd (cc)
+
+  -- a place that an element which passes stands before, and one which fails behind
+  pub point_here : (xs : List X) (i : ℕ) → IsParted test xs → i ≤ length xs → PassesBefore test xs i → FailsAt test xs i → IsPartitionPoint Passes Fails xs i
+  point_here xs i parted low passes fail = (
+    λ k d at below. parted_by xs parted k (i - 1) d (omega arith) (omega arith) (passes d (omega arith)),
+    λ k d at below. still_fails xs i k d parted at below (fail d (omega arith)) (test (get_or xs k d)) refl,
+  )
 
   -- ---- what it leaves of a list
 
@@ -198,3 +215,42 @@ pub leaf_parted : (test : Entry → Bool) (ls : List (Vec Entry)) (i : ℕ) → 
 leaf_parted test [] i parted = tt
 leaf_parted test (l ∷ ls) zero parted = parted_first test l.items (entries_of ls) parted
 leaf_parted test (l ∷ ls) (suc i) parted = leaf_parted test ls i (parted_second test l.items (entries_of ls) parted)
+
+-- ---- a place within a leaf
+
+module _ (test : Entry → Bool) where
+  abbrev HereFails : Entry → Type 0
+  HereFails e = test e ≡ false
+
+  fail_at : (ls : List (Vec Entry)) (i : ℕ) → AllByRecursion HereFails (entries_of ls) → AllByRecursion HereFails (leaf_at ls i)
+  fail_at [] i h = tt
+  fail_at (l ∷ ls) zero h = all_first HereFails l.items (entries_of ls) h
+  fail_at (l ∷ ls) (suc i) h = fail_at ls i (all_second HereFails l.items (entries_of ls) h)
+
+  fail_behind : (xs ys : List Entry) (j : ℕ) → IsParted test (xs ++ ys) → j < length xs → FailsAt test xs j → AllByRecursion HereFails ys
+  fail_behind [] ys j parted low fail = absurd (omega arith)
+  fail_behind (x ∷ xs) ys zero parted low fail = all_second HereFails xs ys (parted.0 (fail x (omega arith)))
+  fail_behind (x ∷ xs) ys (suc j) parted low fail = fail_behind xs ys j parted.1 (omega arith) (λ d at. fail d (omega arith))
+
+  not_all : (xs : List Entry) (j : ℕ) (d : Entry) → IsInside test xs j → AllByRecursion HereFails xs → ⊥
+  not_all xs j d inside h =
+      let failed = all_at test HereFails xs h (j - 1) d (omega (arith, inside.low, inside.some)) in
+      let passed = inside.passes d inside.some in
+      cc
+
+  pass_here : (ls : List (Vec Entry)) (i j : ℕ) (x : Entry) (xs : List Entry) (b : Bool) → test x ≡ b → IsParted test (x ∷ xs ++ entries_of ls) → IsInside test (leaf_at ls i) j → test x ≡ true
+  pass_here ls i j x xs true e parted inside = e
+  pass_here ls i j x xs false e parted inside = absurd (not_all (leaf_at ls i) j x inside (fail_at ls i (all_second HereFails xs (entries_of ls) (parted.0 e))))
+
+  pass_ahead : (xs : List Entry) (ls : List (Vec Entry)) (i j : ℕ) → IsParted test (xs ++ entries_of ls) → IsInside test (leaf_at ls i) j → AllByRecursion (λ e. test e ≡ true) xs
+  pass_ahead [] ls i j parted inside = tt
+  pass_ahead (x ∷ xs) ls i j parted inside = (pass_here ls i j x xs (test x) refl parted inside, pass_ahead xs ls i j parted.1 inside)
+
+  pub parts_inside : (ls : List (Vec Entry)) (i j : ℕ) → IsParted test (entries_of ls) → IsInside test (leaf_at ls i) j → Parts test ls i j
+  parts_inside [] i j parted inside = let low = inside.low in absurd (omega arith)
+  parts_inside (l ∷ ls) zero j parted inside =
+      let low : j ≤ length l.items = omega (arith, inside.low) in
+      in_first test l ls j (fail_behind l.items (entries_of ls) j parted inside.low inside.fails) low
+      (point_here test l.items j (parted_first test l.items (entries_of ls) parted) low inside.passes inside.fails)
+  parts_inside (l ∷ ls) (suc i) j parted inside =
+      one_later test l ls i j (pass_ahead l.items ls i j parted inside) (parts_inside ls i j (parted_second test l.items (entries_of ls) parted) inside)

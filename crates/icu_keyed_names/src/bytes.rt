@@ -32,6 +32,16 @@ fn byte_at(key: &[u8], index: usize) -> u8
 pub(crate) fn prefix(key: &[u8]) -> u64
     ensures { result ≡ prefix_of key.now }
 {
+    match key {
+        [a, b, c, d, e, f, g, h, ..] => u64::from_be_bytes([*a, *b, *c, *d, *e, *f, *g, *h]),
+        _ => short_prefix(key),
+    }
+}
+
+/// The first eight bytes of a key that may be shorter, filled up with zeros.
+fn short_prefix(key: &[u8]) -> u64
+    ensures { result ≡ prefix_of key.now }
+{
     let high = [
         byte_at(key, 0),
         byte_at(key, 1),

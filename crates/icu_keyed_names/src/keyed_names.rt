@@ -18,7 +18,7 @@ use std::alloc::{AllocError, Global};
 /// How many bytes the counts of a key and a name take at most.
 const COUNTS: usize = 18;
 
-/// Makes room for more bytes, a thirty-second of those that there are or more.
+/// Makes room for more bytes, a fortieth of those that there are or more.
 fn reserve(bytes: &mut Vec<u8>, more: usize) -> Result<(), AllocError>
     ensures { bytes.new.items ≡ bytes.old.items }
 {
@@ -26,7 +26,7 @@ fn reserve(bytes: &mut Vec<u8>, more: usize) -> Result<(), AllocError>
     if more <= spare {
         return Ok(());
     }
-    let step = bytes.len() / 32;
+    let step = bytes.len() / 40;
     bytes.reserve_exact(if more < step { step } else { more })
 }
 
@@ -60,6 +60,8 @@ pub struct KeyedNames {
     bytes: Vec<u8>,
     /// The entries in the order of the keys.
     leaves: Vec<Vec<Entry>>,
+    /// The numbers that the leaves behind the first one begin with. A search goes by them, and then looks at leaves.
+    firsts: Vec<u64>,
     len: usize,
     ghost sound: { AreEntriesIn bytes.items (entries_of leaves.items) } by { Prim.hlevel props },
     ghost filled: { AreFilled leaves.items } by { Prim.hlevel props },
@@ -79,6 +81,7 @@ impl KeyedNames {
             alloc,
             bytes: Vec::new(alloc),
             leaves: Vec::new(alloc),
+            firsts: Vec::new(alloc),
             len: 0,
         }
     }
@@ -100,7 +103,14 @@ impl KeyedNames {
         let entry = append(&mut self.bytes, key, name)?;
         let sought = Sought::new(Border::Behind(key));
         let bytes = all(&self.bytes);
-        if let Err(error) = add(self.alloc, bytes, &mut self.leaves, &sought, entry) {
+        if let Err(error) = add(
+            self.alloc,
+            bytes,
+            &mut self.leaves,
+            &mut self.firsts,
+            &sought,
+            entry,
+        ) {
             self.bytes.truncate(start);
             return Err(error);
         }
@@ -141,8 +151,9 @@ impl KeyedNames {
     {
         let bytes = all(&self.bytes);
         let leaves = self.leaves.as_slice();
-        let first = find_place(bytes, leaves, &Sought::new(from));
-        let end = find_place(bytes, leaves, &Sought::new(to));
+        let firsts = self.firsts.as_slice();
+        let first = find_place(bytes, leaves, firsts, &Sought::new(from));
+        let end = find_place(bytes, leaves, firsts, &Sought::new(to));
         names_between(bytes, leaves, first, end)
     }
 
@@ -153,7 +164,8 @@ impl KeyedNames {
     {
         let bytes = all(&self.bytes);
         let leaves = self.leaves.as_slice();
-        let first = find_place(bytes, leaves, &Sought::new(from));
+        let firsts = self.firsts.as_slice();
+        let first = find_place(bytes, leaves, firsts, &Sought::new(from));
         let end = Place {
             leaf: leaves.len(),
             index: 0,

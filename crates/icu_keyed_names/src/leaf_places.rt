@@ -1,9 +1,9 @@
 //! Where a border stands among the entries of leaves.
 
-ghost use Rattle.std.specs.Prelude.{◌≡◌, ◌≤◌, true, false, length};
+ghost use Rattle.std.specs.Prelude.{◌≡◌, ◌≤◌, true, false, length, IsTrue};
 ghost use Rattle.std.specs.List.Sorted.{IsPartitionPoint};
 ghost use Rattle.icu_keyed_names.specs.inner.NameEntries.{entry_before};
-ghost use Rattle.icu_keyed_names.specs.inner.Leaves.{AreFilled, IsParted, Parts, entries_of, leaf_at, leaf_before};
+ghost use Rattle.icu_keyed_names.specs.inner.Leaves.{AreFilled, IsInside, IsParted, Parts, entries_of, leaf_at, leaf_before};
 
 use crate::name_entries::{Entry, Sought};
 
@@ -64,8 +64,8 @@ pub(crate) fn leaf_at(leaves: &[Vec<Entry>], index: usize) -> &[Entry]
     }
 }
 
-/// The place of a border: in the last leaf that begins before it, or in the first one.
-pub(crate) fn find_place(bytes: &[u8], leaves: &[Vec<Entry>], sought: &Sought<'_>) -> Place
+/// The place of a border, by keys: in the last leaf that begins before it, or in the first one.
+fn find_by_keys(bytes: &[u8], leaves: &[Vec<Entry>], sought: &Sought<'_>) -> Place
     ensures there { result.leaf ≤ length leaves.now }
     ensures within { result.index ≤ length (leaf_at leaves.now result.leaf) }
     ensures parts { let test = entry_before bytes.now sought.now.border in
@@ -74,5 +74,61 @@ pub(crate) fn find_place(bytes: &[u8], leaves: &[Vec<Entry>], sought: &Sought<'_
 {
     let leaf = leaves_before(bytes, leaves, sought).saturating_sub(1);
     let index = entries_before(bytes, leaf_at(leaves, leaf), sought);
+    Place { leaf, index }
+}
+
+/// A leaf that has the place of a border, where the numbers that the leaves behind the first one begin with tell it.
+fn leaf_by_numbers(firsts: &[u64], prefix: u64) -> usize {
+    firsts.partition_point(|first| -> bool { *first < prefix })
+}
+
+/// How many entries of a leaf have a number below that of a border, or where it is among them, stand before the border.
+fn index_by_numbers(bytes: &[u8], leaf: &[Entry], sought: &Sought<'_>) -> usize {
+    let prefix = sought.prefix;
+    let count = leaf.partition_point(|entry| -> bool { entry.prefix < prefix });
+    match leaf.get(count) {
+        Some(entry) if entry.prefix == prefix => entries_before(bytes, leaf, sought),
+        _ => count,
+    }
+}
+
+/// Whether the entry before an index of a leaf stands before a border, and the one at the index behind it.
+fn has_place(bytes: &[u8], leaf: &[Entry], index: usize, sought: &Sought<'_>) -> bool
+    ensures { IsTrue result → IsInside (entry_before bytes.now sought.now.border) leaf.now index }
+{
+    if index == 0 {
+        return false;
+    }
+    if index >= leaf.len() {
+        return false;
+    }
+    if !leaf[index - 1].is_before(bytes, sought) {
+        return false;
+    }
+    !leaf[index].is_before(bytes, sought)
+}
+
+/// The place of a border. Numbers tell it mostly, and what stands beside it is looked at.
+pub(crate) fn find_place(
+    bytes: &[u8],
+    leaves: &[Vec<Entry>],
+    firsts: &[u64],
+    sought: &Sought<'_>,
+) -> Place
+    ensures there { result.leaf ≤ length leaves.now }
+    ensures within { result.index ≤ length (leaf_at leaves.now result.leaf) }
+    ensures parts { let test = entry_before bytes.now sought.now.border in
+        AreFilled leaves.now → IsParted test (entries_of leaves.now)
+        → Parts test leaves.now result.leaf result.index }
+{
+    let leaf = leaf_by_numbers(firsts, sought.prefix);
+    if leaves.len() <= leaf {
+        return find_by_keys(bytes, leaves, sought);
+    }
+    let entries = leaf_at(leaves, leaf);
+    let index = index_by_numbers(bytes, entries, sought);
+    if !has_place(bytes, entries, index, sought) {
+        return find_by_keys(bytes, leaves, sought);
+    }
     Place { leaf, index }
 }

@@ -9,10 +9,10 @@ use crate::name_entries::{Entry, Sought};
 use std::alloc::{AllocError, Global};
 
 /// How many entries a leaf has at most.
-const ENTRIES: usize = 256;
+const ENTRIES: usize = 128;
 
 /// For how many entries room is made at once.
-const ROOM: usize = 8;
+const ROOM: usize = 4;
 
 /// Leaves the first entries of a leaf, as many as are told, and keeps no more room than for them.
 fn cut(leaves: &mut Vec<Vec<Entry>>, at: usize, len: usize)
@@ -25,8 +25,34 @@ fn cut(leaves: &mut Vec<Vec<Entry>>, at: usize, len: usize)
     leaf.shrink_to(len);
 }
 
+/// Makes room for one more leaf, and for the number that it begins with.
+fn reserve_leaf(leaves: &mut Vec<Vec<Entry>>, firsts: &mut Vec<u64>) -> Result<(), AllocError>
+    ensures { leaves.new.items ≡ leaves.old.items }
+{
+    let more = leaves.len() / 16 + 1;
+    if firsts.len() == firsts.capacity() {
+        firsts.reserve_exact(more)?;
+    }
+    if leaves.len() == leaves.capacity() {
+        leaves.reserve_exact(more)?;
+    }
+    Ok(())
+}
+
+/// Notes the number that a new leaf begins with, behind another one. There is room for it.
+fn note(firsts: &mut Vec<u64>, behind: usize, first: u64) {
+    if behind <= firsts.len() {
+        let _room = firsts.insert(behind, first);
+    }
+}
+
 /// Parts a leaf in two.
-fn split(alloc: Global, leaves: &mut Vec<Vec<Entry>>, at: usize) -> Result<(), AllocError>
+fn split(
+    alloc: Global,
+    leaves: &mut Vec<Vec<Entry>>,
+    firsts: &mut Vec<u64>,
+    at: usize,
+) -> Result<(), AllocError>
     ensures entries { entries_of leaves.new.items ≡ entries_of leaves.old.items }
     ensures filled { AreFilled leaves.old.items → AreFilled leaves.new.items }
 {
@@ -35,9 +61,11 @@ fn split(alloc: Global, leaves: &mut Vec<Vec<Entry>>, at: usize) -> Result<(), A
     if middle == 0 {
         return Ok(());
     }
+    let first = leaf[middle].prefix;
     let upper = Vec::from_slice(alloc, &leaf[middle..])?;
     leaves.insert(at + 1, upper)?;
     cut(leaves, at, middle);
+    note(firsts, at, first);
     Ok(())
 }
 
@@ -83,6 +111,7 @@ pub(crate) fn add(
     alloc: Global,
     bytes: &[u8],
     leaves: &mut Vec<Vec<Entry>>,
+    firsts: &mut Vec<u64>,
     sought: &Sought<'_>,
     entry: Entry,
 ) -> Result<(), AllocError>
@@ -95,11 +124,12 @@ pub(crate) fn add(
     ensures err { OnErr result (entries_of leaves.new.items ≡ entries_of leaves.old.items) }
     ensures filled { AreFilled leaves.new.items }
 {
-    let place = find_place(bytes, leaves.as_slice(), sought);
+    let place = find_place(bytes, leaves.as_slice(), firsts.as_slice(), sought);
     if leaf_at(leaves.as_slice(), place.leaf).len() < ENTRIES {
         return put_at(alloc, leaves, place, entry);
     }
-    split(alloc, leaves, place.leaf)?;
-    let other = find_place(bytes, leaves.as_slice(), sought);
+    reserve_leaf(leaves, firsts)?;
+    split(alloc, leaves, firsts, place.leaf)?;
+    let other = find_place(bytes, leaves.as_slice(), firsts.as_slice(), sought);
     put_at(alloc, leaves, other, entry)
 }

@@ -23,7 +23,7 @@ pub(crate) struct Entry {
 /// A border with the first eight bytes of its key.
 #[derive(Clone, Copy)]
 pub(crate) struct Sought<'k> {
-    prefix: u64,
+    pub(crate) prefix: u64,
     border: Border<'k>,
     ghost begins: { prefix ≡ prefix_of (border_key border) },
 }

@@ -1,13 +1,13 @@
 //! The secondary level, held until its end.
 
-ghost use Rattle.std.specs.Prelude.{◌≡◌, ◌<◌, ℕ, List, [], ◌∷◌, ◌++◌, replicate, OnOk};
+ghost use Rattle.std.specs.Prelude.{◌≡◌, ◌≢◌, ℕ, List, [], ◌∷◌, ◌++◌, replicate, OnOk};
 ghost use Rattle.icu_levels.specs.Secondaries.{secondary_level};
 ghost use Rattle.icu_levels.specs.Keys.{part_bytes, opened, closed};
 ghost use Rattle.icu_keys.specs.Writes.{Writes};
 
 use crate::held_bytes::HeldBytes;
 use crate::parts::LEVEL;
-use crate::secondaries::SecondaryWriter;
+use crate::secondaries::{SecondaryWriter, write_after_commons};
 use crate::sink::CollationKeySink;
 use icu_levels::run_bytes::SECONDARY_RUNS;
 use std::alloc::{AllocError, Global};
@@ -15,7 +15,6 @@ use std::alloc::{AllocError, Global};
 /// The secondary level of a text. Common weights are counted, and written with the weight that comes after them.
 #[derive(Drop)]
 pub struct HeldSecondaries {
-    writer: SecondaryWriter,
     commons: u32,
     bytes: HeldBytes,
 }
@@ -28,7 +27,6 @@ impl HeldSecondaries {
         ensures { (ws : List ℕ) → held_secondaries result ws ≡ secondary_level ws }
     {
         HeldSecondaries {
-            writer: SecondaryWriter::new(),
             commons: 0,
             bytes: HeldBytes::new(alloc),
         }
@@ -40,11 +38,10 @@ impl HeldSecondaries {
         ensures { OnOk result ((ws : List ℕ) →
             held_secondaries self.old (weight ∷ ws) ≡ held_secondaries self.new ws) }
     {
-        if u64::from(weight) == SECONDARY_RUNS.common && self.commons < u32::MAX {
-            self.count_common();
-            return Ok(());
+        if u64::from(weight) != SECONDARY_RUNS.common {
+            return self.push_other(weight);
         }
-        self.push_next(weight)
+        self.push_commons(1)
     }
 
     /// Adds `more` common weights. After an error, discard the level.
@@ -62,7 +59,7 @@ impl HeldSecondaries {
         self.push_many(more)
     }
 
-    /// Feeds the counted weights to the writer, and counts `more`.
+    /// Writes what the counted weights and `more` decide, and counts those that are left.
     #[cold]
     #[inline(never)]
     fn push_many(&mut self, more: u32) -> Result<(), AllocError>
@@ -70,32 +67,23 @@ impl HeldSecondaries {
             held_secondaries self.old (replicate more SECONDARY_RUNS.common ++ ws)
             ≡ held_secondaries self.new ws) }
     {
-        self.writer
-            .push_commons(&mut self.bytes, &mut (), self.commons)?;
-        self.commons = more;
+        let mut writer = SecondaryWriter::new();
+        writer.push_commons(&mut self.bytes, &mut (), self.commons)?;
+        writer.push_commons(&mut self.bytes, &mut (), more)?;
+        self.commons = writer.counted();
         Ok(())
     }
 
-    /// Adds a common weight.
+    /// Writes the counted weights, and then one that isn't common.
     #[inline(always)]
-    pub(crate) fn count_common(&mut self)
-        requires { self.old.commons < u32.MAX }
-        ensures { (ws : List ℕ) →
-            held_secondaries self.old (SECONDARY_RUNS.common ∷ ws) ≡ held_secondaries self.new ws }
-    {
-        self.commons += 1;
-    }
-
-    /// Feeds the counted weights to the writer, and then the next one.
-    #[inline(always)]
-    fn push_next(&mut self, weight: u16) -> Result<(), AllocError>
+    fn push_other(&mut self, weight: u16) -> Result<(), AllocError>
+        requires { weight ≢ SECONDARY_RUNS.common }
         ensures { OnOk result ((ws : List ℕ) →
             held_secondaries self.old (weight ∷ ws) ≡ held_secondaries self.new ws) }
     {
-        self.writer
-            .push_commons(&mut self.bytes, &mut (), self.commons)?;
+        write_after_commons(&mut self.bytes, &mut (), self.commons, weight)?;
         self.commons = 0;
-        self.writer.push(&mut self.bytes, &mut (), weight)
+        Ok(())
     }
 
     /// Writes the level to a sink, as it ends here.
@@ -106,7 +94,7 @@ impl HeldSecondaries {
             result sink.new state.new }
     {
         self.bytes.write_to(sink, state)?;
-        self.writer.close_after(sink, state, self.commons)
+        SecondaryWriter::new().close_after(sink, state, self.commons)
     }
 
     /// Writes the level, as it ends here, after the byte that opens it.

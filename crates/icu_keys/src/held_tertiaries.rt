@@ -1,6 +1,6 @@
 //! The tertiary level, held until its end.
 
-ghost use Rattle.std.specs.Prelude.{◌≡◌, ℕ, ◌<◌, ◌^◌, List, [], ◌∷◌, ◌++◌, replicate, OnOk};
+ghost use Rattle.std.specs.Prelude.{◌≡◌, ◌≢◌, ℕ, ◌<◌, ◌^◌, List, [], ◌∷◌, ◌++◌, replicate, OnOk};
 ghost use Rattle.icu_levels.specs.Tertiaries.{moved_tertiary, tertiary_level, tertiary_runs};
 ghost use Rattle.icu_levels.specs.Keys.{part_bytes, opened, closed};
 ghost use Rattle.icu_keys.specs.Writes.{Writes};
@@ -8,14 +8,14 @@ ghost use Rattle.icu_keys.specs.Writes.{Writes};
 use crate::held_bytes::HeldBytes;
 use crate::parts::LEVEL;
 use crate::sink::CollationKeySink;
-use crate::tertiaries::{TertiaryWriter, common_of};
+use crate::tertiaries::{TertiaryWriter, common_of, write_after_commons};
 use icu_levels::forms::TertiaryForm;
 use std::alloc::{AllocError, Global};
 
 /// The tertiary level of a text. Common weights are counted, and written with the weight that comes after them.
 #[derive(Drop)]
 pub struct HeldTertiaries {
-    writer: TertiaryWriter,
+    form: TertiaryForm,
     commons: u32,
     bytes: HeldBytes,
 }
@@ -29,7 +29,7 @@ impl HeldTertiaries {
         ensures begins { (ws : List ℕ) → held_tertiaries result ws ≡ tertiary_level form ws }
     {
         HeldTertiaries {
-            writer: TertiaryWriter::new(form),
+            form,
             commons: 0,
             bytes: HeldBytes::new(alloc),
         }
@@ -39,7 +39,7 @@ impl HeldTertiaries {
     pub fn form(&self) -> TertiaryForm
         ensures { result ≡ held_tertiary_form self.now }
     {
-        self.writer.form()
+        self.form
     }
 
     /// Adds the next weight, as the form has it. After an error, discard the level.
@@ -62,11 +62,10 @@ impl HeldTertiaries {
         ensures bytes { OnOk result ((ws : List ℕ) →
             held_tertiaries self.old (weight ∷ ws) ≡ held_tertiaries self.new ws) }
     {
-        if weight == common_of(form) && self.commons < u32::MAX {
-            self.count_common();
-            return Ok(());
+        if weight != common_of(form) {
+            return self.push_other(form, weight);
         }
-        self.push_next(weight)
+        self.push_commons(1)
     }
 
     /// Adds `more` common weights of the form. After an error, discard the level.
@@ -86,7 +85,7 @@ impl HeldTertiaries {
         self.push_many(more)
     }
 
-    /// Feeds the counted weights to the writer, and counts `more`.
+    /// Writes what the counted weights and `more` decide, and counts those that are left.
     #[cold]
     #[inline(never)]
     fn push_many(&mut self, more: u32) -> Result<(), AllocError>
@@ -96,36 +95,26 @@ impl HeldTertiaries {
             (replicate more (tertiary_runs (held_tertiary_form self.old)).common ++ ws)
             ≡ held_tertiaries self.new ws) }
     {
-        self.writer
-            .push_commons(&mut self.bytes, &mut (), self.commons)?;
-        self.commons = more;
+        let mut writer = TertiaryWriter::new(self.form);
+        writer.push_commons(&mut self.bytes, &mut (), self.commons)?;
+        writer.push_commons(&mut self.bytes, &mut (), more)?;
+        self.commons = writer.counted();
         Ok(())
     }
 
-    /// Adds a common weight.
+    /// Writes the counted weights, and then one that isn't common.
     #[inline(always)]
-    pub(crate) fn count_common(&mut self)
-        requires { self.old.commons < u32.MAX }
-        ensures form { held_tertiary_form self.new ≡ held_tertiary_form self.old }
-        ensures bytes { (ws : List ℕ) →
-            held_tertiaries self.old ((tertiary_runs (held_tertiary_form self.old)).common ∷ ws)
-            ≡ held_tertiaries self.new ws }
-    {
-        self.commons += 1;
-    }
-
-    /// Feeds the counted weights to the writer, and then the next one.
-    #[inline(always)]
-    fn push_next(&mut self, weight: u16) -> Result<(), AllocError>
-        requires { moved_tertiary (held_tertiary_form self.old) weight < 2 ^ 16 }
+    fn push_other(&mut self, form: TertiaryForm, weight: u16) -> Result<(), AllocError>
+        requires form { held_tertiary_form self.old ≡ form }
+        requires other { weight ≢ (tertiary_runs form).common }
+        requires fits { moved_tertiary form weight < 2 ^ 16 }
         ensures form { held_tertiary_form self.new ≡ held_tertiary_form self.old }
         ensures bytes { OnOk result ((ws : List ℕ) →
             held_tertiaries self.old (weight ∷ ws) ≡ held_tertiaries self.new ws) }
     {
-        self.writer
-            .push_commons(&mut self.bytes, &mut (), self.commons)?;
+        write_after_commons(form, &mut self.bytes, &mut (), self.commons, weight)?;
         self.commons = 0;
-        self.writer.push(&mut self.bytes, &mut (), weight)
+        Ok(())
     }
 
     /// Writes the level to a sink, as it ends here.
@@ -136,7 +125,7 @@ impl HeldTertiaries {
             result sink.new state.new }
     {
         self.bytes.write_to(sink, state)?;
-        self.writer.close_after(sink, state, self.commons)
+        TertiaryWriter::new(self.form).close_after(sink, state, self.commons)
     }
 
     /// Writes the level, as it ends here, after the byte that opens it.

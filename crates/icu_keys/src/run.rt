@@ -1,6 +1,6 @@
 //! Runs of the common weight of a level, counted.
 
-ghost use Rattle.std.specs.Prelude.{◌≡◌, ◌≢◌, ℕ, suc, ◌≤◌, List, [], ◌∷◌, ◌++◌, option_to_list, replicate, IsTrue, IfSome, if◌then◌else◌};
+ghost use Rattle.std.specs.Prelude.{◌≡◌, ◌≢◌, ℕ, suc, ◌≤◌, List, [], ◌∷◌, ◌++◌, option_to_list, replicate, IsTrue, IfSome, OnOk, if◌then◌else◌};
 ghost use Rattle.icu_levels.specs.Runs.{AreRunBytes, run_before_less, run_before_more, level_bytes};
 ghost use Rattle.icu_levels.specs.WeightBytes.{weight_bytes};
 ghost use Rattle.icu_keys.specs.Writes.{Writes, Feeds};
@@ -162,6 +162,7 @@ impl Run {
         requires other { weight ≢ runs.now.common }
         ensures sound { S.is_sound sink.new state.new }
         ensures bounded { self.new.length ≤ runs.now.count }
+        ensures empty { OnOk result (self.new.length ≡ 0) }
         ensures bytes { (spell : ℕ → List ℕ) → spell weight ≡ weight_bytes 2 spelled →
             Feeds S.effects sink.old state.old
             (λ ws. level_bytes runs.now spell self.old.length (weight ∷ ws))

@@ -1,6 +1,6 @@
 //! The secondary level, written as it is fed.
 
-ghost use Rattle.std.specs.Prelude.{◌≡◌, ℕ, ◌≤◌, List, [], ◌∷◌, ◌++◌, replicate};
+ghost use Rattle.std.specs.Prelude.{◌≡◌, ◌≢◌, ℕ, ◌≤◌, List, [], ◌∷◌, ◌++◌, replicate};
 ghost use Rattle.icu_levels.specs.declared.run_bytes.TheConstants.{SECONDARY_RUNS};
 ghost use Rattle.icu_levels.specs.Secondaries.{secondary_level};
 ghost use Rattle.icu_keys.specs.Writes.{Writes, Feeds};
@@ -8,6 +8,27 @@ ghost use Rattle.icu_keys.specs.Writes.{Writes, Feeds};
 use crate::run::Run;
 use crate::sink::CollationKeySink;
 use icu_levels::run_bytes::SECONDARY_RUNS;
+
+/// Writes so many common weights, 0500 each, at the front of a level, and then one that isn't common. What comes after
+/// it is written as a level of its own would be. An error is the sink's own.
+#[inline(always)]
+pub(crate) fn write_after_commons<S: CollationKeySink>(
+    sink: &mut S,
+    state: &mut S::State,
+    commons: u32,
+    weight: u16,
+) -> Result<(), S::Error>
+    requires sound { S.is_sound sink.old state.old }
+    requires other { weight ≢ SECONDARY_RUNS.common }
+    ensures sound { S.is_sound sink.new state.new }
+    ensures bytes { Feeds S.effects sink.old state.old
+        (λ ws. secondary_level (replicate commons SECONDARY_RUNS.common ++ (weight ∷ ws)))
+        secondary_level result sink.new state.new }
+{
+    let mut run = Run::new();
+    run.write_commons(&SECONDARY_RUNS, sink, state, commons)?;
+    run.write_short(&SECONDARY_RUNS, sink, state, u64::from(weight), weight)
+}
 
 /// Writes the secondary level of a text, or of one segment of a backward level whose weights come in reversed order.
 ///
@@ -68,6 +89,17 @@ impl SecondaryWriter {
             (secondary_rest self.new) result sink.new state.new }
     {
         self.run.write_commons(&SECONDARY_RUNS, sink, state, more)
+    }
+
+    /// How many common weights came last, as far as no byte stands for them yet. A new writer that is fed as many goes
+    /// on as this one.
+    #[tactic(auto, using(crate::proofs::CommonSteps::commons_counted))]
+    pub(crate) fn counted(&self) -> u32
+        ensures { (ws : List ℕ) →
+            secondary_level (replicate result SECONDARY_RUNS.common ++ ws)
+            ≡ secondary_rest self.now ws }
+    {
+        u32::from(self.run.length)
     }
 
     /// Writes what is left at the end of the level. An error is the sink's own.

@@ -1,6 +1,6 @@
 //! The tertiary level in its three forms, written as it is fed.
 
-ghost use Rattle.std.specs.Prelude.{◌≡◌, ℕ, ◌<◌, ◌≤◌, ◌^◌, List, [], ◌∷◌, ◌++◌, replicate};
+ghost use Rattle.std.specs.Prelude.{◌≡◌, ◌≢◌, ℕ, ◌<◌, ◌≤◌, ◌^◌, List, [], ◌∷◌, ◌++◌, replicate};
 ghost use Rattle.icu_levels.specs.Tertiaries.{tertiary_runs, moved_tertiary, tertiary_level};
 ghost use Rattle.icu_keys.specs.Writes.{Writes, Feeds};
 
@@ -50,6 +50,32 @@ fn moved(form: TertiaryForm, weight: u16) -> u16
             }
         }
     }
+}
+
+/// Writes so many common weights of a form at the front of a level, and then one that isn't common. What comes after it
+/// is written as a level of its own would be. An error is the sink's own.
+#[inline(always)]
+pub(crate) fn write_after_commons<S: CollationKeySink>(
+    form: TertiaryForm,
+    sink: &mut S,
+    state: &mut S::State,
+    commons: u32,
+    weight: u16,
+) -> Result<(), S::Error>
+    requires sound { S.is_sound sink.old state.old }
+    requires other { weight ≢ (tertiary_runs form).common }
+    requires fits { moved_tertiary form weight < 2 ^ 16 }
+    ensures sound { S.is_sound sink.new state.new }
+    ensures bytes { Feeds S.effects sink.old state.old
+        (λ ws. tertiary_level form
+        (replicate commons (tertiary_runs form).common ++ (weight ∷ ws)))
+        (tertiary_level form) result sink.new state.new }
+{
+    let runs = runs_of(form);
+    let mut run = Run::new();
+    run.write_commons(&runs, sink, state, commons)?;
+    let shifted = moved(form, weight);
+    run.write_short(&runs, sink, state, u64::from(weight), shifted)
 }
 
 /// Writes the tertiary level of a text.
@@ -130,6 +156,17 @@ impl TertiaryWriter {
     {
         let runs = runs_of(self.form);
         self.run.write_commons(&runs, sink, state, more)
+    }
+
+    /// How many common weights came last, as far as no byte stands for them yet. A new writer that is fed as many goes
+    /// on as this one.
+    #[tactic(auto, using(crate::proofs::CommonSteps::commons_counted))]
+    pub(crate) fn counted(&self) -> u32
+        ensures { let form = tertiary_form_of self.now in (ws : List ℕ) →
+            tertiary_level form (replicate result (tertiary_runs form).common ++ ws)
+            ≡ tertiary_rest self.now ws }
+    {
+        u32::from(self.run.length)
     }
 
     /// Writes what is left at the end of the level. An error is the sink's own.

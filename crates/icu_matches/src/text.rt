@@ -67,7 +67,7 @@ impl Text {
         ensures ends { result ≡ None ↔ unread self.old ≡ [] }
     {
         let c = self.first()?;
-        self.skip(1);
+        self.next += 1;
         Some(c)
     }
 
@@ -138,9 +138,13 @@ impl Text {
     fn drop_read(&mut self)
         ensures { unread self.new ≡ unread self.old }
     {
-        let left = self.len();
-        self.chars.rotate_left(self.next);
-        self.chars.truncate(left);
+        if self.next < self.chars.len() {
+            let left = self.len();
+            self.chars.rotate_left(self.next);
+            self.chars.truncate(left);
+        } else {
+            self.chars.clear();
+        }
         self.next = 0;
     }
 }

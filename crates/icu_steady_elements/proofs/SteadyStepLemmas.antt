@@ -89,11 +89,6 @@ one_fewer None es fs is = tt
 one_fewer (Some e) es fs is =
     let all : length es ≡ length (e ∷ fs) = ap length is in omega (arith, all)
 
--- after a character fewer are left
-pub char_fewer : (c : ℕ) (text rest now : List ℕ) → text ≡ c ∷ rest → length now ≤ length rest → length now < length text
-char_fewer c text rest now is fewer =
-    let all : length text ≡ length (c ∷ rest) = ap length is in omega (arith, all)
-
 -- ---- matches
 
 -- a match leaves no more than stood before it

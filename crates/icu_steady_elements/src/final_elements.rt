@@ -81,6 +81,7 @@ impl<'d> FinalElements<'d> {
     }
 
     /// The next element, or `None` after the last one.
+    #[inline]
     pub(crate) fn next(&mut self) -> Option<CollationElement>
         ensures next { final_left self.old ≡ option_to_list result ++ final_left self.new }
         ensures end { result ≡ None → final_left self.old ≡ [] }

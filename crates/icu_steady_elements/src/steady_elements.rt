@@ -1,6 +1,6 @@
 //! The elements of a text, one by one.
 
-ghost use Rattle.std.specs.Prelude.{◌≡◌, ◌<◌, ◌++◌, [], None, false, IfSome, length, map, option_to_list, MatchBool};
+ghost use Rattle.std.specs.Prelude.{◌≡◌, ◌<◌, ◌++◌, [], Some, None, false, IfSome, length, map, option_to_list, MatchBool};
 ghost use Rattle.icu_entries.specs.Elements.{of_primary};
 ghost use Rattle.icu_steady_numbers.specs.SteadyNumbers.{weights_left};
 ghost use Rattle.icu_elements.specs.Reading.{reading_of};
@@ -11,7 +11,7 @@ use crate::final_elements::FinalElements;
 use crate::run_digits::{read_number, take_digit};
 use crate::steady_place::SteadyPlace;
 use crate::steady_step::read_char;
-use crate::step_elements::StepElements;
+use crate::step_elements::{StepElements, StepKind, StepTaken};
 use icu_decomposed_text::TextForMatches;
 use icu_elements::{RecentChars, TextReading};
 use icu_entries::CollationElement;
@@ -29,7 +29,7 @@ pub struct SteadyElements<'d, X> {
 
 impl<'d, X: TextForMatches> SteadyElements<'d, X> {
     ghost use Rattle.icu_steady_elements.specs.SteadyElements.{elements_left, text_left};
-    ghost use Rattle.icu_steady_elements.specs.inner.StepElements.{given_left, IsBetweenSteps};
+    ghost use Rattle.icu_steady_elements.specs.inner.StepElements.{given_left, run_lead, first_given, IsBetweenSteps};
 
     /// All elements of a text.
     pub fn new(text: X, reading: TextReading<'d>) -> SteadyElements<'d, X>
@@ -47,7 +47,7 @@ impl<'d, X: TextForMatches> SteadyElements<'d, X> {
         SteadyElements {
             reading,
             place: SteadyPlace { recent, text },
-            given: StepElements::Final(FinalElements::Ended),
+            given: StepElements::none(),
         }
     }
 
@@ -60,7 +60,8 @@ impl<'d, X: TextForMatches> SteadyElements<'d, X> {
     {
         self.reading = reading;
         self.place.recent = recent;
-        self.given = StepElements::Final(FinalElements::Ended);
+        self.given.kind = StepKind::Final;
+        self.given.elements = FinalElements::Ended;
     }
 
     /// Gives the elements of a number, where no text is left. What is left of the last step is given no more.
@@ -69,7 +70,8 @@ impl<'d, X: TextForMatches> SteadyElements<'d, X> {
         requires { text_left X.unread self.old ≡ [] }
         ensures { elements_left X.unread self.new ≡ map of_primary (weights_left number.now) }
     {
-        self.given = StepElements::Digit(*number);
+        self.given.kind = StepKind::Digit;
+        self.given.number = *number;
     }
 
     /// The next element, or `None` after the last one.
@@ -85,25 +87,25 @@ impl<'d, X: TextForMatches> SteadyElements<'d, X> {
             if next.is_some() {
                 return next;
             }
-            if !self.take_step() {
-                return None;
+            match self.take_step() {
+                StepTaken::Kept => {}
+                StepTaken::First(element) => return Some(element),
+                StepTaken::AtEnd => return None,
             }
         }
     }
 
-    /// Takes the next step: of a run of digits the next number, or the step at the next character. Returns whether a
-    /// character was left.
-    fn take_step(&mut self) -> bool
+    /// Takes the next step: of a run of digits the next number, or the step at the next character.
+    fn take_step(&mut self) -> StepTaken
         requires { given_left self.old.given ≡ [] }
-        ensures elements { elements_left X.unread self.new
-            ≡ elements_left X.unread self.old }
-        ensures shorter { MatchBool result
-            (length (text_left X.unread self.new)
-            < length (text_left X.unread self.old))
-            (elements_left X.unread self.old ≡ []) }
+        ensures elements { elements_left X.unread self.old
+            ≡ option_to_list (first_given result) ++ elements_left X.unread self.new }
+        ensures shorter { result ≡ StepTaken.Kept
+            → length (text_left X.unread self.new) < length (text_left X.unread self.old) }
+        ensures end { result ≡ StepTaken.AtEnd → elements_left X.unread self.old ≡ [] }
     {
         if self.take_number() {
-            return true;
+            return StepTaken::Kept;
         }
         self.take_char()
     }
@@ -120,32 +122,51 @@ impl<'d, X: TextForMatches> SteadyElements<'d, X> {
             (text_left X.unread self.new ≡ text_left X.unread self.old) }
         ensures ended { result ≡ false → IsBetweenSteps self.new.given }
     {
-        let Some(lead) = self.given.lead() else {
-            return false;
-        };
-        let Some(digit) = take_digit(self.reading.tables, &mut self.place) else {
-            self.given = StepElements::Final(FinalElements::Ended);
-            return false;
-        };
-        let number = read_number(self.reading, lead, digit, &mut self.place);
-        self.given = StepElements::Run(number, lead);
-        true
+        match self.given.lead() {
+            Some(lead) => self.go_on_run(lead),
+            None => false,
+        }
     }
 
-    /// Takes the step at the next character. Returns whether one was left.
-    fn take_char(&mut self) -> bool
-        requires { IsBetweenSteps self.old.given }
+    /// Reads the next number of the run of digits in hand, which has this lead byte. Where no digit comes next, reads
+    /// nothing and returns `false`: no run is in hand then. Out of line: its locals are large.
+    #[inline(never)]
+    fn go_on_run(&mut self, lead: u8) -> bool
+        requires none { given_left self.old.given ≡ [] }
+        requires run { run_lead self.old.given ≡ Some lead }
         ensures elements { elements_left X.unread self.new
             ≡ elements_left X.unread self.old }
         ensures shorter { MatchBool result
             (length (text_left X.unread self.new)
             < length (text_left X.unread self.old))
-            (elements_left X.unread self.old ≡ []) }
+            (text_left X.unread self.new ≡ text_left X.unread self.old) }
+        ensures ended { result ≡ false → IsBetweenSteps self.new.given }
     {
-        let Some(c) = self.place.text.next() else {
+        let Some(digit) = take_digit(self.reading.tables, &mut self.place) else {
+            self.given.kind = StepKind::Final;
+            self.given.elements = FinalElements::Ended;
             return false;
         };
-        self.given = read_char(self.reading, &mut self.place, c);
+        self.given.kind = StepKind::Run(lead);
+        self.given.number = read_number(self.reading, lead, digit, &mut self.place);
         true
+    }
+
+    /// Takes the step at the next character.
+    fn take_char(&mut self) -> StepTaken
+        requires { IsBetweenSteps self.old.given }
+        ensures elements { elements_left X.unread self.old
+            ≡ option_to_list (first_given result) ++ elements_left X.unread self.new }
+        ensures shorter { result ≡ StepTaken.Kept
+            → length (text_left X.unread self.new) < length (text_left X.unread self.old) }
+        ensures end { result ≡ StepTaken.AtEnd → elements_left X.unread self.old ≡ [] }
+    {
+        let Some(c) = self.place.text.next() else {
+            return StepTaken::AtEnd;
+        };
+        match read_char(self.reading, &mut self.place, c, &mut self.given) {
+            Some(element) => StepTaken::First(element),
+            None => StepTaken::Kept,
+        }
     }
 }

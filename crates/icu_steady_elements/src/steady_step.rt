@@ -1,6 +1,6 @@
 //! One step of reading a text.
 
-ghost use Rattle.std.specs.Prelude.{◌≡◌, ◌≤◌, ◌<◌, length, IsTrue};
+ghost use Rattle.std.specs.Prelude.{◌≡◌, ◌≤◌, ◌<◌, ◌++◌, length, IsTrue, option_to_list};
 ghost use Rattle.icu_collation_data.specs.DataConditions.{is_readable};
 ghost use Rattle.icu_collation_data.specs.StoredData.{data_of};
 ghost use Rattle.icu_entries.specs.declared.entry.EntryKind.TheVariants.{Digit};
@@ -8,15 +8,15 @@ ghost use Rattle.icu_entries.specs.Entries.{kind_of, digit_value};
 ghost use Rattle.icu_matches.specs.WellFormedEntries.{IsWellFormedMatch};
 ghost use Rattle.icu_elements.specs.LastChars.{recent_chars};
 ghost use Rattle.icu_elements.specs.Reading.{reading_of, element_tables};
-ghost use Rattle.icu_elements.specs.TextElements.{is_silent_dot, diacritic_step, number_step, final_step, entry_step, step};
+ghost use Rattle.icu_elements.specs.TextElements.{is_silent_dot, diacritic_step, number_step, final_step, entry_step, step, elements_after};
 ghost use Rattle.icu_elements.specs.inner.TakenDigits.{digit_step, stands_alone};
 ghost use Rattle.icu_steady_matches.specs.SteadyMatches.{steady_match};
-ghost use Rattle.icu_steady_elements.specs.inner.StepElements.{elements_to_give, elements_from};
+ghost use Rattle.icu_steady_elements.specs.inner.StepElements.{elements_to_give, elements_from, IsBetweenSteps};
 
 use crate::final_elements::FinalElements;
 use crate::run_digits::{begins_with_mark, lone_digit, read_number};
 use crate::steady_place::{SteadyPlace, peek};
-use crate::step_elements::StepElements;
+use crate::step_elements::{StepElements, StepKind};
 use icu_collation_data::CollationData;
 use icu_decomposed_text::TextForMatches;
 use icu_elements::TextReading;
@@ -34,14 +34,14 @@ fn is_silent<X: TextForMatches>(reading: TextReading<'_>, c: char, text: &mut X)
         && matches!(peek(text), Some('\u{300}' | '\u{301}' | '\u{303}'))
 }
 
-/// Reads at a diacritic that no match took.
-fn read_diacritic<'d, X: TextForMatches>(
-    reading: TextReading<'d>,
+/// Reads at a diacritic that no match took, and returns its element, where it has one.
+fn read_diacritic<X: TextForMatches>(
+    reading: TextReading<'_>,
     at: &mut SteadyPlace<X>,
     c: char,
     secondary: u16,
-) -> StepElements<'d>
-    ensures elements { elements_to_give (reading_of reading.entry) result
+) -> Option<CollationElement>
+    ensures elements { option_to_list result ++ elements_after (reading_of reading.entry)
         (recent_chars at.new.recent) (X.unread at.new.text)
         ≡ elements_from (reading_of reading.entry) (recent_chars at.old.recent) c
         (diacritic_step (reading_of reading.entry) secondary c (X.unread at.old.text)) }
@@ -49,10 +49,9 @@ fn read_diacritic<'d, X: TextForMatches>(
 {
     at.recent.push(c);
     if is_silent(reading, c, &mut at.text) {
-        return StepElements::Final(FinalElements::Ended);
+        return None;
     }
-    let element = CollationElement::new_from_secondary(secondary);
-    StepElements::Final(FinalElements::Single(element))
+    Some(CollationElement::new_from_secondary(secondary))
 }
 
 /// Reads by a final entry.
@@ -63,9 +62,10 @@ fn read_final<'d, X: TextForMatches>(
     home: CollationData<'d>,
     ce32: CollationElement32,
     found: &SteadyMatch<'d>,
-) -> StepElements<'d>
+    given: &mut StepElements<'d>,
+)
     requires { IsTrue (is_readable (data_of home) c ce32) }
-    ensures elements { elements_to_give (reading_of reading.entry) result
+    ensures elements { elements_to_give (reading_of reading.entry) given.new
         (recent_chars at.new.recent) (X.unread at.new.text)
         ≡ elements_from (reading_of reading.entry) (recent_chars at.old.recent) c
         (final_step (data_of home.entry) c ce32
@@ -73,7 +73,8 @@ fn read_final<'d, X: TextForMatches>(
     ensures unread { X.unread at.new.text ≡ X.unread at.old.text }
 {
     at.recent.push_with(c, found.suffix);
-    StepElements::Final(FinalElements::new(home, c, ce32))
+    given.kind = StepKind::Final;
+    given.elements = FinalElements::new(home, c, ce32);
 }
 
 /// Whether a digit is a number by itself, since its match consumed a suffix or a mark follows.
@@ -95,7 +96,8 @@ fn decimal_digit(home: CollationData<'_>, c: char, found: &SteadyMatch<'_>) -> u
 }
 
 /// Reads a number, at a digit whose match is done: the digit with the run of digits after it, or the digit alone where
-/// its match consumed a suffix or a mark follows.
+/// its match consumed a suffix or a mark follows. Out of line: its locals are large.
+#[inline(never)]
 fn read_digits_from<'d, X: TextForMatches>(
     reading: TextReading<'d>,
     lead: u8,
@@ -103,10 +105,11 @@ fn read_digits_from<'d, X: TextForMatches>(
     c: char,
     home: CollationData<'d>,
     matched: &SteadyMatch<'d>,
-) -> StepElements<'d>
+    given: &mut StepElements<'d>,
+)
     requires is_digit { kind_of matched.now.ce32 ≡ Digit }
     requires well_formed { IsWellFormedMatch (data_of home) c matched.now.ce32 }
-    ensures elements { elements_to_give (reading_of reading.entry) result
+    ensures elements { elements_to_give (reading_of reading.entry) given.new
         (recent_chars at.new.recent) (X.unread at.new.text)
         ≡ elements_from (reading_of reading.entry) (recent_chars at.old.recent) c
         (number_step (element_tables reading.entry.tables) lead
@@ -116,9 +119,12 @@ fn read_digits_from<'d, X: TextForMatches>(
     at.recent.push_with(c, matched.suffix);
     let digit = decimal_digit(home, c, matched);
     if stands_alone(matched, &mut at.text) {
-        return StepElements::Digit(lone_digit(lead, digit));
+        given.kind = StepKind::Digit;
+        given.number = lone_digit(lead, digit);
+        return;
     }
-    StepElements::Run(read_number(reading, lead, digit, at), lead)
+    given.kind = StepKind::Run(lead);
+    given.number = read_number(reading, lead, digit, at);
 }
 
 /// Reads at a digit: a number, or by the plain entry where digits aren't read as numbers.
@@ -128,10 +134,11 @@ fn read_digit<'d, X: TextForMatches>(
     c: char,
     home: CollationData<'d>,
     found: &SteadyMatch<'d>,
-) -> StepElements<'d>
+    given: &mut StepElements<'d>,
+)
     requires is_digit { kind_of found.now.ce32 ≡ Digit }
     requires well_formed { IsWellFormedMatch (data_of home) c found.now.ce32 }
-    ensures elements { elements_to_give (reading_of reading.entry) result
+    ensures elements { elements_to_give (reading_of reading.entry) given.new
         (recent_chars at.new.recent) (X.unread at.new.text)
         ≡ elements_from (reading_of reading.entry) (recent_chars at.old.recent) c
         (digit_step (reading_of reading.entry) (data_of home.entry) c
@@ -139,7 +146,7 @@ fn read_digit<'d, X: TextForMatches>(
     ensures fewer { length (X.unread at.new.text) ≤ length (X.unread at.old.text) }
 {
     match reading.numeric_primary {
-        Some(lead) => read_digits_from(reading, lead, at, c, home, found),
+        Some(lead) => read_digits_from(reading, lead, at, c, home, found, given),
         None => read_final(
             reading,
             at,
@@ -147,6 +154,7 @@ fn read_digit<'d, X: TextForMatches>(
             home,
             home.get_ce32(found.ce32.index()),
             found,
+            given,
         ),
     }
 }
@@ -159,9 +167,10 @@ fn read_entry<'d, X: TextForMatches>(
     c: char,
     home: CollationData<'d>,
     found: &SteadyMatch<'d>,
-) -> StepElements<'d>
+    given: &mut StepElements<'d>,
+)
     requires { IsWellFormedMatch (data_of home) c found.now.ce32 }
-    ensures elements { elements_to_give (reading_of reading.entry) result
+    ensures elements { elements_to_give (reading_of reading.entry) given.new
         (recent_chars at.new.recent) (X.unread at.new.text)
         ≡ elements_from (reading_of reading.entry) (recent_chars at.old.recent) c
         (entry_step (reading_of reading.entry) (data_of home.entry) c
@@ -169,19 +178,23 @@ fn read_entry<'d, X: TextForMatches>(
     ensures fewer { length (X.unread at.new.text) ≤ length (X.unread at.old.text) }
 {
     match found.ce32.kind() {
-        EntryKind::Digit => read_digit(reading, at, c, home, found),
-        _ => read_final(reading, at, c, home, found.ce32, found),
+        EntryKind::Digit => read_digit(reading, at, c, home, found, given),
+        _ => read_final(reading, at, c, home, found.ce32, found, given),
     }
 }
 
-/// Takes the step at a character that was read off the text: a diacritic, or by its entry.
+/// Takes the step at a character that was read off the text: a diacritic, or by its entry. Returns the element of a
+/// diacritic, and keeps those of an entry.
 #[tactic(auto, unfolding(icu_elements::specs::TextElements::matched_step))]
 pub(crate) fn read_char<'d, X: TextForMatches>(
     reading: TextReading<'d>,
     at: &mut SteadyPlace<X>,
     c: char,
-) -> StepElements<'d>
-    ensures elements { elements_to_give (reading_of reading.entry) result
+    given: &mut StepElements<'d>,
+) -> Option<CollationElement>
+    requires { IsBetweenSteps given.old }
+    ensures elements { option_to_list result
+        ++ elements_to_give (reading_of reading.entry) given.new
         (recent_chars at.new.recent) (X.unread at.new.text)
         ≡ elements_from (reading_of reading.entry) (recent_chars at.old.recent) c
         (step (reading_of reading.entry) (recent_chars at.old.recent) c (X.unread at.old.text)) }
@@ -194,5 +207,6 @@ pub(crate) fn read_char<'d, X: TextForMatches>(
     let (home, ce32) = tables.homed_entry(c);
     let recent = at.recent;
     let found = find_steady_match(home, c, ce32, recent.as_slice(), &mut at.text);
-    read_entry(reading, at, c, home, &found)
+    read_entry(reading, at, c, home, &found, given);
+    None
 }

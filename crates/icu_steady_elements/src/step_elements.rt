@@ -7,15 +7,37 @@ use crate::final_elements::FinalElements;
 use icu_entries::CollationElement;
 use icu_steady_numbers::SteadyNumber;
 
-/// The elements of a step that are still to be given.
+/// What the elements of a step are.
 #[derive(Debug, Clone, Copy)]
-pub(crate) enum StepElements<'d> {
-    /// Those of a final entry or of a diacritic.
-    Final(FinalElements<'d>),
+pub(crate) enum StepKind {
+    /// Those of a final entry.
+    Final,
     /// Those of a digit that is a number by itself.
-    Digit(SteadyNumber),
+    Digit,
     /// Those of a number, and then, with this lead byte, those of the digits that come next in the text.
-    Run(SteadyNumber, u8),
+    Run(u8),
+}
+
+/// The elements of a step that are still to be given. A number stands beside the elements of other steps, since its
+/// room is large: these don't write it.
+#[derive(Debug, Clone, Copy)]
+pub(crate) struct StepElements<'d> {
+    pub(crate) kind: StepKind,
+    /// Those of a final entry. Of no meaning where the step is a number.
+    pub(crate) elements: FinalElements<'d>,
+    /// Those of a number. Of no meaning where the step is none.
+    pub(crate) number: SteadyNumber,
+}
+
+/// What came of taking the next step of a text.
+#[derive(Debug, Clone, Copy)]
+pub(crate) enum StepTaken {
+    /// No character was left.
+    AtEnd,
+    /// Its first element. The others are kept.
+    First(CollationElement),
+    /// All of its elements are kept.
+    Kept,
 }
 
 /// The next element of a number, or `None` after the last one.
@@ -27,27 +49,41 @@ fn next_of_number(number: &mut SteadyNumber) -> Option<CollationElement>
 }
 
 impl<'d> StepElements<'d> {
-    ghost use Rattle.icu_steady_elements.specs.inner.StepElements.{given_left, run_lead};
+    ghost use Rattle.icu_steady_elements.specs.inner.StepElements.{given_left, run_lead, IsBetweenSteps};
+
+    /// None.
+    #[inline]
+    pub(crate) fn none() -> StepElements<'d>
+        ensures { IsBetweenSteps result }
+    {
+        StepElements {
+            kind: StepKind::Final,
+            elements: FinalElements::Ended,
+            number: SteadyNumber::of_few(0, 0),
+        }
+    }
 
     /// The next element, or `None` after the last one of what was read.
+    #[inline]
     pub(crate) fn next(&mut self) -> Option<CollationElement>
         ensures next { given_left self.old ≡ option_to_list result ++ given_left self.new }
         ensures end { result ≡ None → given_left self.old ≡ [] }
         ensures run { run_lead self.new ≡ run_lead self.old }
     {
-        match self {
-            StepElements::Final(elements) => elements.next(),
-            StepElements::Digit(number) => next_of_number(number),
-            StepElements::Run(number, _) => next_of_number(number),
+        match self.kind {
+            StepKind::Final => self.elements.next(),
+            StepKind::Digit => next_of_number(&mut self.number),
+            StepKind::Run(_) => next_of_number(&mut self.number),
         }
     }
 
     /// The lead byte of the numbers of a run that goes on in the text.
+    #[inline]
     pub(crate) fn lead(&self) -> Option<u8>
         ensures { result ≡ run_lead self.now }
     {
-        match self {
-            StepElements::Run(_, lead) => Some(*lead),
+        match self.kind {
+            StepKind::Run(lead) => Some(lead),
             _ => None,
         }
     }

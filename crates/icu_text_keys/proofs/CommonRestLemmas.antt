@@ -27,14 +27,14 @@ none_counted t false reorder cs hs = refl
 
 -- ---- one more
 
-two_parts : (a b c d : LevelPart) (rest : List LevelPart) → a ≡ b → c ≡ d → (a ∷ absent ∷ c ∷ absent ∷ rest) ≡ (b ∷ absent ∷ d ∷ absent ∷ rest)
+pub two_parts : (a b c d : LevelPart) (rest : List LevelPart) → a ≡ b → c ≡ d → (a ∷ absent ∷ c ∷ absent ∷ rest) ≡ (b ∷ absent ∷ d ∷ absent ∷ rest)
 two_parts a b c d rest p q = rw (p, q) refl
 
-one_secondary : (n p : ℕ) (es : List Element) → replicate n 0x500 ++ secondaries (with_common p ∷ es) ≡ replicate (suc n) 0x500 ++ secondaries es
+pub one_secondary : (n p : ℕ) (es : List Element) → replicate n 0x500 ++ secondaries (with_common p ∷ es) ≡ replicate (suc n) 0x500 ++ secondaries es
 unfolding weights
 one_secondary n p es = shifted 0x500 n (secondaries es)
 
-one_tertiary : (t : TertiaryForm) (n p : ℕ) (es : List Element)
+pub one_tertiary : (t : TertiaryForm) (n p : ℕ) (es : List Element)
     → replicate n (tertiary_runs t).common ++ tertiaries t (with_common p ∷ es) ≡ replicate (suc n) (tertiary_runs t).common ++ tertiaries t es
 one_tertiary t n p es =
     ap (λ ws. replicate n (tertiary_runs t).common ++ ws) (common_tertiary t p es) ∙ shifted (tertiary_runs t).common n (tertiaries t es)
@@ -52,18 +52,6 @@ one_counted t identical n cs x es p q =
     let more : suc n ≡ n + 1 = omega arith in
     ap (λ (y : Element). parts_after_commons t identical n cs (y ∷ es)) (same_weights x.primary x.secondary x.lower p q)
     ∙ (one_common t identical n x.primary cs es ∙ ap (λ (m : ℕ). parts_after_commons t identical m cs es) more)
-
--- ---- levels that go on
-
-pub levels_go_on : (t : TertiaryForm) (identical : Bool) (reorder : ℕ → ℕ) (l : CountedLevels) (n : ℕ) (cs : List ℕ) (hs : List HandledElement)
-    → l.commons ≡ n → ((ws : List ℕ) → held_secondaries l.levels.secondaries ws ≡ secondary_level ws)
-    → ((ws : List ℕ) → held_tertiaries l.levels.tertiaries ws ≡ tertiary_level t ws) → held_tertiary_form l.levels.tertiaries ≡ t
-    → counted_left reorder (form_of_three t identical) l cs hs ≡ parts_after_commons t identical n cs (stayed_elements hs)
-levels_go_on t identical reorder l n cs hs e s h f =
-    ap (λ (m : ℕ). levels_after reorder (form_of_three t identical) l.levels m cs hs) (counted_some l.commons (Some Forward) refl ∙ e)
-    ∙ two_parts _ _ _ _ (characters_left identical cs ∷ []) (ap closed (s (replicate n 0x500 ++ secondaries (stayed_elements hs))))
-    (ap closed (h (replicate n (tertiary_runs (held_tertiary_form l.levels.tertiaries)).common ++ tertiaries t (stayed_elements hs))
-    ∙ ap (λ (k : TertiaryForm). tertiary_level t (replicate n (tertiary_runs k).common ++ tertiaries t (stayed_elements hs))) f))
 
 -- ---- the end
 

@@ -4,3 +4,4 @@ pub mod CaseLemmas
 pub mod CompressionLemmas
 pub mod CommonElementLemmas
 pub mod CommonRestLemmas
+pub mod ThreeRestLemmas

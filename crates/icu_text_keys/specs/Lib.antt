@@ -4,3 +4,4 @@ pub mod KeyRests
 pub mod TextCases
 pub mod UsualForms
 pub mod CommonRests
+pub mod ThreeRests

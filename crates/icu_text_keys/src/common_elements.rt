@@ -1,19 +1,21 @@
 //! The beginning of a key, as long as elements have common weights beside their primaries.
 
-ghost use Rattle.std.specs.Prelude.{◌≡◌, ◌<◌, ℕ, Bool, List, [], ◌∷◌, replicate, IfSome};
+ghost use Rattle.std.specs.Prelude.{◌≡◌, ◌<◌, ℕ, Bool, List, [], ◌∷◌, replicate, IfSome, OnOk};
 ghost use Rattle.icu_levels.specs.Keys.{closed, key_bytes, part_bytes};
 ghost use Rattle.icu_levels.specs.Primaries.{Compression};
 ghost use Rattle.icu_levels.specs.Secondaries.{secondary_level};
 ghost use Rattle.icu_levels.specs.Tertiaries.{tertiary_level, tertiary_runs};
 ghost use Rattle.icu_levels.specs.declared.forms.TertiaryForm.{TertiaryForm};
+ghost use Rattle.icu_entries.specs.Elements.{Element};
 ghost use Rattle.icu_keys.specs.KeyWrites.{KeyWrites, KeyFeeds};
 ghost use Rattle.icu_weighting.specs.Handled.{HandledElement, stayed};
-ghost use Rattle.icu_weighting.specs.HandledSources.{handled_as};
+ghost use Rattle.icu_weighting.specs.HandledSources.{HasCase, handled_as};
 ghost use Rattle.icu_weighting.specs.Levels.{level_lists};
+ghost use Rattle.icu_text_keys.specs.ThreeRests.{parts_after_held, HasTertiaryForm};
 
 use crate::counted_levels::is_common;
-use crate::writer::{KeyWriter, push_primary};
-use crate::written_form::WrittenForm;
+use crate::level_pair::TwoLevels;
+use crate::writer::push_primary;
 use crate::written_levels::write_identical;
 use icu_entries::CollationElement;
 use icu_keys::common_levels::{write_common_secondaries, write_common_tertiaries};
@@ -21,7 +23,7 @@ use icu_keys::primaries::{PrimaryCompression, PrimaryWriter};
 use icu_keys::{CollationKeySink, SortKeyError};
 use icu_levels::forms::TertiaryForm;
 use icu_weighting::Handled;
-use std::alloc::Global;
+use std::alloc::AllocError;
 
 /// Writes a secondary level of so many common weights.
 #[inline(always)]
@@ -61,6 +63,32 @@ fn write_tertiaries<S: CollationKeySink>(
     }
 }
 
+/// Counts an element whose weights are common beside its primary, which was written, and holds the weights of another,
+/// after those that were counted.
+#[inline(always)]
+#[tactic(auto, using(crate::proofs::ThreeRestLemmas::one_held, crate::proofs::ThreeRestLemmas::fed_and_pushed))]
+fn hold(
+    count: &mut u32,
+    form: TertiaryForm,
+    levels: &mut TwoLevels,
+    element: CollationElement,
+) -> Result<(), AllocError>
+    requires form { HasTertiaryForm form levels.old }
+    requires case { element.lower < 0xC000 }
+    ensures form { HasTertiaryForm form levels.new }
+    ensures levels { OnOk result ((identical : Bool) (cs : List ℕ) (es : List Element) →
+        parts_after_held form identical count.old levels.old cs (element ∷ es)
+        ≡ parts_after_held form identical count.new levels.new cs es) }
+{
+    if is_common(element) && *count < u32::MAX {
+        *count += 1;
+        return Ok(());
+    }
+    levels.feed(form, *count)?;
+    *count = 0;
+    levels.push(form, element)
+}
+
 /// Elements of a key of three levels that all had common weights, beside their primaries: these are written, and the
 /// elements are counted. No level is held as long as this goes on, which is mostly to the end of a text.
 #[derive(Clone, Copy, Drop)]
@@ -72,7 +100,7 @@ pub(crate) struct CommonElements {
 impl CommonElements {
     ghost use Rattle.icu_text_keys.specs.CommonRests.{common_rest};
     ghost use Rattle.icu_text_keys.specs.UsualForms.{form_of_three};
-    ghost use Rattle.icu_text_keys.specs.KeyRests.{key_rest, HasForm};
+    ghost use Rattle.icu_text_keys.specs.ThreeRests.{three_rest};
 
     /// No element, with nothing written.
     #[inline(always)]
@@ -130,17 +158,93 @@ impl CommonElements {
         Ok(())
     }
 
-    /// A writer of all levels, which goes on from here.
+    /// Writes the primary of an element, and holds its other weights. After an error, discard them.
     #[inline(always)]
-    pub(crate) fn with_levels<F: WrittenForm>(&self, alloc: Global, form: &F) -> KeyWriter
-        ensures form { HasForm (F.form_written form.now) result.levels }
-        ensures goes_on { (t : TertiaryForm) →
-            F.form_written form.now ≡ form_of_three t (F.form_written form.now).identical →
-            (c : Compression) (cs : List ℕ) (hs : List HandledElement) →
-            key_rest c (F.form_written form.now) result cs hs
-            ≡ common_rest c t (F.form_written form.now).identical self.now cs hs }
+    fn push_stayed<S: CollationKeySink, C: PrimaryCompression>(
+        &mut self,
+        form: TertiaryForm,
+        sink: &mut S,
+        state: &mut S::State,
+        compression: &C,
+        levels: &mut TwoLevels,
+        element: CollationElement,
+    ) -> Result<(), SortKeyError<S::Error>>
+        requires sound { S.is_sound sink.old state.old }
+        requires form { HasTertiaryForm form levels.old }
+        requires case { element.lower < 0xC000 }
+        ensures sound { S.is_sound sink.new state.new }
+        ensures form { HasTertiaryForm form levels.new }
+        ensures bytes { (identical : Bool) (cs : List ℕ) → KeyFeeds S.effects sink.old state.old
+            (λ (hs : List HandledElement). three_rest (C.compression compression.now) form identical
+            self.old levels.old cs (stayed element ∷ hs))
+            (three_rest (C.compression compression.now) form identical self.new levels.new cs)
+            result sink.new state.new }
     {
-        KeyWriter::after_commons(alloc, form, self.primaries, self.count)
+        if let Err(error) = push_primary(&mut self.primaries, sink, state, compression, element) {
+            return Err(SortKeyError::Sink(error));
+        }
+        hold(&mut self.count, form, levels, element)?;
+        Ok(())
+    }
+
+    /// Writes what the next element gives, where levels are held: an element that is shifted gives nothing. After an
+    /// error, discard them.
+    #[inline(always)]
+    pub(crate) fn push_handled<S: CollationKeySink, C: PrimaryCompression>(
+        &mut self,
+        form: TertiaryForm,
+        sink: &mut S,
+        state: &mut S::State,
+        compression: &C,
+        levels: &mut TwoLevels,
+        element: Handled,
+    ) -> Result<(), SortKeyError<S::Error>>
+        requires sound { S.is_sound sink.old state.old }
+        requires form { HasTertiaryForm form levels.old }
+        requires case { HasCase (handled_as element) }
+        ensures sound { S.is_sound sink.new state.new }
+        ensures form { HasTertiaryForm form levels.new }
+        ensures bytes { (identical : Bool) (cs : List ℕ) → KeyFeeds S.effects sink.old state.old
+            (λ (hs : List HandledElement). three_rest (C.compression compression.now) form identical
+            self.old levels.old cs (handled_as element ∷ hs))
+            (three_rest (C.compression compression.now) form identical self.new levels.new cs)
+            result sink.new state.new }
+    {
+        match element {
+            Handled::Stayed(element) => self.push_stayed(
+                form,
+                sink,
+                state,
+                compression,
+                levels,
+                element,
+            ),
+            Handled::Shifted(_) => Ok(()),
+        }
+    }
+
+    /// Writes the rest of the key, where levels are held and no element is left, given all characters of the decomposed
+    /// text.
+    #[inline(always)]
+    #[tactic(auto, unfolding(icu_weighting::specs::Levels::weights))]
+    pub(crate) fn close_held<S: CollationKeySink>(
+        &self,
+        form: TertiaryForm,
+        identical: bool,
+        sink: &mut S,
+        state: &mut S::State,
+        levels: &mut TwoLevels,
+        characters: &[char],
+    ) -> Result<(), SortKeyError<S::Error>>
+        requires sound { S.is_sound sink.old state.old }
+        requires form { HasTertiaryForm form levels.old }
+        ensures sound { S.is_sound sink.new state.new }
+        ensures bytes { (c : Compression) → KeyWrites S.effects sink.old state.old
+            (three_rest c form identical self.now levels.old characters.now [])
+            result sink.new state.new }
+    {
+        levels.feed(form, self.count)?;
+        levels.write(form, identical, sink, state, characters)
     }
 
     /// Writes the rest of the key, where no element is left, given all characters of the decomposed text.

@@ -1,10 +1,7 @@
 //! The levels after the primary one, where elements with common weights are counted.
 
-ghost use Rattle.std.specs.Prelude.{◌≡◌, ◌<◌, ◌↔◌, ◌∷◌, IsTrue, ℕ, List, [], Some, IfSome, OnOk};
+ghost use Rattle.std.specs.Prelude.{◌≡◌, ◌<◌, ◌↔◌, ◌∷◌, IsTrue, ℕ, List, [], Some, OnOk};
 ghost use Rattle.icu_levels.specs.Keys.{later_parts, parts_bytes};
-ghost use Rattle.icu_levels.specs.Secondaries.{secondary_level};
-ghost use Rattle.icu_levels.specs.Tertiaries.{tertiary_level};
-ghost use Rattle.icu_keys.specs.HeldRests.{held_secondaries, held_tertiaries};
 ghost use Rattle.icu_levels.specs.declared.forms.SecondaryForm.TheVariants.{Forward};
 ghost use Rattle.icu_weighting.specs.Handled.{HandledElement, stayed, shifted_primary};
 ghost use Rattle.icu_weighting.specs.Levels.{level_lists};
@@ -61,22 +58,6 @@ impl CountedLevels {
     {
         CountedLevels {
             commons: 0,
-            levels: LaterLevels::new(alloc, form),
-        }
-    }
-
-    /// The levels of a form, where so many elements with common weights came first.
-    #[inline(always)]
-    pub(crate) fn after_commons<F: WrittenForm>(alloc: Global, form: &F, commons: u32) -> Self
-        ensures form { HasForm (F.form_written form.now) result }
-        ensures commons { result.commons ≡ commons }
-        ensures secondaries { (ws : List ℕ) →
-            held_secondaries result.levels.secondaries ws ≡ secondary_level ws }
-        ensures tertiaries { IfSome (F.form_written form.now).tertiary (λ t. (ws : List ℕ) →
-            held_tertiaries result.levels.tertiaries ws ≡ tertiary_level t ws) }
-    {
-        CountedLevels {
-            commons,
             levels: LaterLevels::new(alloc, form),
         }
     }

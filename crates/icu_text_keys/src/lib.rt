@@ -11,6 +11,7 @@ pub mod counted_levels;
 pub mod later_levels;
 pub mod laws;
 mod level;
+mod level_pair;
 mod next_element;
 mod usual_forms;
 pub mod whole_key;

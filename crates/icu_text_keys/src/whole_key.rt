@@ -6,10 +6,13 @@ ghost use Rattle.icu_levels.specs.Keys.{key_bytes};
 ghost use Rattle.icu_keys.specs.KeyWrites.{KeyWrites, WritesKey};
 ghost use Rattle.icu_weighting.specs.Levels.{level_lists};
 ghost use Rattle.icu_weighting.specs.HandledSources.{HasCase, handled_as};
+ghost use Rattle.icu_text_keys.specs.CommonRests.{common_rest};
 ghost use Rattle.icu_text_keys.specs.KeyRests.{key_rest, HasForm};
+ghost use Rattle.icu_text_keys.specs.ThreeRests.{three_rest, HasTertiaryForm};
 ghost use Rattle.icu_text_keys.specs.UsualForms.{form_of, form_of_three};
 
 use crate::common_elements::CommonElements;
+use crate::level_pair::TwoLevels;
 use crate::next_element::next_expected;
 use crate::usual_forms::{UsualForm, tertiary_of_three, usual_form};
 use crate::writer::KeyWriter;
@@ -50,36 +53,69 @@ fn write_elements<F: WrittenForm, S: CollationKeySink, C: PrimaryCompression, H:
     writer.close(form, sink, state, characters)
 }
 
-/// Writes the rest of a key, from an element on whose weights aren't common beside its primary, or which is shifted.
+/// Writes the rest of a key of three levels, of the elements that are still to come.
 #[inline(always)]
-fn write_from<F: WrittenForm, S: CollationKeySink, C: PrimaryCompression, H: HandledSource>(
-    form: &F,
+fn write_held<S: CollationKeySink, C: PrimaryCompression, H: HandledSource>(
+    form: TertiaryForm,
+    identical: bool,
     sink: &mut S,
     state: &mut S::State,
     compression: &mut C,
-    begun: KeyWriter,
+    commons: &mut CommonElements,
+    levels: &mut TwoLevels,
+    elements: &mut H,
+    characters: &[char],
+) -> Result<(), SortKeyError<S::Error>>
+    requires sound { S.is_sound sink.old state.old }
+    requires form { HasTertiaryForm form levels.old }
+    requires cases { AllByRecursion HasCase (H.handled_left elements.old) }
+    ensures sound { S.is_sound sink.new state.new }
+    ensures bytes { KeyWrites S.effects sink.old state.old
+        (three_rest (C.compression compression.old) form identical commons.old levels.old
+        characters.now (H.handled_left elements.old))
+        result sink.new state.new }
+{
+    'writing: while let Some(element) = next_expected(elements, compression)? {
+        commons.push_handled(form, sink, state, compression, levels, element)?;
+    }
+    commons.close_held(form, identical, sink, state, levels, characters)
+}
+
+/// Writes the rest of a key of three levels, from an element on whose weights aren't common beside its primary, or
+/// which is shifted.
+#[inline(always)]
+fn write_from<S: CollationKeySink, C: PrimaryCompression, H: HandledSource>(
+    alloc: Global,
+    form: TertiaryForm,
+    identical: bool,
+    sink: &mut S,
+    state: &mut S::State,
+    compression: &mut C,
+    begun: CommonElements,
     element: Handled,
     elements: &mut H,
     characters: &[char],
 ) -> Result<(), SortKeyError<S::Error>>
     requires sound { S.is_sound sink.old state.old }
-    requires form { HasForm (F.form_written form.now) begun.levels }
     requires case { HasCase (handled_as element) }
     requires cases { AllByRecursion HasCase (H.handled_left elements.old) }
     ensures sound { S.is_sound sink.new state.new }
     ensures bytes { KeyWrites S.effects sink.old state.old
-        (key_rest (C.compression compression.old) (F.form_written form.now) begun characters.now
+        (common_rest (C.compression compression.old) form identical begun characters.now
         (handled_as element ∷ H.handled_left elements.old))
         result sink.new state.new }
 {
-    let mut writer = begun;
-    writer.push(form, sink, state, compression, element)?;
-    write_elements(
+    let mut commons = begun;
+    let mut levels = TwoLevels::new(alloc, form);
+    commons.push_handled(form, sink, state, compression, &mut levels, element)?;
+    write_held(
         form,
+        identical,
         sink,
         state,
         compression,
-        &mut writer,
+        &mut commons,
+        &mut levels,
         elements,
         characters,
     )
@@ -108,16 +144,18 @@ fn write_three_levels<F: WrittenForm, S: CollationKeySink, C: PrimaryCompression
         (key_bytes c f (level_lists c.reorder f (H.handled_left elements.old) characters.now))
         result sink.new state.new }
 {
+    let identical = form.form().identical;
     let mut commons = CommonElements::new();
     'counting: while let Some(next) = next_expected(elements, compression)? {
         let Some(element) = commons.takes(&next) else {
-            let begun = commons.with_levels(alloc, form);
             return write_from(
-                form,
+                alloc,
+                tertiary,
+                identical,
                 sink,
                 state,
                 compression,
-                begun,
+                commons,
                 next,
                 elements,
                 characters,
@@ -125,7 +163,7 @@ fn write_three_levels<F: WrittenForm, S: CollationKeySink, C: PrimaryCompression
         };
         commons.push(sink, state, compression, element)?;
     }
-    commons.close(tertiary, form.form().identical, sink, state, characters)
+    commons.close(tertiary, identical, sink, state, characters)
 }
 
 /// Writes all levels of a key of this form.

@@ -1,11 +1,8 @@
 //! The writer of a key, which is fed the elements of a text one at a time.
 
-ghost use Rattle.std.specs.Prelude.{◌≡◌, ◌<◌, ℕ, List, [], ◌∷◌, IfSome};
+ghost use Rattle.std.specs.Prelude.{◌≡◌, ◌<◌, ℕ, List, [], ◌∷◌};
 ghost use Rattle.icu_levels.specs.Keys.{key_bytes};
 ghost use Rattle.icu_levels.specs.Primaries.{Compression};
-ghost use Rattle.icu_levels.specs.Secondaries.{secondary_level};
-ghost use Rattle.icu_levels.specs.Tertiaries.{tertiary_level};
-ghost use Rattle.icu_keys.specs.HeldRests.{held_secondaries, held_tertiaries};
 ghost use Rattle.icu_entries.specs.Elements.{Element};
 ghost use Rattle.icu_keys.specs.KeyWrites.{KeyWrites, KeyFeeds};
 ghost use Rattle.icu_keys.specs.WriterRests.{primary_rest};
@@ -72,28 +69,6 @@ impl KeyWriter {
         KeyWriter {
             primaries: PrimaryWriter::new(),
             levels: CountedLevels::new(alloc, form),
-        }
-    }
-
-    /// The writer of a key of which these primaries were written, of so many elements with common weights.
-    #[inline(always)]
-    pub(crate) fn after_commons<F: WrittenForm>(
-        alloc: Global,
-        form: &F,
-        primaries: PrimaryWriter,
-        commons: u32,
-    ) -> KeyWriter
-        ensures form { HasForm (F.form_written form.now) result.levels }
-        ensures primaries { result.primaries ≡ primaries }
-        ensures commons { result.levels.commons ≡ commons }
-        ensures secondaries { (ws : List ℕ) →
-            held_secondaries result.levels.levels.secondaries ws ≡ secondary_level ws }
-        ensures tertiaries { IfSome (F.form_written form.now).tertiary (λ t. (ws : List ℕ) →
-            held_tertiaries result.levels.levels.tertiaries ws ≡ tertiary_level t ws) }
-    {
-        KeyWriter {
-            primaries,
-            levels: CountedLevels::after_commons(alloc, form, commons),
         }
     }
 

@@ -53,13 +53,27 @@ fn fill_page(page: &mut Vec<u64>) -> Result<(), AllocError>
     Ok(())
 }
 
-/// Sets the bit of a number.
-fn mark(page: &mut Vec<u64>, index: usize) -> Result<(), AllocError>
+/// Sets the bit of a number in a page that may lack words.
+fn fill_and_mark(page: &mut Vec<u64>, index: usize) -> Result<(), AllocError>
     requires { index < 65536 }
     ensures { OnOk result ((i : ℕ) → IsTrue (is_marked page.new.items i)
         ↔ (IsTrue (is_marked page.old.items i) ⊎ (i ≡ index))) }
 {
     fill_page(page)?;
+    page[index / 64] |= 1 << (index % 64);
+    Ok(())
+}
+
+/// Sets the bit of a number.
+#[inline(always)]
+fn mark(page: &mut Vec<u64>, index: usize) -> Result<(), AllocError>
+    requires { index < 65536 }
+    ensures { OnOk result ((i : ℕ) → IsTrue (is_marked page.new.items i)
+        ↔ (IsTrue (is_marked page.old.items i) ⊎ (i ≡ index))) }
+{
+    if page.len() < PAGE_LEN {
+        return fill_and_mark(page, index);
+    }
     page[index / 64] |= 1 << (index % 64);
     Ok(())
 }
@@ -78,8 +92,8 @@ fn reach_lead(pages: &mut Vec<Vec<u64>>, lead: usize) -> Result<(), AllocError>
     Ok(())
 }
 
-/// Sets the bit of a weight.
-fn add_bit(pages: &mut Vec<Vec<u64>>, weight: u32) -> Result<(), AllocError>
+/// Sets the bit of a weight whose lead byte may have no page.
+fn reach_and_add_bit(pages: &mut Vec<Vec<u64>>, weight: u32) -> Result<(), AllocError>
     requires { IsTrue (is_three_bytes weight) }
     ensures { OnOk result ((p : ℕ) → IsTrue (is_three_bytes p)
         → IsTrue (has_weight_bit pages.new.items p)
@@ -87,6 +101,21 @@ fn add_bit(pages: &mut Vec<Vec<u64>>, weight: u32) -> Result<(), AllocError>
 {
     let lead = (weight / 0x0100_0000) as usize;
     reach_lead(pages, lead)?;
+    fill_and_mark(&mut pages[lead], middle_bytes(weight))
+}
+
+/// Sets the bit of a weight.
+#[inline(always)]
+fn add_bit(pages: &mut Vec<Vec<u64>>, weight: u32) -> Result<(), AllocError>
+    requires { IsTrue (is_three_bytes weight) }
+    ensures { OnOk result ((p : ℕ) → IsTrue (is_three_bytes p)
+        → IsTrue (has_weight_bit pages.new.items p)
+        ↔ (IsTrue (has_weight_bit pages.old.items p) ⊎ (p ≡ weight))) }
+{
+    let lead = (weight / 0x0100_0000) as usize;
+    if lead >= pages.len() {
+        return reach_and_add_bit(pages, weight);
+    }
     mark(&mut pages[lead], middle_bytes(weight))
 }
 
@@ -278,6 +307,7 @@ impl WeightSet {
 impl HoldWeights for WeightSet {
     ghost weights = { λ s. weights_of_set s };
 
+    #[inline(always)]
     fn add(&mut self, weight: u32) -> Result<(), AllocError> {
         if is_three_bytes(weight) {
             add_bit(&mut self.pages, weight)

@@ -76,7 +76,7 @@ pub(crate) fn element_violation(
 
 /// Whether the reordering takes all primary weights with a lead byte to one lead byte, as far as one look shows it.
 #[tactic(auto, using(crate::proofs::RunLemmas::kept_whole, crate::proofs::RunLemmas::replaced_whole, crate::proofs::RunLemmas::stays_whole), unfolding(icu_provider::specs::TableSets::tables_in))]
-fn takes_whole(tables: TableSet<'_>, lead: u8) -> bool
+pub(crate) fn takes_whole(tables: TableSet<'_>, lead: u8) -> bool
     ensures { result ≡ true → KeepsLeadTogether (tables_in tables.entry).reordering lead }
 {
     match tables.reordering {
@@ -240,6 +240,7 @@ pub(crate) struct TablesJudge<'d> {
 
 impl<'d> TablesJudge<'d> {
     /// Whether no primary weight that an element has fails a condition. `false` leaves that open.
+    #[inline(always)]
     fn passes_primary(&self, primary: u32) -> bool
         ensures { result ≡ true
             → PrimaryPasses (tables_in self.now.tables) primary }
@@ -254,6 +255,7 @@ impl<'d> TablesJudge<'d> {
     }
 
     /// Whether an element fails no condition, as far as its lead byte shows it. `false` leaves that open.
+    #[inline(always)]
     #[tactic(auto, using(crate::proofs::PassingLeadLemmas::passes_by_primary))]
     fn passes_element(&self, element: CollationElement) -> bool
         ensures { result ≡ true
@@ -267,6 +269,7 @@ impl<'d> TablesJudge<'d> {
 
     /// Whether an entry spells an element that fails no condition, as far as its lead byte shows it. `false` leaves
     /// that open.
+    #[inline(always)]
     #[tactic(auto, using(crate::proofs::PassingLeadLemmas::spelled_passes))]
     fn passes_spelled(&self, entry: CollationElement32) -> bool
         ensures { result ≡ true → (home : Data) (c : ℕ) → first_failing home c entry ≡ None

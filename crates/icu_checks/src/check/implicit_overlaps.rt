@@ -14,6 +14,7 @@ ghost use Rattle.icu_checks.specs.inner.ImplicitOverlaps.{is_for_implicit, IsImp
 
 use crate::check::collecting::collect;
 use crate::check::element_conditions::IMPLICIT_LEAD;
+use crate::check::entry_judge::takes_whole;
 use crate::check::implicit_chars::{ImplicitChars, chars_beside, second_byte};
 use crate::check::overlap_tables::{clash_table, table_of};
 use crate::check::overlap_violations::REACHABLE_TABLES;
@@ -289,8 +290,12 @@ fn count_among(tables: TableSet<'_>, together: bool, before_too: bool, weights: 
 
 /// Whether weights with a lead byte may begin an implicit one once both are reordered, and before that, where it is
 /// asked: some may unless reordering takes the first and the last weight for each second byte to other lead bytes.
+/// Where it takes all of them to one, the least shows it.
 fn may_begin_with_lead(tables: TableSet<'_>, together: bool, before_too: bool, lead: u8) -> bool {
     let least = u32::from(lead) << 24;
+    if takes_whole(tables, lead) {
+        return may_begin_implicit(tables, together, before_too, least);
+    }
     for second in 0..256u32 {
         let first = least | second << 16;
         if may_begin_implicit(tables, together, before_too, first)

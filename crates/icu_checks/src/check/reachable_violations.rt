@@ -1,10 +1,10 @@
 //! The first violation of all that is reachable in a collator's tables, and the weights that are compared with one
 //! another.
-ghost use Rattle.std.specs.Prelude.{◌≡◌, ◌+◌, ◌<◌, None, Some, IfSome, IfOk, OnOk, slice_index, length};
+ghost use Rattle.std.specs.Prelude.{◌≡◌, ◌+◌, true, ◌<◌, None, Some, IfSome, IfOk, OnOk, slice_index, length};
 ghost use Rattle.icu_provider.specs.StoredTables.{jamo_of, diacritics_of};
 ghost use Rattle.icu_provider.specs.TableSets.{tables_in};
 ghost use Rattle.icu_checks.specs.inner.Violations.{IsTrueViolation};
-ghost use Rattle.icu_checks.specs.inner.EntryViolations.{JamoPasses, MeetsIn, DiacriticMeets, ReachableMeets};
+ghost use Rattle.icu_checks.specs.inner.EntryViolations.{AreLeadsPassing, ImplicitPasses, JamoPasses, MeetsIn, DiacriticMeets, ReachableMeets};
 ghost use Rattle.icu_checks.specs.inner.ListedWeights.{HasNone, AddsEach, HoldsEach};
 ghost use Rattle.icu_checks.specs.inner.PairViolations.{IsOutcome};
 
@@ -21,8 +21,12 @@ use std::alloc::AllocError;
 /// The first violation of what is reachable by the root, with its weights added to the lists.
 fn root_violation(
     tables: TableSet<'_>,
+    passes: bool,
+    leads: [bool; 256],
     lists: &mut ListedWeights,
 ) -> Result<Option<Violation>, AllocError>
+    requires implicit { passes ≡ true → ImplicitPasses (tables_in tables) }
+    requires leads { AreLeadsPassing (tables_in tables) leads }
     ensures outcome { IfOk result (IsOutcome (tables_in tables.entry)
         (MeetsIn DataTable.Root (tables_in tables.entry))) }
     ensures adds { OnOk result (AddsEach DataTable.Root (tables_in tables.entry).tables
@@ -31,8 +35,8 @@ fn root_violation(
     let judge = TablesJudge {
         tables,
         table: DataTable::Root,
-        implicit_passes: implicit_passes(tables),
-        leads: passing_leads(tables),
+        implicit_passes: passes,
+        leads,
     };
     home_violation(&judge, lists, tables.root, false)
 }
@@ -40,8 +44,12 @@ fn root_violation(
 /// The first violation of what is reachable by the tailoring, with its weights added to the lists.
 fn tailoring_violation(
     tables: TableSet<'_>,
+    passes: bool,
+    leads: [bool; 256],
     lists: &mut ListedWeights,
 ) -> Result<Option<Violation>, AllocError>
+    requires implicit { passes ≡ true → ImplicitPasses (tables_in tables) }
+    requires leads { AreLeadsPassing (tables_in tables) leads }
     ensures outcome { IfOk result (IsOutcome (tables_in tables.entry)
         (MeetsIn DataTable.Tailoring (tables_in tables.entry))) }
     ensures adds { OnOk result (AddsEach DataTable.Tailoring (tables_in tables.entry).tables
@@ -52,8 +60,8 @@ fn tailoring_violation(
             let judge = TablesJudge {
                 tables,
                 table: DataTable::Tailoring,
-                implicit_passes: implicit_passes(tables),
-                leads: passing_leads(tables),
+                implicit_passes: passes,
+                leads,
             };
             home_violation(&judge, lists, tailoring, true)
         }
@@ -137,9 +145,11 @@ pub(crate) fn reachable_violation(
         (ReachableMeets (tables_in tables.entry))) }
     ensures lists { OnOk result (HoldsEach (tables_in tables.entry).tables lists.new) }
 {
-    let root = root_violation(tables, lists)?;
+    let passes = implicit_passes(tables);
+    let leads = passing_leads(tables);
+    let root = root_violation(tables, passes, leads, lists)?;
     collect_each(tables, DataTable::Jamo, lists)?;
-    let tailoring = tailoring_violation(tables, lists)?;
+    let tailoring = tailoring_violation(tables, passes, leads, lists)?;
     collect_each(tables, DataTable::Diacritics, lists)?;
     let of_root = earlier(root, jamo_violation(tables));
     let of_others = earlier(tailoring, diacritics_violation(tables));

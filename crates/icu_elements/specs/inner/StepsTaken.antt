@@ -104,6 +104,11 @@ abbrev pub NoMarkFirst : List ℕ → Type 0
 NoMarkFirst [] = ⊤
 NoMarkFirst (c ∷ cs) = is_starter c ≡ true
 
+-- a text begins with a starter
+abbrev pub StarterFirst : List ℕ → Type 0
+StarterFirst [] = ⊥
+StarterFirst (c ∷ cs) = is_starter c ≡ true
+
 -- the mapping is decided, and a starter stands behind it
 pub record IsWholeMatch (context : Context) (mapping : Mapping) (text : List ℕ) : Type 0 where
   pub decided : are_decided context.mappings text ≡ true

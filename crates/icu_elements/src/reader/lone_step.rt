@@ -1,7 +1,7 @@
 //! Steps that give one element, without a list: at a diacritic, at a character whose entry looks at nothing else, and
 //! at one that begins contractions, where no mark may join what follows directly.
 
-ghost use Rattle.std.specs.Prelude.{◌≡◌, ◌≤◌, ◌<◌, ◌+◌, ◌&&◌, ◌==◌, ◌∷◌, [], None, false, drop, length, IsTrue, IfSome, IfOk, OnOk, MatchOption};
+ghost use Rattle.std.specs.Prelude.{◌≡◌, ◌≤◌, ◌<◌, ◌+◌, ◌&&◌, ◌==◌, ◌∷◌, [], None, true, false, drop, length, IsTrue, IfSome, IfOk, OnOk, MatchOption};
 ghost use Rattle.icu_collation_data.specs.Contexts.{has_ascending_mappings};
 ghost use Rattle.icu_collation_data.specs.Data.{Data, homed};
 ghost use Rattle.icu_collation_data.specs.StoredData.{found_context, found_mapping};
@@ -10,11 +10,12 @@ ghost use Rattle.icu_elements.specs.Reading.{element_tables, reading_of};
 ghost use Rattle.icu_elements.specs.TextElements.{diacritic_step};
 ghost use Rattle.icu_elements.specs.inner.Positions.{IsStep, consumed_last, unread_at};
 ghost use Rattle.icu_elements.specs.inner.ReadsAhead.{ReadsMore};
-ghost use Rattle.icu_elements.specs.inner.StepsTaken.{IsSingle, FirstIsLater, FirstIsEarlier, NoneBeginsWith, IsDecidedMapping, IsDirectMatch, IsDirectStep, NoMarkFirst, StepsOrLooks, chosen_mapping};
+ghost use Rattle.icu_elements.specs.inner.StepsTaken.{IsSingle, FirstIsLater, FirstIsEarlier, NoneBeginsWith, IsDecidedMapping, IsDirectMatch, IsDirectStep, NoMarkFirst, StarterFirst, StepsOrLooks, chosen_mapping};
 ghost use Rattle.icu_elements.specs.inner.Streams.{chars_ahead};
 ghost use Rattle.icu_matches.specs.Texts.{still_unread};
 ghost use Rattle.icu_provider.specs.Tables.{diacritic_of, entry_of};
 ghost use Rattle.unicode_normalization.specs.Decompositions.{CanDecompose, decompositions_size};
+ghost use Rattle.unicode_normalization.specs.Order.{is_starter};
 
 use crate::element_tables::ElementTables;
 use crate::reader::ahead::{read_first, read_starter};
@@ -48,6 +49,10 @@ fn single_element(tables: ElementTables<'_>, c: char) -> Option<CollationElement
     ensures { IfSome result (IsSingle (entry_of (element_tables tables.entry) c) c) }
 {
     let entry = tables.entry(c);
+    let plain = entry.ce32.to_ce_simple_or_long_primary();
+    if plain.is_some() {
+        return plain;
+    }
     match entry.ce32.kind() {
         EntryKind::Offset => Some(entry.home.ce_from_offset_ce32(c, entry.ce32)),
         _ => own_element(c, entry.ce32),
@@ -90,6 +95,28 @@ fn begins_none(context: FoundContext<'_>, d: char) -> bool
         return true;
     }
     begins_below(last.chars, d)
+}
+
+/// Whether a character is a starter with which no mapping of a context begins. False says nothing.
+fn stands_apart(context: FoundContext<'_>, d: char) -> bool
+    requires { IsTrue (has_ascending_mappings (found_context context)) }
+    ensures starter { IsTrue result → is_starter d ≡ true }
+    ensures none { IsTrue result → NoneBeginsWith (found_context context.entry).mappings d }
+{
+    canonical_combining_class(d) == 0 && begins_none(context, d)
+}
+
+/// Whether a text begins with such a character.
+fn begins_apart(context: FoundContext<'_>, text: &ClassedText) -> bool
+    requires { IsTrue (has_ascending_mappings (found_context context)) }
+    ensures starter { IsTrue result → StarterFirst (still_unread text.now) }
+    ensures decided { IsTrue result
+        → IsDecidedMapping (found_context context.entry) (still_unread text.now) None }
+{
+    match text.first() {
+        Some(d) => stands_apart(context, d),
+        None => false,
+    }
 }
 
 /// The index of the mapping of a context that a text begins with, the longest one, or `Some(None)` where it begins with
@@ -159,6 +186,9 @@ fn direct_match<I: Iterator<Item = char> + Drop>(
 {
     read_first(source, text)?;
     if text.is_empty() {
+        return Ok(Some(None));
+    }
+    if begins_apart(context, text) {
         return Ok(Some(None));
     }
     let Some(index) = decided_mapping(context, text) else {

@@ -35,12 +35,14 @@ impl RecentChars {
     }
 
     /// One more character was consumed.
-    #[tactic(auto, using(crate::proofs::ReaderLemmas::one_more), unfolding(crate::specs::LastChars::recent_chars))]
+    #[tactic(auto, using(crate::proofs::ReaderLemmas::one_more, crate::proofs::ReaderLemmas::two_stay), unfolding(crate::specs::LastChars::recent_chars))]
     pub fn push(&mut self, c: char)
         ensures { recent_chars self.new ≡ last_two (recent_chars self.old) (c ∷ []) }
     {
         self.chars = [c, self.chars[0]];
-        self.len = (self.len + 1).min(2);
+        if self.len < 2 {
+            self.len += 1;
+        }
     }
 
     /// A character was consumed, and then those after it.

@@ -1,7 +1,7 @@
 -- Entries in leaves.
 use mathlib.Core.Bool.{Bool-set}
 use mathlib.Core.HLevel.{×_prop, Unit-prop}
-use Rattle.std.specs.Prelude.{◌≡◌, ℕ, zero, suc, ◌≤◌, ◌<◌, Bool, true, false, not, List, [], ◌∷◌, ◌++◌, drop, filter, length, nat_eq, nat_lt, slice_range, take, if◌then◌else◌}
+use Rattle.std.specs.Prelude.{◌≡◌, ℕ, zero, suc, ◌-◌, ◌≤◌, ◌<◌, Bool, true, false, not, List, [], ◌∷◌, ◌++◌, drop, filter, length, nat_eq, nat_lt, slice_index_or, slice_range, take, if◌then◌else◌}
 use Rattle.std.specs.List.{AllByRecursion, AllByRecursion-prop, flat_map}
 use Rattle.std.specs.Global.{Vec}
 use Rattle.icu_levels.specs.ListOrder.{list_order}
@@ -25,6 +25,21 @@ leaf_before test (e ∷ es) = test e
 abbrev pub IsParted : {X : Type 0} → (X → Bool) → List X → Type 0
 IsParted test [] = Unit {0}
 IsParted test (x ∷ xs) = (test x ≡ false → AllByRecursion (λ y. test y ≡ false) xs) × IsParted test xs
+
+-- the element before an index passes a test, if there is one
+abbrev pub PassesBefore : {X : Type 0} → (X → Bool) → List X → ℕ → Type 0
+PassesBefore {X} test xs i = (d : X) → 0 < i → test (slice_index_or xs (i - 1) d) ≡ true
+
+-- the element at an index fails a test, if there is one
+abbrev pub FailsAt : {X : Type 0} → (X → Bool) → List X → ℕ → Type 0
+FailsAt {X} test xs i = (d : X) → i < length xs → test (slice_index_or xs i d) ≡ false
+
+-- an index has elements on both sides, of which the one before it passes a test and the one at it fails
+pub record IsInside {X : Type 0} (test : X → Bool) (xs : List X) (i : ℕ) : Type 0 where
+  pub some : 0 < i
+  pub low : i < length xs
+  pub passes : PassesBefore test xs i
+  pub fails : FailsAt test xs i
 
 -- no key is less than one before it
 abbrev pub Rise : List (List ℕ) → Type 0

@@ -6,7 +6,11 @@ use Rattle.icu_elements.specs.TextElements.{Reading, Step, consumed, last_two, e
 use Rattle.icu_steady_elements.specs.declared.final_elements.FinalElements.{FinalElements}
 use Rattle.icu_steady_elements.specs.declared.final_elements.FinalElements.TheVariants.{Ended, Single, Entries, Elements}
 use Rattle.icu_steady_elements.specs.declared.step_elements.StepElements.{StepElements}
-use Rattle.icu_steady_elements.specs.declared.step_elements.StepElements.TheVariants.{Final, Digit, Run}
+use Rattle.icu_steady_elements.specs.declared.step_elements.StepKind.{StepKind}
+use Rattle.icu_steady_elements.specs.declared.step_elements.StepKind.TheVariants.{Final, Digit, Run}
+use Rattle.icu_steady_elements.specs.declared.step_elements.StepTaken.{StepTaken}
+use Rattle.icu_steady_elements.specs.declared.step_elements.StepTaken.TheVariants.{AtEnd, First, Kept}
+use Rattle.icu_steady_numbers.specs.declared.steady_number.SteadyNumber.{SteadyNumber}
 use Rattle.icu_steady_elements.specs.inner.RunDigits.{weights_given, run_elements}
 
 -- the elements of a final entry that are still to be given
@@ -16,17 +20,31 @@ final_left (Single e) = e ∷ []
 final_left (Entries l) = flat_map self_contained l.entries.now
 final_left (Elements bits) = map element_of bits.now
 
--- the elements of a step that are still to be given, of a run of digits those of one number
+-- the elements of a step of this kind that are still to be given, of a run of digits those of one number
+abbrev pub kind_left : StepKind → FinalElements → SteadyNumber → List Element
+kind_left Final f n = final_left f
+kind_left Digit f n = weights_given n
+kind_left (Run lead) f n = weights_given n
+
+-- those of a step
 abbrev pub given_left : StepElements → List Element
-given_left (Final f) = final_left f
-given_left (Digit n) = weights_given n
-given_left (Run n lead) = weights_given n
+given_left s = kind_left s.kind s.elements s.number
 
 -- the lead byte of the numbers of a run of digits that goes on in the text
+abbrev pub kind_lead : StepKind → Option ℕ
+kind_lead Final = None
+kind_lead Digit = None
+kind_lead (Run lead) = Some lead
+
+-- that of a step
 abbrev pub run_lead : StepElements → Option ℕ
-run_lead (Final f) = None
-run_lead (Digit n) = None
-run_lead (Run n lead) = Some lead
+run_lead s = kind_lead s.kind
+
+-- the element of a step that was given at once
+abbrev pub first_given : StepTaken → Option Element
+first_given AtEnd = None
+first_given (First e) = Some e
+first_given Kept = None
 
 -- the elements of what is left of a text, where the digits that come next go on a run
 abbrev pub elements_behind : Reading → Option ℕ → List ℕ → List ℕ → List Element

@@ -1,4 +1,4 @@
-use Rattle.std.proofs.Common.{ℕ, sym, subst}
+use Rattle.std.proofs.Common.{sym, subst}
 use Rattle.icu_cursor.specs.inner.MarkRuns.{Rises}
 use Rattle.icu_cursor.proofs.StandLemmas.{nothing_rises}
 use Rattle.icu_cursor.proofs.stands.ends_run.Goals as goal

@@ -1,8 +1,8 @@
-use Rattle.std.proofs.Common.{◌≡◌, ◌≢◌, ℕ, List, ◌∷◌, ◌≤◌, sym, subst, arith, rules}
+use Rattle.std.proofs.Common.{◌≡◌, ℕ, List, ◌∷◌, ◌≤◌, sym, subst, arith, rules}
 use Rattle.icu_collation_data.specs.StoredData.{found_context}
 use Rattle.icu_cursor.specs.Cursors.{cursor_reading}
 use Rattle.icu_cursor.specs.inner.Places.{MayBeCut}
-use Rattle.icu_cursor.specs.inner.Unjoined.{BeginsNone, IsFollower, IsHead, IsUnjoinedBefore}
+use Rattle.icu_cursor.specs.inner.Unjoined.{BeginsNone, IsHead, IsUnjoinedBefore}
 use Rattle.icu_cursor.proofs.UnjoinedLemmas.{ended_before, cut_before, starter_before, mark_before}
 use Rattle.icu_cursor.proofs.unjoined.joins_none.Goals as goal
 

@@ -7,4 +7,4 @@ use Rattle.icu_cursor.proofs.unjoined.joins_none.Given as goal
 abbrev pub invariant-marks : goal.invariant-marks
 invariant-marks g l =
     IsUnjoinedBefore (cursor_reading l.fn.tables) (found_context l.fn.context) l.last (g.T.EncodedText.text l.rest)
-    → IsUnjoinedBefore (cursor_reading l.fn.tables) (found_context l.fn.context) 0 (g.T.EncodedText.text l.fn.text)
+    → IsUnjoinedBefore (cursor_reading l.fn.tables) (found_context l.fn.context) l.fn.least (g.T.EncodedText.text l.fn.text)

@@ -12,7 +12,7 @@ returns-then-stands_alone-clause-elements g c =
     let reading : Reading = reading_of c.args.reading in
     let now : List ℕ = recent_chars c.push_with.new.self in
     ap₂ (λ (es : List Element) (t : List ℕ). es ++ elements_after reading now t)
-    (c.lone_digit.ensures ∙ ap (λ d. number_elements c.args.lead (d ∷ [])) c.decimal_digit-digit.ensures.value) c.if-stands_alone.ensures.unread
+    (c.lone_digit-given.ensures ∙ ap (λ d. number_elements c.args.lead (d ∷ [])) c.decimal_digit-digit.ensures.value) c.if-stands_alone.ensures.unread
     ∙ lone_number reading c.args.lead c.args.c c.args.matched.now.ce32 (recent_chars c.args.at.now.recent) now c.args.matched.now.suffix.now
     (g.X.TextForMatches.unread c.args.at.now.text) (sym c.if-stands_alone.ensures.alone) c.push_with.ensures
 
@@ -20,7 +20,7 @@ pub returns-clause-elements : goal.returns-clause-elements
 returns-clause-elements g c =
     let reading : Reading = reading_of c.args.reading in
     let now : List ℕ = recent_chars c.push_with.new.self in
-    c.read_number.ensures.elements
+    c.read_number-given.ensures.elements
     ∙ ap₂ (λ (d : ℕ) (t : List ℕ). run_elements reading c.args.lead (d ∷ []) now t) c.decimal_digit-digit.ensures.value c.if-stands_alone.ensures.unread
     ∙ begun_run reading c.args.lead c.args.c c.args.matched.now.ce32 (recent_chars c.args.at.now.recent) now c.args.matched.now.suffix.now
     (g.X.TextForMatches.unread c.args.at.now.text) (sym c.if-stands_alone.ensures.alone) c.push_with.ensures

@@ -88,8 +88,8 @@ returns-in_default-takes-clause-bytes g c =
     let owes = subst (λ (l : List HandledElement). Owes g.S.CollationKeySink.effects c.args.sink.now c.args.state.now (key_bytes k f (level_lists k.reorder f (g.H.HandledSource.handled_left c.args.elements.now) c.args.characters.now)) (common_rest k c.args.tertiary f.identical c.counting.commons c.args.characters.now l) c.counting.sink c.counting.state) opened c.counting.invariant.owes in
     let same : g.C.PrimaryCompression.compression c.next_expected.new.compression ≡ k = c.in_ok-next.ensures.compression ∙ c.counting.invariant.known in
     let now : Compression = g.C.PrimaryCompression.compression c.next_expected.new.compression in
-    let written = subst (λ (l : List ℕ). KeyWrites g.S.CollationKeySink.effects c.counting.sink c.counting.state l c.write_from.result c.write_from.new.sink c.write_from.new.state)
-    (c.with_levels-begun.ensures.goes_on c.args.tertiary c.requires.form now c.args.characters.now hs) c.write_from.ensures.bytes in
+    let identical : c.form-identical.result.identical ≡ f.identical = ap (λ (m : KeyForm). m.identical) c.form-identical.ensures in
+    let written = subst (λ (i : Bool). KeyWrites g.S.CollationKeySink.effects c.counting.sink c.counting.state (common_rest now c.args.tertiary i c.counting.commons c.args.characters.now hs) c.write_from.result c.write_from.new.sink c.write_from.new.state) identical c.write_from.ensures.bytes in
     key_owed g.S.CollationKeySink.effects _ _ _ _ _ _ _ _ _ (λ y z t u b d. g.met.S.CollationKeySink.took_both _ y z _ t u b d c.requires.sound) owes
     (subst (λ (m : Compression). KeyWrites g.S.CollationKeySink.effects c.counting.sink c.counting.state (common_rest m c.args.tertiary f.identical c.counting.commons c.args.characters.now hs) c.write_from.result c.write_from.new.sink c.write_from.new.state) same written)
 
@@ -99,6 +99,6 @@ returns-clause-bytes g c =
     let f : KeyForm = g.F.WrittenForm.form_written c.args.form.now in
     let none : g.H.HandledSource.handled_left c.counting.elements ≡ [] = none_given _ (g.H.HandledSource.handled_left c.next_expected.new.elements) _ c.in_default.not-Some c.in_ok-next.ensures.next in
     let owes = subst (λ (l : List HandledElement). Owes g.S.CollationKeySink.effects c.args.sink.now c.args.state.now (key_bytes k f (level_lists k.reorder f (g.H.HandledSource.handled_left c.args.elements.now) c.args.characters.now)) (common_rest k c.args.tertiary f.identical c.counting.commons c.args.characters.now l) c.counting.sink c.counting.state) none c.counting.invariant.owes in
-    let identical : c.form.result.identical ≡ f.identical = ap (λ (m : KeyForm). m.identical) c.form.ensures in
+    let identical : c.form-identical.result.identical ≡ f.identical = ap (λ (m : KeyForm). m.identical) c.form-identical.ensures in
     key_owed g.S.CollationKeySink.effects _ _ _ _ _ _ _ _ _ (λ y z t u b d. g.met.S.CollationKeySink.took_both _ y z _ t u b d c.requires.sound) owes
     (subst (λ (i : Bool). KeyWrites g.S.CollationKeySink.effects c.counting.sink c.counting.state (common_rest k c.args.tertiary i c.counting.commons c.args.characters.now []) c.close.result c.close.new.sink c.close.new.state) identical (c.close.ensures.bytes k))

@@ -2,8 +2,5 @@
 use Rattle.std.proofs.Common.{rules}
 use Rattle.icu_cursor.proofs.cursor.ElementCursor.take_char.Goals as goal
 
-pub take_one-requires-clause-stands : goal.take_one-requires-clause-stands
-take_one-requires-clause-stands g c = c.stands_before.ensures c.args.c c.requires.facts (search rules)
-
-pub read_facts-requires-clause-stands : goal.read_facts-requires-clause-stands
-read_facts-requires-clause-stands g c = c.stands_before.ensures c.args.c c.requires.facts (search rules)
+pub take_alone-requires-clause-stands : goal.take_alone-requires-clause-stands
+take_alone-requires-clause-stands g c = c.stands_before.ensures c.args.c c.requires.facts (search rules)

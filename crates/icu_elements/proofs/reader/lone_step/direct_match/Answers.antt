@@ -3,7 +3,7 @@ use Rattle.icu_collation_data.specs.Data.{Mapping}
 use Rattle.icu_collation_data.specs.StoredData.{found_context}
 use Rattle.icu_matches.specs.Texts.{still_unread}
 use Rattle.icu_elements.specs.inner.ReadsAhead.{IsBegun}
-use Rattle.icu_elements.proofs.LoneStepLemmas.{direct_at_end, direct_behind, only_read, fits_inside}
+use Rattle.icu_elements.proofs.LoneStepLemmas.{direct_at_end, direct_apart, direct_behind, only_read, fits_inside}
 use Rattle.icu_elements.proofs.ReadsAheadLemmas.{ReadsTo-weaker}
 use Rattle.icu_elements.proofs.reader.lone_step.direct_match.Goals as goal
 
@@ -12,6 +12,13 @@ returns-then-is_empty-clause-text g c =
     let text = still_unread c.read_first.new.text in
     let none : text ≡ [] = search rules in
     direct_at_end g.I.Iterator.next_gives (found_context c.args.context) _ c.read_first.new.source c.read_first.new.source _ text text c.requires.ascending c.in_ok-read_first.ensures.text none
+
+pub returns-then-begins_apart-clause-text : goal.returns-then-begins_apart-clause-text
+returns-then-begins_apart-clause-text g c =
+    let text = still_unread c.read_first.new.text in
+    let apart = c.if-begins_apart.true in
+    direct_apart g.I.Iterator.next_gives (found_context c.args.context) _ c.read_first.new.source c.read_first.new.source _ text text c.in_ok-read_first.ensures.text
+    (c.begins_apart.ensures.starter apart) (c.begins_apart.ensures.decided apart)
 
 pub returns-in_default-clause-text : goal.returns-in_default-clause-text
 returns-in_default-clause-text g c = ReadsTo-weaker g.I.Iterator.next_gives _ IsBegun _ _ _ _ (λ _. tt) c.in_ok-read_first.ensures.text

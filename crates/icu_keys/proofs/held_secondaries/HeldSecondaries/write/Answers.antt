@@ -1,5 +1,9 @@
+use Rattle.std.proofs.Common.{ℕ, List, [], ◌++◌, replicate, sym}
 use Rattle.std.proofs.lemmas.Result.{err_from_is_err_and}
-use Rattle.icu_keys.proofs.Writing.{fails_front, writes_after}
+use Rattle.icu_levels.specs.Secondaries.{secondary_level}
+use Rattle.icu_levels.specs.declared.run_bytes.TheConstants.{SECONDARY_RUNS}
+use Rattle.icu_keys.specs.WriterRests.{secondary_rest}
+use Rattle.icu_keys.proofs.Writing.{fails_front, writes_after, writes_same}
 use Rattle.icu_keys.proofs.held_secondaries.HeldSecondaries.write.Goals as goal
 
 pub returns-in_err-write_to-clause-bytes : goal.returns-in_err-write_to-clause-bytes
@@ -9,6 +13,8 @@ returns-in_err-write_to-clause-bytes g c =
 
 pub returns-clause-bytes : goal.returns-clause-bytes
 returns-clause-bytes g c =
+    let ws : List ℕ = replicate c.args.self.now.commons SECONDARY_RUNS.common ++ [] in
     writes_after g.S.CollationKeySink.effects _ _ _ _ _ _ _ _ _
     (λ y z t u b d. g.met.S.CollationKeySink.took_both _ y z _ t u b d c.requires)
-    c.in_ok-write_to.ensures.bytes c.close_after.ensures.bytes
+    c.in_ok-write_to.ensures.bytes
+    (writes_same g.S.CollationKeySink.effects _ _ _ _ (secondary_level ws) (secondary_rest c.new.result ws) _ (sym (c.new.ensures ws)) c.close_after.ensures.bytes)

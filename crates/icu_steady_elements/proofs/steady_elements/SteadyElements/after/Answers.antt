@@ -1,7 +1,10 @@
-use Rattle.std.proofs.Common.{refl}
+use Rattle.icu_elements.specs.LastChars.{recent_chars}
+use Rattle.icu_elements.specs.Reading.{reading_of}
 use Rattle.icu_steady_elements.specs.SteadyElements.{elements_left}
+use Rattle.icu_steady_elements.proofs.SteadyStepLemmas.{between_steps}
 use Rattle.icu_steady_elements.proofs.steady_elements.SteadyElements.after.Goals as goal
 
 pub returns : goal.returns
 unfolding elements_left
-returns g c = refl
+returns g c =
+    between_steps (reading_of c.args.reading) c.none.result (recent_chars c.args.recent) (g.X.TextForMatches.unread c.args.text) c.none.ensures
