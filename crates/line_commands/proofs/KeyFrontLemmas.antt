@@ -6,8 +6,8 @@ use Rattle.icu_beginnings.specs.KeyBeginnings.{AreBytes}
 use Rattle.icu_keyed_names.specs.inner.NameEntries.{gathered, prefix_of}
 use Rattle.icu_keys.specs.Sinks.{TakesBeginning}
 use Rattle.icu_keys.specs.Writes.{WriteFails}
-use Rattle.line_commands.specs.declared.key_front.Full.{Full}
-use Rattle.line_commands.specs.declared.key_front.KeyFront.{KeyFront}
+use Rattle.line_commands.specs.declared.line_front.Full.{Full}
+use Rattle.line_commands.specs.declared.line_front.KeyFront.{KeyFront}
 use Rattle.line_commands.specs.inner.KeyFronts.{IsFrontOf, front_bytes, front_effects}
 
 -- no more than the first eight count

@@ -4,7 +4,7 @@
 pub mod disorder;
 mod front_counts;
 pub mod input;
-mod key_front;
+mod line_front;
 pub mod line_keys_text;
 pub mod printing;
 mod sort_keys;

@@ -11,7 +11,7 @@ ghost use Rattle.line_commands.specs.inner.KeyFronts.{HaveFronts};
 ghost use Rattle.line_commands.specs.inner.ShortKeys.{OrderAlike, short_key};
 
 use crate::front_counts::FrontCounts;
-use crate::key_front::line_front;
+use crate::line_front::line_front;
 use crate::sorted_lines::write_line_key;
 use icu_collator::CollatorBorrowed;
 use keyed_lines::LineKeys;
@@ -85,8 +85,8 @@ fn line_fronts(
     collator: &CollatorBorrowed<'_>,
     lines: &[&[u8]],
 ) -> Result<Vec<u64>, AllocError>
-    ensures { IfOk result (λ fronts.
-        HaveFronts (key_of_line (collation_borrowed collator.now)) (shown_lines lines.now) fronts.items) }
+    ensures { IfOk result (λ fronts. HaveFronts (key_of_line (collation_borrowed collator.now))
+        (shown_lines lines.now) fronts.items) }
 {
     let mut fronts = Vec::with_capacity(alloc, lines.len())?;
     for line in lines {
@@ -104,7 +104,8 @@ fn short_keys(
     fronts: &[u64],
     lines: &[&[u8]],
 ) -> Result<LineKeys, AllocError>
-    requires { HaveFronts (key_of_line (collation_borrowed collator.now)) (shown_lines lines.now) fronts.now }
+    requires { HaveFronts (key_of_line (collation_borrowed collator.now))
+        (shown_lines lines.now) fronts.now }
     ensures { IfOk result (λ keys. keys_in keys
         ≡ map (λ line. short_key counts.now (key_of_line (collation_borrowed collator.now) line))
         (shown_lines lines.now)) }
@@ -112,7 +113,14 @@ fn short_keys(
     let mut bytes = Vec::new(alloc);
     let mut ends = Vec::with_capacity(alloc, lines.len())?;
     for index in 0..lines.len() {
-        push_short_key(collator, counts, fronts[index], lines[index], &mut bytes, &mut ends)?;
+        push_short_key(
+            collator,
+            counts,
+            fronts[index],
+            lines[index],
+            &mut bytes,
+            &mut ends,
+        )?;
     }
     Ok(LineKeys::of(alloc, bytes, ends))
 }
@@ -130,7 +138,7 @@ fn seem_apart(
     if step < 4 {
         return Ok(false);
     }
-    let mut fronts = Vec::with_capacity(alloc, SAMPLE)?;
+    let mut fronts = Vec::new(alloc);
     let mut index: usize = 0;
     for _ in 0..SAMPLE {
         if let Some(line) = lines.get(index) {

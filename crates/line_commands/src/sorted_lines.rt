@@ -8,8 +8,8 @@ ghost use Rattle.keyed_lines.specs.ShownLines.{shown_lines};
 ghost use Rattle.line_commands.specs.LineOrders.{key_of_line};
 ghost use Rattle.line_commands.specs.SortedInputs.{SortsInput};
 
-use icu_collator::{Collator, CollatorBorrowed};
 use crate::sort_keys::keys_for_sort;
+use icu_collator::{Collator, CollatorBorrowed};
 use keyed_lines::{SortRequest, lines_by, text_by_keys};
 use std::alloc::{AllocError, Global};
 

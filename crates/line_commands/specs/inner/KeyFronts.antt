@@ -4,8 +4,8 @@ use Rattle.std.specs.List.{AllByRecursion}
 use Rattle.icu_beginnings.specs.KeyBeginnings.{AreBytes}
 use Rattle.icu_keyed_names.specs.inner.NameEntries.{prefix_of}
 use Rattle.icu_keys.specs.Sinks.{SinkEffects, TakesBeginning}
-use Rattle.line_commands.specs.declared.key_front.Full.{Full}
-use Rattle.line_commands.specs.declared.key_front.KeyFront.{KeyFront}
+use Rattle.line_commands.specs.declared.line_front.Full.{Full}
+use Rattle.line_commands.specs.declared.line_front.KeyFront.{KeyFront}
 
 -- the bytes that were taken
 abbrev pub front_bytes : KeyFront → List ℕ

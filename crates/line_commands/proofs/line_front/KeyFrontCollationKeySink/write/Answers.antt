@@ -3,7 +3,7 @@ use Rattle.std.proofs.Common.{take, drop, ap, sym, ◌∙◌}
 use Rattle.std.proofs.lemmas.List.{take-append-drop}
 use Rattle.std.proofs.lemmas.Result.{err_from_is_err_and}
 use Rattle.line_commands.specs.inner.KeyFronts.{front_bytes}
-use Rattle.line_commands.proofs.key_front.KeyFrontCollationKeySink.write.Goals as goal
+use Rattle.line_commands.proofs.line_front.KeyFrontCollationKeySink.write.Goals as goal
 
 pub returns-in_err-push-clause-outcome : goal.returns-in_err-push-clause-outcome
 returns-in_err-push-clause-outcome c =

@@ -1,7 +1,7 @@
 -- The bytes that were gone through were taken.
 use Rattle.std.proofs.Common.{◌≡◌, ◌++◌, take}
 use Rattle.line_commands.specs.inner.KeyFronts.{front_bytes}
-use Rattle.line_commands.proofs.key_front.KeyFrontCollationKeySink.write.Given as goal
+use Rattle.line_commands.proofs.line_front.KeyFrontCollationKeySink.write.Given as goal
 
 abbrev pub invariant-loop-byte : goal.invariant-loop-byte
 invariant-loop-byte l = record {

@@ -1,7 +1,7 @@
 -- What was taken is the first eight bytes of the key.
 use Rattle.std.proofs.Common.{ap, ◌∙◌}
 use Rattle.line_commands.proofs.KeyFrontLemmas.{refused_taken, whole_taken}
-use Rattle.line_commands.proofs.key_front.line_front.Goals as goal
+use Rattle.line_commands.proofs.line_front.line_front.Goals as goal
 
 pub returns-in-Ok : goal.returns-in-Ok
 returns-in-Ok c =
