@@ -3,7 +3,7 @@ use Rattle.std.proofs.Common.{◌≡◌, ℕ, ◌+◌, ◌<◌, ◌≤◌, ◌�
 use Rattle.std.proofs.lemmas.Bool.{cases_lt}
 use Rattle.std.proofs.lemmas.Bool.Decides.{nat_tests}
 use Rattle.line_commands.specs.declared.front_counts.FrontCounts.{FrontCounts}
-use Rattle.line_commands.specs.inner.FrontCounts.{Tells, is_shared, slot_count}
+use Rattle.line_commands.specs.inner.FrontCounts.{Tells, slot_count}
 
 -- the first so many of these numbers are counted
 pub record AreCounted (f : FrontCounts) (fronts : List ℕ) (k : ℕ) : Type 0 where

@@ -1,10 +1,9 @@
 -- A key of which the first eight bytes were taken.
-use Rattle.std.proofs.Common.{◌≡◌, ℕ, zero, suc, ◌+◌, ◌*◌, ◌≤◌, ◌⊎◌, inl, inr, List, [], ◌∷◌, ◌++◌, length, length-append, take, take_all, refl, sym, ap, ◌∙◌, arith, subst, append_assoc}
+use Rattle.std.proofs.Common.{◌≡◌, ℕ, zero, suc, ◌+◌, ◌*◌, ◌≤◌, ◌⊎◌, inl, inr, List, [], ◌∷◌, ◌++◌, length, take, take_all, refl, sym, ap, ◌∙◌, arith, subst, append_assoc}
 use Rattle.std.proofs.lemmas.List.{take-append-le}
-use Rattle.std.specs.Prelude.{Ok, Err}
+use Rattle.std.specs.Prelude.{Err}
 use Rattle.icu_beginnings.specs.KeyBeginnings.{AreBytes}
 use Rattle.icu_keyed_names.specs.inner.NameEntries.{gathered, prefix_of}
-use Rattle.icu_keys.specs.Sinks.{TakesBeginning}
 use Rattle.icu_keys.specs.Writes.{WriteFails}
 use Rattle.line_commands.specs.declared.line_front.Full.{Full}
 use Rattle.line_commands.specs.declared.line_front.KeyFront.{KeyFront}

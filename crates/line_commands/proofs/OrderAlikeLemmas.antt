@@ -1,14 +1,14 @@
 -- Lines that are sorted by keys which order them as others do are sorted by the others.
-use Rattle.std.proofs.Common.{◌≡◌, ℕ, zero, suc, ◌+◌, ◌<◌, Bool, true, false, List, [], ◌∷◌, get_or, length, map, if◌then◌else◌, refl, sym, ap, ◌∙◌, arith, subst}
+use Rattle.std.proofs.Common.{◌≡◌, ℕ, zero, suc, ◌<◌, Bool, true, false, List, [], ◌∷◌, get_or, length, map, if◌then◌else◌, refl, sym, ap, ◌∙◌, arith, subst}
 use Rattle.std.proofs.lemmas.Cmp.{nat_list_cmp_total, on_total}
 use Rattle.std.specs.List.{AllByRecursion}
-use Rattle.std.specs.List.Sorted.{IsPermutation, IsSorted, IsStable}
+use Rattle.std.specs.List.Sorted.{IsSorted, IsStable}
 use Rattle.std.specs.Ordering.{is_eq, ordering_then}
 use Rattle.std.specs.declared.cmp.Ordering.{Ordering}
 use Rattle.icu_levels.specs.ListOrder.{list_order}
 use Rattle.keyed_lines.proofs.LineOrderLemmas.{ordered_total}
 use Rattle.keyed_lines.proofs.MappedOrderLemmas.{all_in, all_still, ascends_mapped, stable_mapped}
-use Rattle.keyed_lines.specs.FirstLines.{firsts, firsts_behind, printed}
+use Rattle.keyed_lines.specs.FirstLines.{firsts_behind, printed}
 use Rattle.keyed_lines.specs.InputLines.{ended_lines}
 use Rattle.keyed_lines.specs.KeyedOrders.{directed, ordered_as, with_ties}
 use Rattle.keyed_lines.specs.SortedTexts.{SortsByKey, by_key}

@@ -1,5 +1,4 @@
 -- What was taken is the first eight bytes of the key.
-use Rattle.std.proofs.Common.{ap, ◌∙◌}
 use Rattle.line_commands.proofs.KeyFrontLemmas.{refused_taken, whole_taken}
 use Rattle.line_commands.proofs.line_front.line_front.Goals as goal
 

@@ -1,6 +1,6 @@
 -- The lines that were cut are sorted by their keys, which order as the lines do.
-use Rattle.std.proofs.Common.{◌≡◌, ℕ, List, map, ap, ◌∙◌, subst, sym}
-use Rattle.icu_collator.specs.Collators.{collation_borrowed, collation_kept}
+use Rattle.std.proofs.Common.{◌≡◌, ℕ, List, ap, ◌∙◌, subst, sym}
+use Rattle.icu_collator.specs.Collators.{collation_borrowed}
 use Rattle.keyed_lines.specs.InputLines.{lines_by}
 use Rattle.keyed_lines.specs.KeyBuffers.{keys_in}
 use Rattle.keyed_lines.specs.ShownLines.{shown_lines}
