@@ -75,8 +75,7 @@ impl<'d> TableCompression<'d> {
             tables: self.tables,
             first_asked: self.first_asked,
             last: lead,
-            is_last_compressible: lead >= self.first_asked
-                && self.tables.special_primaries().is_compressible(lead),
+            is_last_compressible: self.tables.special_primaries().is_compressible(lead),
         }
     }
 }
@@ -93,18 +92,18 @@ impl<'d> PrimaryCompression for TableCompression<'d> {
 
     #[inline(always)]
     fn is_compressible(&self, lead: u8) -> bool {
-        if lead == self.last {
-            return self.is_last_compressible;
-        }
         if lead < self.first_asked {
             return false;
+        }
+        if lead == self.last {
+            return self.is_last_compressible;
         }
         self.tables.special_primaries().is_compressible(lead)
     }
 
     #[inline(always)]
     fn expect(&mut self, lead: u8) {
-        if lead != self.last {
+        if lead >= self.first_asked && lead != self.last {
             *self = self.asked_of(lead);
         }
     }
