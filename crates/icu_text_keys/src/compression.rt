@@ -91,20 +91,13 @@ impl<'d> PrimaryCompression for TableCompression<'d> {
     }
 
     #[inline(always)]
-    fn is_compressible(&self, lead: u8) -> bool {
+    fn is_compressible(&mut self, lead: u8) -> bool {
         if lead < self.first_asked {
             return false;
         }
-        if lead == self.last {
-            return self.is_last_compressible;
-        }
-        self.tables.special_primaries().is_compressible(lead)
-    }
-
-    #[inline(always)]
-    fn expect(&mut self, lead: u8) {
-        if lead >= self.first_asked && lead != self.last {
+        if lead != self.last {
             *self = self.asked_of(lead);
         }
+        self.is_last_compressible
     }
 }
