@@ -69,7 +69,9 @@ impl<'d> TableCompression<'d> {
     /// This compression, once this lead was asked of.
     #[inline(always)]
     fn asked_of(self, lead: u8) -> TableCompression<'d>
-        ensures { table_compression result ≡ table_compression self.entry }
+        ensures compression { table_compression result ≡ table_compression self.entry }
+        ensures asked { result.last ≡ lead }
+        ensures tables { result.tables ≡ self.entry.tables }
     {
         TableCompression {
             tables: self.tables,

@@ -8,7 +8,9 @@ use icu_weighting::{Handled, HandledSource};
 
 /// The next element, with the error of a key.
 #[inline(always)]
-pub(crate) fn next_element<H: HandledSource, E>(elements: &mut H) -> Result<Option<Handled>, SortKeyError<E>>
+pub(crate) fn next_element<H: HandledSource, E>(
+    elements: &mut H,
+) -> Result<Option<Handled>, SortKeyError<E>>
     ensures next { IfOk result
         (λ next. GivesNext (H.handled_left elements.old) next (H.handled_left elements.new)) }
     ensures memory { IfErr result (λ error. error ≡ SortKeyError.NoMemory) }
