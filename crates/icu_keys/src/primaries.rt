@@ -18,13 +18,10 @@ pub trait PrimaryCompression: Copy {
         ensures { result ≡ (compression self.now).reorder primary };
 
     /// Whether weights of this lead, before reordering, drop their reordered lead where they stand one after another.
-    fn is_compressible(&self, lead: u8) -> bool
-        ensures { result ≡ (compression self.now).is_compressible lead };
-
-    /// Is told the lead of the next weight, before reordering. It may keep what `is_compressible` says of it, since
-    /// weights mostly have the lead of the weight before.
-    fn expect(&mut self, lead: u8)
-        ensures { compression self.new ≡ compression self.old };
+    /// It may keep the answer, since weights mostly have the lead of the weight before.
+    fn is_compressible(&mut self, lead: u8) -> bool
+        ensures answer { result ≡ (compression self.old).is_compressible lead }
+        ensures same { compression self.new ≡ compression self.old };
 }
 
 /// What a weight with another lead than the dropped one writes first: 03 before a lesser lead, FF before a greater one,
@@ -44,9 +41,10 @@ fn change_of_lead(dropped: u8, new: u8) -> Option<u8>
 /// The lead that is dropped after a weight, 0 for none. Whether it is compressible is asked of the lead before
 /// reordering.
 #[inline(always)]
-fn lead_to_drop<C: PrimaryCompression>(compression: &C, weight: u32, reordered: u32) -> u8
-    requires { reordered ≡ (C.compression compression.now).reorder weight }
-    ensures { result ≡ dropped_after (C.compression compression.now) weight }
+fn lead_to_drop<C: PrimaryCompression>(compression: &mut C, weight: u32, reordered: u32) -> u8
+    requires { reordered ≡ (C.compression compression.old).reorder weight }
+    ensures dropped { result ≡ dropped_after (C.compression compression.old) weight }
+    ensures compression { C.compression compression.new ≡ C.compression compression.old }
 {
     if compression.is_compressible((weight >> 24) as u8) {
         (reordered >> 24) as u8
@@ -122,14 +120,15 @@ impl PrimaryWriter {
         &mut self,
         sink: &mut S,
         state: &mut S::State,
-        compression: &C,
+        compression: &mut C,
         weight: u32,
     ) -> Result<(), S::Error>
         requires { S.is_sound sink.old state.old }
         ensures sound { S.is_sound sink.new state.new }
         ensures bytes { Feeds S.effects sink.old state.old
-            (λ ws. primary_rest (C.compression compression.now) self.old (weight ∷ ws))
-            (primary_rest (C.compression compression.now) self.new) result sink.new state.new }
+            (λ ws. primary_rest (C.compression compression.old) self.old (weight ∷ ws))
+            (primary_rest (C.compression compression.old) self.new) result sink.new state.new }
+        ensures compression { C.compression compression.new ≡ C.compression compression.old }
     {
         let dropped = self.dropped;
         let reordered = compression.reorder(weight);

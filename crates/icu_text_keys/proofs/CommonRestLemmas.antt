@@ -1,22 +1,19 @@
 -- Keys of three levels whose elements had common weights so far.
-use Rattle.std.proofs.Common.{◌≡◌, ℕ, suc, ◌+◌, Bool, true, false, List, [], ◌∷◌, ◌++◌, Some, refl, ap, ◌∙◌, append-nil, replicate, arith, sym, subst, Result}
+use Rattle.std.proofs.Common.{◌≡◌, ℕ, suc, ◌+◌, Bool, true, false, List, [], ◌∷◌, ◌++◌, refl, ap, ◌∙◌, append-nil, replicate, arith, sym, subst, Result}
 use Rattle.icu_levels.specs.Keys.{LevelPart, absent, closed, later_parts, parts_bytes}
 use Rattle.icu_levels.specs.Secondaries.{secondary_level}
 use Rattle.icu_levels.specs.Tertiaries.{tertiary_level, tertiary_runs}
 use Rattle.icu_levels.specs.declared.forms.TertiaryForm.{TertiaryForm}
-use Rattle.icu_levels.specs.declared.forms.SecondaryForm.TheVariants.{Forward}
 use Rattle.icu_entries.specs.Elements.{Element}
 use Rattle.icu_keys.specs.Sinks.{SinkEffects}
 use Rattle.icu_keys.specs.KeyWrites.{KeyWrites}
 use Rattle.icu_keys.specs.declared.error.SortKeyError.{SortKeyError}
-use Rattle.icu_keys.specs.HeldRests.{held_secondaries, held_tertiaries, held_tertiary_form}
 use Rattle.icu_weighting.specs.Handled.{HandledElement, stayed_elements}
 use Rattle.icu_weighting.specs.Levels.{level_lists, secondaries, tertiaries, weights}
-use Rattle.icu_text_keys.specs.LevelRests.{characters_left, counted_left, levels_after}
+use Rattle.icu_text_keys.specs.LevelRests.{characters_left}
 use Rattle.icu_text_keys.specs.CommonRests.{parts_after_commons}
 use Rattle.icu_text_keys.specs.UsualForms.{form_of_three}
-use Rattle.icu_text_keys.specs.declared.counted_levels.CountedLevels.{CountedLevels}
-use Rattle.icu_text_keys.proofs.CommonElementLemmas.{counted_some, common_tertiary, shifted, same_weights, with_common}
+use Rattle.icu_text_keys.proofs.CommonElementLemmas.{common_tertiary, shifted, same_weights, with_common}
 
 -- ---- none
 

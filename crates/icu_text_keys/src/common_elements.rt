@@ -137,7 +137,7 @@ impl CommonElements {
         &mut self,
         sink: &mut S,
         state: &mut S::State,
-        compression: &C,
+        compression: &mut C,
         element: CollationElement,
     ) -> Result<(), SortKeyError<S::Error>>
         requires sound { S.is_sound sink.old state.old }
@@ -146,10 +146,11 @@ impl CommonElements {
         ensures sound { S.is_sound sink.new state.new }
         ensures bytes { (t : TertiaryForm) (identical : Bool) (cs : List ℕ) →
             KeyFeeds S.effects sink.old state.old
-            (λ (hs : List HandledElement). common_rest (C.compression compression.now) t identical
+            (λ (hs : List HandledElement). common_rest (C.compression compression.old) t identical
             self.old cs (stayed element ∷ hs))
-            (common_rest (C.compression compression.now) t identical self.new cs)
+            (common_rest (C.compression compression.old) t identical self.new cs)
             result sink.new state.new }
+        ensures compression { C.compression compression.new ≡ C.compression compression.old }
     {
         if let Err(error) = push_primary(&mut self.primaries, sink, state, compression, element) {
             return Err(SortKeyError::Sink(error));
@@ -165,7 +166,7 @@ impl CommonElements {
         form: TertiaryForm,
         sink: &mut S,
         state: &mut S::State,
-        compression: &C,
+        compression: &mut C,
         levels: &mut TwoLevels,
         element: CollationElement,
     ) -> Result<(), SortKeyError<S::Error>>
@@ -175,10 +176,11 @@ impl CommonElements {
         ensures sound { S.is_sound sink.new state.new }
         ensures form { HasTertiaryForm form levels.new }
         ensures bytes { (identical : Bool) (cs : List ℕ) → KeyFeeds S.effects sink.old state.old
-            (λ (hs : List HandledElement). three_rest (C.compression compression.now) form identical
+            (λ (hs : List HandledElement). three_rest (C.compression compression.old) form identical
             self.old levels.old cs (stayed element ∷ hs))
-            (three_rest (C.compression compression.now) form identical self.new levels.new cs)
+            (three_rest (C.compression compression.old) form identical self.new levels.new cs)
             result sink.new state.new }
+        ensures compression { C.compression compression.new ≡ C.compression compression.old }
     {
         if let Err(error) = push_primary(&mut self.primaries, sink, state, compression, element) {
             return Err(SortKeyError::Sink(error));
@@ -195,7 +197,7 @@ impl CommonElements {
         form: TertiaryForm,
         sink: &mut S,
         state: &mut S::State,
-        compression: &C,
+        compression: &mut C,
         levels: &mut TwoLevels,
         element: Handled,
     ) -> Result<(), SortKeyError<S::Error>>
@@ -205,10 +207,11 @@ impl CommonElements {
         ensures sound { S.is_sound sink.new state.new }
         ensures form { HasTertiaryForm form levels.new }
         ensures bytes { (identical : Bool) (cs : List ℕ) → KeyFeeds S.effects sink.old state.old
-            (λ (hs : List HandledElement). three_rest (C.compression compression.now) form identical
+            (λ (hs : List HandledElement). three_rest (C.compression compression.old) form identical
             self.old levels.old cs (handled_as element ∷ hs))
-            (three_rest (C.compression compression.now) form identical self.new levels.new cs)
+            (three_rest (C.compression compression.old) form identical self.new levels.new cs)
             result sink.new state.new }
+        ensures compression { C.compression compression.new ≡ C.compression compression.old }
     {
         match element {
             Handled::Stayed(element) => self.push_stayed(

@@ -69,7 +69,9 @@ impl<'d> TableCompression<'d> {
     /// This compression, once this lead was asked of.
     #[inline(always)]
     fn asked_of(self, lead: u8) -> TableCompression<'d>
-        ensures { table_compression result ≡ table_compression self.entry }
+        ensures compression { table_compression result ≡ table_compression self.entry }
+        ensures asked { result.last ≡ lead }
+        ensures tables { result.tables ≡ self.entry.tables }
     {
         TableCompression {
             tables: self.tables,
@@ -91,20 +93,13 @@ impl<'d> PrimaryCompression for TableCompression<'d> {
     }
 
     #[inline(always)]
-    fn is_compressible(&self, lead: u8) -> bool {
+    fn is_compressible(&mut self, lead: u8) -> bool {
         if lead < self.first_asked {
             return false;
         }
-        if lead == self.last {
-            return self.is_last_compressible;
-        }
-        self.tables.special_primaries().is_compressible(lead)
-    }
-
-    #[inline(always)]
-    fn expect(&mut self, lead: u8) {
-        if lead >= self.first_asked && lead != self.last {
+        if lead != self.last {
             *self = self.asked_of(lead);
         }
+        self.is_last_compressible
     }
 }

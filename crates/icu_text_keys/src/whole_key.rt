@@ -13,7 +13,7 @@ ghost use Rattle.icu_text_keys.specs.UsualForms.{form_of, form_of_three};
 
 use crate::common_elements::CommonElements;
 use crate::level_pair::TwoLevels;
-use crate::next_element::next_expected;
+use crate::next_element::next_element;
 use crate::usual_forms::{UsualForm, tertiary_of_three, usual_form};
 use crate::writer::KeyWriter;
 use crate::written_form::{
@@ -47,7 +47,7 @@ fn write_elements<F: WrittenForm, S: CollationKeySink, C: PrimaryCompression, H:
         characters.now (H.handled_left elements.old))
         result sink.new state.new }
 {
-    'writing: while let Some(element) = next_expected(elements, compression)? {
+    'writing: while let Some(element) = next_element(elements)? {
         writer.push(form, sink, state, compression, element)?;
     }
     writer.close(form, sink, state, characters)
@@ -75,7 +75,7 @@ fn write_held<S: CollationKeySink, C: PrimaryCompression, H: HandledSource>(
         characters.now (H.handled_left elements.old))
         result sink.new state.new }
 {
-    'writing: while let Some(element) = next_expected(elements, compression)? {
+    'writing: while let Some(element) = next_element(elements)? {
         commons.push_handled(form, sink, state, compression, levels, element)?;
     }
     commons.close_held(form, identical, sink, state, levels, characters)
@@ -146,7 +146,7 @@ fn write_three_levels<F: WrittenForm, S: CollationKeySink, C: PrimaryCompression
 {
     let identical = form.form().identical;
     let mut commons = CommonElements::new();
-    'counting: while let Some(next) = next_expected(elements, compression)? {
+    'counting: while let Some(next) = next_element(elements)? {
         let Some(element) = commons.takes(&next) else {
             return write_from(
                 alloc,

@@ -26,16 +26,17 @@ pub(crate) fn push_primary<S: CollationKeySink, C: PrimaryCompression>(
     writer: &mut PrimaryWriter,
     sink: &mut S,
     state: &mut S::State,
-    compression: &C,
+    compression: &mut C,
     element: CollationElement,
 ) -> Result<(), S::Error>
     requires { S.is_sound sink.old state.old }
     ensures sound { S.is_sound sink.new state.new }
     ensures bytes { Feeds S.effects sink.old state.old
-        (λ (es : List Element). primary_rest (C.compression compression.now) writer.old
+        (λ (es : List Element). primary_rest (C.compression compression.old) writer.old
         (primaries (element ∷ es)))
-        (λ es. primary_rest (C.compression compression.now) writer.new (primaries es))
+        (λ es. primary_rest (C.compression compression.old) writer.new (primaries es))
         result sink.new state.new }
+    ensures compression { C.compression compression.new ≡ C.compression compression.old }
 {
     let weight = element.primary();
     if weight == 0 {
@@ -79,7 +80,7 @@ impl KeyWriter {
         form: &F,
         sink: &mut S,
         state: &mut S::State,
-        compression: &C,
+        compression: &mut C,
         element: CollationElement,
     ) -> Result<(), SortKeyError<S::Error>>
         requires sound { S.is_sound sink.old state.old }
@@ -87,10 +88,11 @@ impl KeyWriter {
         requires case { element.lower < 0xC000 }
         ensures sound { S.is_sound sink.new state.new }
         ensures form { HasForm (F.form_written form.now) self.new.levels }
-        ensures bytes { let c = C.compression compression.now in let f = F.form_written form.now in
+        ensures bytes { let c = C.compression compression.old in let f = F.form_written form.now in
             (cs : List ℕ) → KeyFeeds S.effects sink.old state.old
             (λ (hs : List HandledElement). key_rest c f self.old cs (stayed element ∷ hs))
             (key_rest c f self.new cs) result sink.new state.new }
+        ensures compression { C.compression compression.new ≡ C.compression compression.old }
     {
         if let Err(error) = push_primary(&mut self.primaries, sink, state, compression, element) {
             return Err(SortKeyError::Sink(error));
@@ -130,7 +132,7 @@ impl KeyWriter {
         form: &F,
         sink: &mut S,
         state: &mut S::State,
-        compression: &C,
+        compression: &mut C,
         element: Handled,
     ) -> Result<(), SortKeyError<S::Error>>
         requires sound { S.is_sound sink.old state.old }
@@ -138,10 +140,11 @@ impl KeyWriter {
         requires case { HasCase (handled_as element) }
         ensures sound { S.is_sound sink.new state.new }
         ensures form { HasForm (F.form_written form.now) self.new.levels }
-        ensures bytes { let c = C.compression compression.now in let f = F.form_written form.now in
+        ensures bytes { let c = C.compression compression.old in let f = F.form_written form.now in
             (cs : List ℕ) → KeyFeeds S.effects sink.old state.old
             (λ (hs : List HandledElement). key_rest c f self.old cs (handled_as element ∷ hs))
             (key_rest c f self.new cs) result sink.new state.new }
+        ensures compression { C.compression compression.new ≡ C.compression compression.old }
     {
         match element {
             Handled::Stayed(element) => self.push_stayed(form, sink, state, compression, element),

@@ -32,7 +32,7 @@ fn short_front(key: &[u8]) -> u64
 }
 
 /// The first eight bytes of a key as a number, the first one highest; a key that is shorter is filled up with zeros.
-pub(crate) fn key_front(key: &[u8]) -> u64
+pub fn key_front(key: &[u8]) -> u64
     ensures front { result ≡ prefix_of key.now }
     ensures bytes { AreBytes key.now }
 {

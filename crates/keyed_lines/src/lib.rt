@@ -2,7 +2,7 @@
 #![tactic(auto)]
 
 pub mod input_lines;
-mod key_front;
+pub mod key_front;
 mod keyed_lines;
 pub mod keyed_text;
 pub mod line_keys;

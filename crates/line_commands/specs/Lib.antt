@@ -8,3 +8,4 @@ pub mod LineKeyTexts
 pub mod LineOrders
 pub mod Printed
 pub mod SortedInputs
+pub mod inner

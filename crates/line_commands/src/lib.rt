@@ -2,9 +2,12 @@
 #![tactic(auto)]
 
 pub mod disorder;
+mod front_counts;
 pub mod input;
+mod line_front;
 pub mod line_keys_text;
 pub mod printing;
+mod sort_keys;
 pub mod sorted_lines;
 
 pub use disorder::{disorder_text, first_disorder};

@@ -8,8 +8,9 @@ ghost use Rattle.keyed_lines.specs.ShownLines.{shown_lines};
 ghost use Rattle.line_commands.specs.LineOrders.{key_of_line};
 ghost use Rattle.line_commands.specs.SortedInputs.{SortsInput};
 
+use crate::sort_keys::keys_for_sort;
 use icu_collator::{Collator, CollatorBorrowed};
-use keyed_lines::{LineKeys, SortRequest, lines_by, text_by_keys};
+use keyed_lines::{SortRequest, lines_by, text_by_keys};
 use std::alloc::{AllocError, Global};
 
 /// Writes the sort key of a line, in UTF-8 that may be damaged, behind other bytes.
@@ -31,42 +32,6 @@ pub fn write_line_key(
     }
 }
 
-/// Writes the sort key of a line behind those in a buffer, and notes where it ends.
-fn push_line_key(
-    collator: &CollatorBorrowed<'_>,
-    line: &[u8],
-    bytes: &mut Vec<u8>,
-    ends: &mut Vec<usize>,
-) -> Result<(), AllocError>
-    requires { ascends_to 0 ends.old.items (length bytes.old.items) ≡ true }
-    ensures ends { OnOk result (ascends_to 0 ends.new.items (length bytes.new.items) ≡ true) }
-    ensures keys { OnOk result (keys_cut 0 ends.new.items bytes.new.items
-        ≡ keys_cut 0 ends.old.items bytes.old.items
-        ++ key_of_line (collation_borrowed collator.now) line.now ∷ []) }
-{
-    write_line_key(collator, line, bytes)?;
-    let end = bytes.len();
-    ends.push(end)?;
-    Ok(())
-}
-
-/// The sort keys of lines.
-fn keys_of_lines(
-    alloc: Global,
-    collator: &CollatorBorrowed<'_>,
-    lines: &[&[u8]],
-) -> Result<LineKeys, AllocError>
-    ensures { IfOk result (λ keys. keys_in keys
-        ≡ map (key_of_line (collation_borrowed collator.now)) (shown_lines lines.now)) }
-{
-    let mut bytes = Vec::new(alloc);
-    let mut ends = Vec::with_capacity(alloc, lines.len())?;
-    for line in lines {
-        push_line_key(collator, line, &mut bytes, &mut ends)?;
-    }
-    Ok(LineKeys::of(alloc, bytes, ends))
-}
-
 /// The lines of a text in order, as they are to be printed.
 ///
 /// # Errors
@@ -84,7 +49,7 @@ pub fn sorted_text(
     let collator = collator.as_borrowed();
     collator.has_well_formed_tables();
     let lines = lines_by(alloc, bytes, request.separator)?;
-    let keys = keys_of_lines(alloc, &collator, lines.as_slice())?;
+    let keys = keys_for_sort(alloc, &collator, lines.as_slice())?;
     let text = text_by_keys(alloc, &keys, lines.as_slice(), request)?;
     Ok(text)
 }

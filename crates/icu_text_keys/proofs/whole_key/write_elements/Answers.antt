@@ -22,17 +22,17 @@ pub writing-preserved : goal.writing-preserved
 writing-preserved g c =
     let compression : Compression = g.C.PrimaryCompression.compression c.args.compression.now in
     let x : Handled = c.in-Some.element in
-    let rest : List HandledElement = g.H.HandledSource.handled_left c.next_expected.new.elements in
+    let rest : List HandledElement = g.H.HandledSource.handled_left c.next_element.new.elements in
     let opened : g.H.HandledSource.handled_left c.writing.elements ≡ handled_as x ∷ rest = one_given _ rest _ x c.in-Some.is c.in_ok-element.ensures.next in
     let owes = subst (λ (l : List HandledElement). Owes g.S.CollationKeySink.effects c.args.sink.now c.args.state.now (key_rest compression (g.F.WrittenForm.form_written c.args.form.now) c.args.writer.now c.args.characters.now (g.H.HandledSource.handled_left c.args.elements.now)) (key_rest compression (g.F.WrittenForm.form_written c.args.form.now) c.writing.writer c.args.characters.now l) c.writing.sink c.writing.state) opened c.writing.invariant.owes in
     let cases = subst (λ (l : List HandledElement). AllByRecursion HasCase l) opened c.writing.invariant.cases in
-    let same : g.C.PrimaryCompression.compression c.next_expected.new.compression ≡ compression = c.in_ok-element.ensures.compression ∙ c.writing.invariant.known in
+    let same : g.C.PrimaryCompression.compression c.writing.compression ≡ compression = c.writing.invariant.known in
     let before : Compression → List HandledElement → List ℕ = λ k hs. key_rest k (g.F.WrittenForm.form_written c.args.form.now) c.writing.writer c.args.characters.now (handled_as x ∷ hs) in
     let after : Compression → List HandledElement → List ℕ = λ k. key_rest k (g.F.WrittenForm.form_written c.args.form.now) c.push.new.self c.args.characters.now in
     let fed : Brings g.S.CollationKeySink.effects c.writing.sink c.writing.state (before compression) (after compression) c.push.new.sink c.push.new.state =
     subst (λ (k : Compression). Brings g.S.CollationKeySink.effects c.writing.sink c.writing.state (before k) (after k) c.push.new.sink c.push.new.state) same (c.in_ok-push.ensures.bytes c.args.characters.now) in
     record {
-      known = same;
+      known = c.in_ok-push.ensures.compression ∙ same;
       sound = c.in_ok-push.ensures.sound;
       form = c.in_ok-push.ensures.form;
       cases = cases.1;
@@ -45,10 +45,10 @@ returns-in_err-push-clause-bytes g c =
     let p = err_from_is_err_and c.from_residual-in_err-push.result c.from_residual-in_err-push.ensures.1 in
     let compression : Compression = g.C.PrimaryCompression.compression c.args.compression.now in
     let x : Handled = c.in-Some.element in
-    let rest : List HandledElement = g.H.HandledSource.handled_left c.next_expected.new.elements in
+    let rest : List HandledElement = g.H.HandledSource.handled_left c.next_element.new.elements in
     let opened : g.H.HandledSource.handled_left c.writing.elements ≡ handled_as x ∷ rest = one_given _ rest _ x c.in-Some.is c.in_ok-element.ensures.next in
     let owes = subst (λ (l : List HandledElement). Owes g.S.CollationKeySink.effects c.args.sink.now c.args.state.now (key_rest compression (g.F.WrittenForm.form_written c.args.form.now) c.args.writer.now c.args.characters.now (g.H.HandledSource.handled_left c.args.elements.now)) (key_rest compression (g.F.WrittenForm.form_written c.args.form.now) c.writing.writer c.args.characters.now l) c.writing.sink c.writing.state) opened c.writing.invariant.owes in
-    let same : g.C.PrimaryCompression.compression c.next_expected.new.compression ≡ compression = c.in_ok-element.ensures.compression ∙ c.writing.invariant.known in
+    let same : g.C.PrimaryCompression.compression c.writing.compression ≡ compression = c.writing.invariant.known in
     let before : Compression → List HandledElement → List ℕ = λ k hs. key_rest k (g.F.WrittenForm.form_written c.args.form.now) c.writing.writer c.args.characters.now (handled_as x ∷ hs) in
     let after : Compression → List HandledElement → List ℕ = λ k. key_rest k (g.F.WrittenForm.form_written c.args.form.now) c.push.new.self c.args.characters.now in
     let fed : KeyFeeds g.S.CollationKeySink.effects c.writing.sink c.writing.state (before compression) (after compression) (Err c.in_err-push.field-0.0) c.push.new.sink c.push.new.state =
@@ -60,7 +60,7 @@ returns-in_err-push-clause-bytes g c =
 pub returns-clause-bytes : goal.returns-clause-bytes
 returns-clause-bytes g c =
     let compression : Compression = g.C.PrimaryCompression.compression c.args.compression.now in
-    let none : g.H.HandledSource.handled_left c.writing.elements ≡ [] = none_given _ (g.H.HandledSource.handled_left c.next_expected.new.elements) _ c.in_default.not-Some c.in_ok-element.ensures.next in
+    let none : g.H.HandledSource.handled_left c.writing.elements ≡ [] = none_given _ (g.H.HandledSource.handled_left c.next_element.new.elements) _ c.in_default.not-Some c.in_ok-element.ensures.next in
     let owes = subst (λ (l : List HandledElement). Owes g.S.CollationKeySink.effects c.args.sink.now c.args.state.now (key_rest compression (g.F.WrittenForm.form_written c.args.form.now) c.args.writer.now c.args.characters.now (g.H.HandledSource.handled_left c.args.elements.now)) (key_rest compression (g.F.WrittenForm.form_written c.args.form.now) c.writing.writer c.args.characters.now l) c.writing.sink c.writing.state) none c.writing.invariant.owes in
     key_owed g.S.CollationKeySink.effects _ _ _ _ _ _ _ _ _
     (λ y z t u b d. g.met.S.CollationKeySink.took_both _ y z _ t u b d c.requires.sound) owes (c.close.ensures.bytes compression)

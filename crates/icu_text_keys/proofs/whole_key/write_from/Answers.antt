@@ -36,4 +36,5 @@ returns-clause-bytes g c =
     (owes_fed g.S.CollationKeySink.effects _ _ _ _ _ _ _ (λ (hs : List HandledElement). three_rest k c.args.form c.args.identical c.args.begun l c.args.characters.now (handled_as c.args.element ∷ hs))
     (three_rest k c.args.form c.args.identical c.push_handled.new.self c.push_handled.new.levels c.args.characters.now) rest (λ y z t u b d. g.met.S.CollationKeySink.took_both _ y z _ t u b d c.requires.sound)
     (owes_all g.S.CollationKeySink.effects _ _ _ (g.met.S.CollationKeySink.took_nothing _ _ c.requires.sound)) (c.in_ok-push_handled.ensures.bytes c.args.identical c.args.characters.now))
-    c.write_held.ensures.bytes)
+    (subst (λ (m : Compression). KeyWrites g.S.CollationKeySink.effects c.push_handled.new.sink c.push_handled.new.state (three_rest m c.args.form c.args.identical c.push_handled.new.self c.push_handled.new.levels c.args.characters.now rest) c.write_held.result c.write_held.new.sink c.write_held.new.state)
+    c.in_ok-push_handled.ensures.compression c.write_held.ensures.bytes))

@@ -43,18 +43,18 @@ counting-preserved g c =
     let k : Compression = g.C.PrimaryCompression.compression c.args.compression.now in
     let f : KeyForm = g.F.WrittenForm.form_written c.args.form.now in
     let x : Element = c.in-Some-takes.element in
-    let rest : List HandledElement = g.H.HandledSource.handled_left c.next_expected.new.elements in
+    let rest : List HandledElement = g.H.HandledSource.handled_left c.next_element.new.elements in
     let opened : g.H.HandledSource.handled_left c.counting.elements ≡ stayed x ∷ rest =
     one_given _ rest _ c.in-Some.next c.in-Some.is c.in_ok-next.ensures.next ∙ ap (λ (h : HandledElement). h ∷ rest) c.in-Some-takes.ensures.stayed in
     let owes = subst (λ (l : List HandledElement). Owes g.S.CollationKeySink.effects c.args.sink.now c.args.state.now (key_bytes k f (level_lists k.reorder f (g.H.HandledSource.handled_left c.args.elements.now) c.args.characters.now)) (common_rest k c.args.tertiary f.identical c.counting.commons c.args.characters.now l) c.counting.sink c.counting.state) opened c.counting.invariant.owes in
     let cases = subst (λ (l : List HandledElement). AllByRecursion HasCase l) opened c.counting.invariant.cases in
-    let same : g.C.PrimaryCompression.compression c.next_expected.new.compression ≡ k = c.in_ok-next.ensures.compression ∙ c.counting.invariant.known in
+    let same : g.C.PrimaryCompression.compression c.counting.compression ≡ k = c.counting.invariant.known in
     let before : Compression → List HandledElement → List ℕ = λ m hs. common_rest m c.args.tertiary f.identical c.counting.commons c.args.characters.now (stayed x ∷ hs) in
     let after : Compression → List HandledElement → List ℕ = λ m. common_rest m c.args.tertiary f.identical c.push.new.self c.args.characters.now in
     let fed : Brings g.S.CollationKeySink.effects c.counting.sink c.counting.state (before k) (after k) c.push.new.sink c.push.new.state =
     subst (λ (m : Compression). Brings g.S.CollationKeySink.effects c.counting.sink c.counting.state (before m) (after m) c.push.new.sink c.push.new.state) same (c.in_ok-push.ensures.bytes c.args.tertiary f.identical c.args.characters.now) in
     record {
-      known = same;
+      known = c.in_ok-push.ensures.compression ∙ same;
       sound = c.in_ok-push.ensures.sound;
       cases = cases.1;
       owes = owes_fed g.S.CollationKeySink.effects _ _ _ _ _ _ _ (before k) (after k) rest (λ y z t u b d. g.met.S.CollationKeySink.took_both _ y z _ t u b d c.requires.sound) owes fed;
@@ -66,11 +66,11 @@ returns-in_err-push-clause-bytes g c =
     let k : Compression = g.C.PrimaryCompression.compression c.args.compression.now in
     let f : KeyForm = g.F.WrittenForm.form_written c.args.form.now in
     let x : Element = c.in-Some-takes.element in
-    let rest : List HandledElement = g.H.HandledSource.handled_left c.next_expected.new.elements in
+    let rest : List HandledElement = g.H.HandledSource.handled_left c.next_element.new.elements in
     let opened : g.H.HandledSource.handled_left c.counting.elements ≡ stayed x ∷ rest =
     one_given _ rest _ c.in-Some.next c.in-Some.is c.in_ok-next.ensures.next ∙ ap (λ (h : HandledElement). h ∷ rest) c.in-Some-takes.ensures.stayed in
     let owes = subst (λ (l : List HandledElement). Owes g.S.CollationKeySink.effects c.args.sink.now c.args.state.now (key_bytes k f (level_lists k.reorder f (g.H.HandledSource.handled_left c.args.elements.now) c.args.characters.now)) (common_rest k c.args.tertiary f.identical c.counting.commons c.args.characters.now l) c.counting.sink c.counting.state) opened c.counting.invariant.owes in
-    let same : g.C.PrimaryCompression.compression c.next_expected.new.compression ≡ k = c.in_ok-next.ensures.compression ∙ c.counting.invariant.known in
+    let same : g.C.PrimaryCompression.compression c.counting.compression ≡ k = c.counting.invariant.known in
     let before : Compression → List HandledElement → List ℕ = λ m hs. common_rest m c.args.tertiary f.identical c.counting.commons c.args.characters.now (stayed x ∷ hs) in
     let after : Compression → List HandledElement → List ℕ = λ m. common_rest m c.args.tertiary f.identical c.push.new.self c.args.characters.now in
     let fed : KeyFeeds g.S.CollationKeySink.effects c.counting.sink c.counting.state (before k) (after k) (Err c.in_err-push.field-0.0) c.push.new.sink c.push.new.state =
@@ -82,12 +82,12 @@ pub returns-in_default-takes-clause-bytes : goal.returns-in_default-takes-clause
 returns-in_default-takes-clause-bytes g c =
     let k : Compression = g.C.PrimaryCompression.compression c.args.compression.now in
     let f : KeyForm = g.F.WrittenForm.form_written c.args.form.now in
-    let rest : List HandledElement = g.H.HandledSource.handled_left c.next_expected.new.elements in
+    let rest : List HandledElement = g.H.HandledSource.handled_left c.next_element.new.elements in
     let hs : List HandledElement = handled_as c.in-Some.next ∷ rest in
     let opened : g.H.HandledSource.handled_left c.counting.elements ≡ hs = one_given _ rest _ c.in-Some.next c.in-Some.is c.in_ok-next.ensures.next in
     let owes = subst (λ (l : List HandledElement). Owes g.S.CollationKeySink.effects c.args.sink.now c.args.state.now (key_bytes k f (level_lists k.reorder f (g.H.HandledSource.handled_left c.args.elements.now) c.args.characters.now)) (common_rest k c.args.tertiary f.identical c.counting.commons c.args.characters.now l) c.counting.sink c.counting.state) opened c.counting.invariant.owes in
-    let same : g.C.PrimaryCompression.compression c.next_expected.new.compression ≡ k = c.in_ok-next.ensures.compression ∙ c.counting.invariant.known in
-    let now : Compression = g.C.PrimaryCompression.compression c.next_expected.new.compression in
+    let same : g.C.PrimaryCompression.compression c.counting.compression ≡ k = c.counting.invariant.known in
+    let now : Compression = g.C.PrimaryCompression.compression c.counting.compression in
     let identical : c.form-identical.result.identical ≡ f.identical = ap (λ (m : KeyForm). m.identical) c.form-identical.ensures in
     let written = subst (λ (i : Bool). KeyWrites g.S.CollationKeySink.effects c.counting.sink c.counting.state (common_rest now c.args.tertiary i c.counting.commons c.args.characters.now hs) c.write_from.result c.write_from.new.sink c.write_from.new.state) identical c.write_from.ensures.bytes in
     key_owed g.S.CollationKeySink.effects _ _ _ _ _ _ _ _ _ (λ y z t u b d. g.met.S.CollationKeySink.took_both _ y z _ t u b d c.requires.sound) owes
@@ -97,7 +97,7 @@ pub returns-clause-bytes : goal.returns-clause-bytes
 returns-clause-bytes g c =
     let k : Compression = g.C.PrimaryCompression.compression c.args.compression.now in
     let f : KeyForm = g.F.WrittenForm.form_written c.args.form.now in
-    let none : g.H.HandledSource.handled_left c.counting.elements ≡ [] = none_given _ (g.H.HandledSource.handled_left c.next_expected.new.elements) _ c.in_default.not-Some c.in_ok-next.ensures.next in
+    let none : g.H.HandledSource.handled_left c.counting.elements ≡ [] = none_given _ (g.H.HandledSource.handled_left c.next_element.new.elements) _ c.in_default.not-Some c.in_ok-next.ensures.next in
     let owes = subst (λ (l : List HandledElement). Owes g.S.CollationKeySink.effects c.args.sink.now c.args.state.now (key_bytes k f (level_lists k.reorder f (g.H.HandledSource.handled_left c.args.elements.now) c.args.characters.now)) (common_rest k c.args.tertiary f.identical c.counting.commons c.args.characters.now l) c.counting.sink c.counting.state) none c.counting.invariant.owes in
     let identical : c.form-identical.result.identical ≡ f.identical = ap (λ (m : KeyForm). m.identical) c.form-identical.ensures in
     key_owed g.S.CollationKeySink.effects _ _ _ _ _ _ _ _ _ (λ y z t u b d. g.met.S.CollationKeySink.took_both _ y z _ t u b d c.requires.sound) owes

@@ -1,13 +1,15 @@
 -- The lines that were cut are sorted by their keys, which order as the lines do.
-use Rattle.std.proofs.Common.{◌≡◌, ℕ, List, map, ap, ◌∙◌, subst, sym}
-use Rattle.icu_collator.specs.Collators.{collation_borrowed, collation_kept}
+use Rattle.std.proofs.Common.{◌≡◌, ℕ, List, ap, ◌∙◌, subst, sym}
+use Rattle.icu_collator.specs.Collators.{collation_borrowed}
 use Rattle.keyed_lines.specs.InputLines.{lines_by}
 use Rattle.keyed_lines.specs.KeyBuffers.{keys_in}
 use Rattle.keyed_lines.specs.ShownLines.{shown_lines}
 use Rattle.keyed_lines.specs.SortedTexts.{SortsByKey}
 use Rattle.line_commands.proofs.LineNameLemmas.{sorts_input}
+use Rattle.line_commands.proofs.OrderAlikeLemmas.{sorts_alike}
 use Rattle.line_commands.specs.LineOrders.{key_of_line}
 use Rattle.line_commands.specs.SortedInputs.{SortsInput}
+use Rattle.line_commands.specs.inner.ShortKeys.{OrderAlike}
 use Rattle.line_commands.proofs.sorted_lines.sorted_text.Goals as goal
 
 pub returns : goal.returns
@@ -17,8 +19,10 @@ returns c =
     let input = c.args.bytes.now in
     let text = c.in_ok-text.text.items in
     let cut : shown_lines c.as_slice-2.result.now ≡ lines_by r.separator input = ap shown_lines c.as_slice-2.ensures.value ∙ c.in_ok-lines.ensures in
-    let keyed : keys_in c.in_ok-keys.keys ≡ map key (shown_lines c.as_slice-2.result.now) =
-    c.in_ok-keys.ensures ∙ ap (λ ls. map key (shown_lines ls)) (c.as_slice.ensures.value ∙ sym c.as_slice-2.ensures.value) in
+    let lines : shown_lines c.as_slice.result.now ≡ shown_lines c.as_slice-2.result.now = ap shown_lines (c.as_slice.ensures.value ∙ sym c.as_slice-2.ensures.value) in
+    let alike : OrderAlike key (shown_lines c.as_slice-2.result.now) (keys_in c.in_ok-keys.keys) =
+    subst (λ ls. OrderAlike key ls (keys_in c.in_ok-keys.keys)) lines c.in_ok-keys.ensures in
     subst (λ k. SortsInput k r input text) c.as_borrowed-collator.ensures
     (sorts_input c.as_borrowed-collator.result c.has_well_formed_tables.ensures r input text
-    (subst (λ ls. SortsByKey key r ls text) cut (c.in_ok-text.ensures key keyed)))
+    (subst (λ ls. SortsByKey key r ls text) cut
+    (sorts_alike key (shown_lines c.as_slice-2.result.now) (keys_in c.in_ok-keys.keys) alike r text (c.in_ok-text.ensures alike.other alike.written))))

@@ -9,5 +9,5 @@ returns-clause-bytes g c =
     let d : ℕ = c.args.self.now.dropped in
     feeds_writes g.S.CollationKeySink.effects _ _ _ _ (primary_bytes d c.reorder-reordered.result) _ _ _
     (λ ws. sym (ap (λ r. primary_bytes d r ++ primary_level rules c.lead_to_drop-self.result ws) c.reorder-reordered.ensures
-    ∙ ap (λ n. primary_bytes d (rules.reorder c.args.weight) ++ primary_level rules n ws) c.lead_to_drop-self.ensures))
+    ∙ ap (λ n. primary_bytes d (rules.reorder c.args.weight) ++ primary_level rules n ws) c.lead_to_drop-self.ensures.dropped))
     c.write_primary.ensures.bytes

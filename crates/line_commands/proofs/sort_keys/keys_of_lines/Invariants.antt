@@ -5,7 +5,7 @@ use Rattle.keyed_lines.specs.KeyBuffers.{keys_cut}
 use Rattle.keyed_lines.specs.KeyParts.{ascends_to}
 use Rattle.keyed_lines.specs.ShownLines.{shown_lines}
 use Rattle.line_commands.specs.LineOrders.{key_of_line}
-use Rattle.line_commands.proofs.sorted_lines.keys_of_lines.Given as goal
+use Rattle.line_commands.proofs.sort_keys.keys_of_lines.Given as goal
 
 abbrev pub invariant-loop-line : goal.invariant-loop-line
 invariant-loop-line l = record {

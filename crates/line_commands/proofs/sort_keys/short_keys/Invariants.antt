@@ -1,0 +1,16 @@
+-- The lines that were gone through have their keys in the buffer.
+use Rattle.std.proofs.Common.{◌≡◌, length, map, take, true}
+use Rattle.icu_collator.specs.Collators.{collation_borrowed}
+use Rattle.keyed_lines.specs.KeyBuffers.{keys_cut}
+use Rattle.keyed_lines.specs.KeyParts.{ascends_to}
+use Rattle.keyed_lines.specs.ShownLines.{shown_lines}
+use Rattle.line_commands.specs.LineOrders.{key_of_line}
+use Rattle.line_commands.specs.inner.ShortKeys.{short_key}
+use Rattle.line_commands.proofs.sort_keys.short_keys.Given as goal
+
+abbrev pub invariant-loop-index : goal.invariant-loop-index
+invariant-loop-index l = record {
+  ends : ascends_to 0 l.ends.items (length l.bytes.items) ≡ true;
+  keys : keys_cut 0 l.ends.items l.bytes.items
+      ≡ map (λ line. short_key l.counts (key_of_line (collation_borrowed l.collator) line)) (shown_lines (take l.index l.lines));
+}
