@@ -17,7 +17,7 @@ use Rattle.std.specs.Prelude.{is_some, not, IfSome, IfNone, MatchOption}
 use Rattle.icu_elements.specs.declared.decomposed_source.DecomposedSource.{DecomposedSource}
 use Rattle.icu_elements.specs.declared.decomposed_source.held_chars.HeldChars.{HeldChars}
 use Rattle.icu_elements.specs.inner.HeldChars.{held_before, held_count, marks_count, PassesOn}
-use Rattle.icu_elements.specs.inner.Iterating.{StillSpells, StillReads, ReadsNext, GivesNext}
+use Rattle.icu_elements.specs.inner.Iterating.{StillSpells, StillReads, ReadsNext, GivesChar}
 use Rattle.icu_elements.proofs.HeldCharLemmas.{held_before-empty}
 
 -- a starter stays before what comes after it
@@ -67,16 +67,16 @@ module _ {I : Type 0} (steps : I → Option ℕ → I → Type 0) where
       record { unread = cs; spelled = spelled_by s cs running h; text = normalize-Nfd cs ∙ sym (held_before-empty s.held _ empty) }
 
   -- nothing is held, and the delegate has no more
-  pub GivesNext-none : (old new : DecomposedSource I) → ReadsNext steps None old new → held_count old.held ≡ 0 → held_count new.held ≡ 0 → GivesNext steps None old new
-  GivesNext-none old new reads empty still = λ cs h.
+  pub GivesChar-none : (old new : DecomposedSource I) → ReadsNext steps None old new → held_count old.held ≡ 0 → held_count new.held ≡ 0 → GivesChar steps None old new
+  GivesChar-none old new reads empty still = λ cs h.
       let none = reads h.unread h.spelled in (
         h.text ∙ ap (λ (l : List ℕ). held_before old.held (flat_map decompose_canonical l)) none.0 ∙ held_before-empty old.held [] empty ∙ canonical_order-nil,
         record { unread = []; spelled = none.1; text = sym (held_before-empty new.held [] still ∙ canonical_order-nil) },
       )
 
   -- nothing is held, and the delegate gave a starter that decomposes to itself
-  pub GivesNext-starter : (old new : DecomposedSource I) (c : ℕ) → ReadsNext steps (Some c) old new → held_count old.held ≡ 0 → held_count new.held ≡ 0 → is_starter c ≡ true → decompose_canonical c ≡ c ∷ [] → GivesNext steps (Some c) old new
-  GivesNext-starter old new c reads empty still starter itself = λ cs h.
+  pub GivesChar-starter : (old new : DecomposedSource I) (c : ℕ) → ReadsNext steps (Some c) old new → held_count old.held ≡ 0 → held_count new.held ≡ 0 → is_starter c ≡ true → decompose_canonical c ≡ c ∷ [] → GivesChar steps (Some c) old new
+  GivesChar-starter old new c reads empty still starter itself = λ cs h.
       let next = reads h.unread h.spelled in
       let later = flat_map decompose_canonical next.0 in (
         canonical_order later,
@@ -97,14 +97,14 @@ module _ {I : Type 0} (steps : I → Option ℕ → I → Type 0) where
       }
 
   -- one of those that are held was ready
-  pub GivesNext-ready : (old new : DecomposedSource I) (found : Option ℕ) → new.iter ≡ old.iter → new.is_done ≡ old.is_done → marks_count old.held < held_count old.held
-      → IfSome found (λ c. PassesOn old.held [] (c ∷ []) new.held) → IfNone found ((new.held ≡ old.held) × (held_count old.held ≡ marks_count old.held)) → GivesNext steps found old new
-  GivesNext-ready old new (Some c) iter done ready some none = λ cs h. (
+  pub GivesChar-ready : (old new : DecomposedSource I) (found : Option ℕ) → new.iter ≡ old.iter → new.is_done ≡ old.is_done → marks_count old.held < held_count old.held
+      → IfSome found (λ c. PassesOn old.held [] (c ∷ []) new.held) → IfNone found ((new.held ≡ old.held) × (held_count old.held ≡ marks_count old.held)) → GivesChar steps found old new
+  GivesChar-ready old new (Some c) iter done ready some none = λ cs h. (
     held_before new.held (flat_map decompose_canonical h.unread),
     h.text ∙ some.at (flat_map decompose_canonical h.unread),
     record { unread = h.unread; spelled = moved old new h.unread iter done h.spelled; text = refl },
   )
-  GivesNext-ready old new None iter done ready some none = absurd (omega arith)
+  GivesChar-ready old new None iter done ready some none = absurd (omega arith)
 
   last_of : (new : DecomposedSource I) (settled : HeldChars) (found : Option ℕ) (cs : List ℕ) → StillSpells steps new [] → cs ≡ held_before settled [] → marks_count settled ≡ 0
       → IfSome found (λ c. PassesOn settled [] (c ∷ []) new.held) → IfNone found ((new.held ≡ settled) × (held_count settled ≡ marks_count settled))
@@ -115,18 +115,18 @@ module _ {I : Type 0} (steps : I → Option ℕ → I → Type 0) where
       (left ∙ nothing, record { unread = []; spelled = spelled; text = sym (ap (λ (h : HeldChars). held_before h []) none.0 ∙ nothing) })
 
   -- the delegate had no more: those that are held were put in order, and the first of them taken, or none was there
-  pub GivesNext-last : (old mid new : DecomposedSource I) (settled : HeldChars) (found : Option ℕ) → ReadsNext steps None old mid → new.iter ≡ mid.iter → new.is_done ≡ mid.is_done
+  pub GivesChar-last : (old mid new : DecomposedSource I) (settled : HeldChars) (found : Option ℕ) → ReadsNext steps None old mid → new.iter ≡ mid.iter → new.is_done ≡ mid.is_done
       → held_before settled [] ≡ held_before old.held [] → marks_count settled ≡ 0
-      → IfSome found (λ c. PassesOn settled [] (c ∷ []) new.held) → IfNone found ((new.held ≡ settled) × (held_count settled ≡ marks_count settled)) → GivesNext steps found old new
-  GivesNext-last old mid new settled found reads iter done same ready some none = λ cs h.
+      → IfSome found (λ c. PassesOn settled [] (c ∷ []) new.held) → IfNone found ((new.held ≡ settled) × (held_count settled ≡ marks_count settled)) → GivesChar steps found old new
+  GivesChar-last old mid new settled found reads iter done same ready some none = λ cs h.
       let ended = reads h.unread h.spelled in
       let spelled = moved mid new [] iter done ended.1 in
       let left : cs ≡ held_before settled [] = h.text ∙ ap (λ (l : List ℕ). held_before old.held (flat_map decompose_canonical l)) ended.0 ∙ sym same in
       last_of new settled found cs spelled left ready some none
 
 -- what is given of what is left after more was read is given of what was left before
-pub GivesNext-then : {I : Type 0} (steps : I → Option ℕ → I → Type 0) (old mid new : DecomposedSource I) (found : Option ℕ) → ((cs : List ℕ) → StillReads steps old cs → StillReads steps mid cs) → GivesNext steps found mid new → GivesNext steps found old new
-GivesNext-then steps old mid new found same gives = λ cs h. gives cs (same cs h)
+pub GivesChar-then : {I : Type 0} (steps : I → Option ℕ → I → Type 0) (old mid new : DecomposedSource I) (found : Option ℕ) → ((cs : List ℕ) → StillReads steps old cs → StillReads steps mid cs) → GivesChar steps found mid new → GivesChar steps found old new
+GivesChar-then steps old mid new found same gives = λ cs h. gives cs (same cs h)
 
 -- a character of class 0 that passes the quick check is a starter that decomposes to itself
 pub decomposed_starter : (c : ℕ) → ccc c ≡ 0 → quick_check Nfd c ≡ Yes → (is_starter c ≡ true) × (decompose_canonical c ≡ c ∷ [])

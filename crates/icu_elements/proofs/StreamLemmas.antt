@@ -13,7 +13,7 @@ use Rattle.icu_elements.specs.ReadAhead.{IsEnough, HasWholeStep}
 use Rattle.icu_elements.specs.TextElements.{Reading, step, consumed, last_two, elements_after, elements_of}
 use Rattle.icu_elements.specs.inner.Positions.{consumed_last, unread_at, IsStep}
 use Rattle.icu_elements.specs.Reading.{reading_of}
-use Rattle.icu_elements.specs.inner.Iterating.{GivesNext, StillReads}
+use Rattle.icu_elements.specs.inner.Iterating.{GivesChar, StillReads}
 use Rattle.icu_elements.specs.inner.ReadyElements.{ready_elements}
 use Rattle.icu_elements.specs.inner.StepsTaken.{TakesChar, HasElementsAt, LooksAhead, TakesStepAt, StepsOrLooks}
 use Rattle.icu_elements.specs.inner.Streams.{elements_before, HasElements}
@@ -210,7 +210,7 @@ module _ {I : Type 0} (steps : I → Option ℕ → I → Type 0) (old new : Dec
       )
 
   -- its source gave its next
-  pub next_taken_off : (found : Option ℕ) → GivesNext steps found old new → TakesChar steps found old text new rest
+  pub next_taken_off : (found : Option ℕ) → GivesChar steps found old new → TakesChar steps found old text new rest
   next_taken_off None gives = none_taken_off gives
   next_taken_off (Some c) gives = one_taken_off c gives
 

@@ -24,7 +24,7 @@ pub(crate) struct DecomposedSource<I> {
 
 impl<I: Iterator<Item = char> + Drop> DecomposedSource<I> {
     ghost use Rattle.icu_elements.specs.inner.HeldChars.{held_count};
-    ghost use Rattle.icu_elements.specs.inner.Iterating.{StillReads, CanRead, GivesNext, ReadsNext, chars_in_source, reads_left};
+    ghost use Rattle.icu_elements.specs.inner.Iterating.{StillReads, CanRead, GivesChar, ReadsNext, chars_in_source, reads_left};
 
     /// Reads the text that an iterator spells. Does not allocate.
     pub(crate) fn new(alloc: Global, iter: I) -> DecomposedSource<I>
@@ -45,7 +45,7 @@ impl<I: Iterator<Item = char> + Drop> DecomposedSource<I> {
     pub(crate) fn next(&mut self) -> Result<Option<char>, AllocError>
         requires { CanRead I.can_next I.remaining self.old }
         ensures ready { OnOk result (CanRead I.can_next I.remaining self.new) }
-        ensures gives { IfOk result (λ found. GivesNext I.next_gives found self.old self.new) }
+        ensures gives { IfOk result (λ found. GivesChar I.next_gives found self.old self.new) }
         ensures size { OnOk result
             (chars_in_source I.remaining self.new ≤ chars_in_source I.remaining self.old) }
         ensures fewer { IfOk result (λ found. is_some found ≡ true
@@ -64,7 +64,7 @@ impl<I: Iterator<Item = char> + Drop> DecomposedSource<I> {
         requires can { CanRead I.can_next I.remaining self.old }
         requires empty { held_count self.old.held ≡ 0 }
         ensures ready { OnOk result (CanRead I.can_next I.remaining self.new) }
-        ensures gives { IfOk result (λ found. GivesNext I.next_gives found self.old self.new) }
+        ensures gives { IfOk result (λ found. GivesChar I.next_gives found self.old self.new) }
         ensures size { OnOk result
             (chars_in_source I.remaining self.new ≤ chars_in_source I.remaining self.old) }
         ensures fewer { IfOk result (λ found. is_some found ≡ true
@@ -85,7 +85,7 @@ impl<I: Iterator<Item = char> + Drop> DecomposedSource<I> {
     fn next_held(&mut self) -> Result<Option<char>, AllocError>
         requires { CanRead I.can_next I.remaining self.old }
         ensures ready { OnOk result (CanRead I.can_next I.remaining self.new) }
-        ensures gives { IfOk result (λ found. GivesNext I.next_gives found self.old self.new) }
+        ensures gives { IfOk result (λ found. GivesChar I.next_gives found self.old self.new) }
         ensures size { OnOk result
             (chars_in_source I.remaining self.new ≤ chars_in_source I.remaining self.old) }
         ensures fewer { IfOk result (λ found. is_some found ≡ true

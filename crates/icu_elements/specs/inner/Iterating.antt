@@ -25,8 +25,8 @@ abbrev pub ReadsNext : {I : Type 0} → (I → Option ℕ → I → Type 0) → 
 ReadsNext steps found old new = IsNextOf (StillSpells steps) found old new
 
 -- the source gave its next decomposed character
-abbrev pub GivesNext : {I : Type 0} → (I → Option ℕ → I → Type 0) → Option ℕ → DecomposedSource I → DecomposedSource I → Type 0
-GivesNext steps found old new = IsNextOf (StillReads steps) found old new
+abbrev pub GivesChar : {I : Type 0} → (I → Option ℕ → I → Type 0) → Option ℕ → DecomposedSource I → DecomposedSource I → Type 0
+GivesChar steps found old new = IsNextOf (StillReads steps) found old new
 
 -- it may be called
 abbrev pub CanRead : {I : Type 0} → (I → Type 0) → (I → Count) → DecomposedSource I → Type 0
