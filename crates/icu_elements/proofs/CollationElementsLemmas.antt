@@ -4,7 +4,7 @@ use Rattle.std.specs.Prelude.{option_to_list}
 use Rattle.std.proofs.lemmas.List.{drop_more}
 use Rattle.std.proofs.Math.ListN.{drop_of_length-le}
 use Rattle.std.specs.Iterator.{Count}
-use Rattle.unicode_normalization.specs.Decompositions.{CanDecompose}
+use Rattle.icu_elements.specs.inner.Iterating.{CanRead}
 use Rattle.icu_entries.specs.Elements.{Element, end_element}
 use Rattle.icu_elements.specs.declared.element_reader.ElementReader.{ElementReader}
 use Rattle.icu_elements.specs.declared.text_reading.TextReading.{TextReading}
@@ -29,11 +29,11 @@ module _ {I : Type 0} (steps : I → Option ℕ → I → Type 0) (s : Collation
   StillGives-source e h = subst (λ p. IsLeftAt p steps s es) (sym e) h
 
 module _ {I : Type 0} (can : I → Type 0) (left : I → Count) (s : CollationElements I) where
-  pub CanDecompose-CanGive : s.progress ≡ InProgress → CanGive can left s → CanDecompose can left s.source
+  pub CanRead-CanGive : s.progress ≡ InProgress → CanGive can left s → CanRead can left s.source
   unfolding CanGive
-  CanDecompose-CanGive e h = subst (λ p. IsReadyAt p can left s) e h
+  CanRead-CanGive e h = subst (λ p. IsReadyAt p can left s) e h
 
-  pub CanGive-reading : s.progress ≡ InProgress → CanDecompose can left s.source → CanGive can left s
+  pub CanGive-reading : s.progress ≡ InProgress → CanRead can left s.source → CanGive can left s
   unfolding CanGive
   CanGive-reading e h = subst (λ p. IsReadyAt p can left s) (sym e) h
 

@@ -4,9 +4,11 @@ pub mod AheadLemmas
 pub mod CollationElementsLemmas
 pub mod Computing
 pub mod DecomposedLemmas
+pub mod DecomposedSourceLemmas
 pub mod ElementPartLemmas
 pub mod ElementSourceLemmas
 pub mod EnoughLemmas
+pub mod HeldCharLemmas
 pub mod LoneStepLemmas
 pub mod MappingHeadLemmas
 pub mod MatchedAloneLemmas

@@ -3,7 +3,7 @@ use Rattle.std.proofs.Common.{◌≡◌, ℕ, ◌<◌, ◌≤◌, zero, suc, Boo
 use Rattle.std.specs.Prelude.{⊤, if◌then◌else◌, nat_lt, IsTrue, IfSome, IfOk, MatchOption, slice_get}
 use Rattle.std.proofs.lemmas.Bool.{and_parts, eqb-true, true≢false}
 use Rattle.std.specs.List.{list_any}
-use Rattle.unicode_normalization.specs.declared.decompose.Decompositions.{Decompositions}
+use Rattle.icu_elements.specs.declared.decomposed_source.DecomposedSource.{DecomposedSource}
 use Rattle.unicode_normalization.specs.Order.{is_starter}
 use Rattle.icu_entries.specs.declared.entry.EntryKind.{EntryKind}
 use Rattle.icu_entries.specs.declared.entry.EntryKind.TheVariants.{Simple, LongPrimary, LongSecondary, Implicit, Expansion32, Expansion, Prefix, Contraction, Digit, Offset}
@@ -293,7 +293,7 @@ nothing_begins mappings ascend = at_found (longest_mapping mappings []) refl
 
 -- ---- steps that were taken, or none
 
-module _ {I : Type 0} (steps : I → Option ℕ → I → Type 0) (reading : Reading) (c : ℕ) (s : Decompositions I) (at p : Position) where
+module _ {I : Type 0} (steps : I → Option ℕ → I → Type 0) (reading : Reading) (c : ℕ) (s : DecomposedSource I) (at p : Position) where
   same_text : p.text ≡ at.text → ReadsMore steps s (unread_at at) s (unread_at p)
   same_text same = subst (λ (l : List ℕ). ReadsMore steps s (unread_at at) s l) (sym (ap still_unread same)) (ReadsTo-none steps (λ _. ⊤) s (unread_at at) tt)
 
@@ -333,7 +333,7 @@ module _ {I : Type 0} (steps : I → Option ℕ → I → Type 0) (reading : Rea
   pub none_taken : p.text ≡ at.text → consumed_last p ≡ consumed_last at → StepsOrLooks steps reading c s at s p None
   none_taken same before = record { ahead = same_text same; before = before }
 
-module _ {I : Type 0} (steps : I → Option ℕ → I → Type 0) (reading : Reading) (c : ℕ) (old new : Decompositions I) (at p : Position) where
+module _ {I : Type 0} (steps : I → Option ℕ → I → Type 0) (reading : Reading) (c : ℕ) (old new : DecomposedSource I) (at p : Position) where
   -- more was read, and none was taken
   pub looked : ReadsMore steps old (unread_at at) new (unread_at p) → p.recent ≡ at.recent → StepsOrLooks steps reading c old at new p None
   looked more same = record { ahead = more; before = ap recent_chars same }
@@ -372,7 +372,7 @@ if_ok (Err e) P Q R f p q = tt
 
 -- ---- a match that no mark joins
 
-module _ {I : Type 0} (steps : I → Option ℕ → I → Type 0) (context : Context) (old mid new : Decompositions I) (text middle longer : List ℕ) where
+module _ {I : Type 0} (steps : I → Option ℕ → I → Type 0) (context : Context) (old mid new : DecomposedSource I) (text middle longer : List ℕ) where
   -- no text was left
   pub direct_at_end : ascend_from [] context.mappings ≡ true → ReadsTo steps IsBegun old text mid middle → middle ≡ [] → IsDirectMatch steps context old text mid middle None
   direct_at_end ascend begun none = record {
@@ -434,7 +434,7 @@ single_of : (o : Option Element) (e : Element) (P : Element → Type 0) → o �
 single_of (Some x) e P some h = subst P (same_element x e some) h
 single_of None e P some h = cc
 
-module _ {I : Type 0} (steps : I → Option ℕ → I → Type 0) (context : Context) (old new : Decompositions I) (text longer : List ℕ) (at : Option ℕ) (direct : IsDirectMatch steps context old text new longer at) where
+module _ {I : Type 0} (steps : I → Option ℕ → I → Type 0) (context : Context) (old new : DecomposedSource I) (text longer : List ℕ) (at : Option ℕ) (direct : IsDirectMatch steps context old text new longer at) where
   -- what it consumes was taken off
   pub taken_direct : (c : ℕ) (before rest after : List ℕ) (m : Mapping) (n : ℕ) (o : Option Element) (e : Element) → m ≡ chosen_mapping context at → n ≡ length m.chars → o ≡ Some e
       → ((home : Data) → IfSome o (IsSingle (homed home m.entry) c)) → rest ≡ drop n longer → after ≡ last_two before (c ∷ m.chars)

@@ -3,7 +3,7 @@ use Rattle.std.proofs.Common.{◌≡◌, ◌⊎◌, ◌≤◌, ◌<◌, not, if�
 use Rattle.std.specs.Prelude.{⊤, option_to_list}
 use Rattle.std.specs.List.{list_any}
 use Rattle.std.proofs.lemmas.Bool.{false≢true, or_left, or_right}
-use Rattle.unicode_normalization.specs.declared.decompose.Decompositions.{Decompositions}
+use Rattle.icu_elements.specs.declared.decomposed_source.DecomposedSource.{DecomposedSource}
 use Rattle.icu_elements.specs.inner.Iterating.{StillReads}
 use Rattle.icu_elements.specs.inner.ReadsAhead.{ReadsTo, ReadsMore, ReadsOne, IsBegun}
 
@@ -26,11 +26,11 @@ any_pushed p (suc n) (x ∷ xs) c inside is = any_pushed p n xs c (omega (arith,
 
 module _ {I : Type 0} (steps : I → Option ℕ → I → Type 0) where
   -- nothing was read
-  pub ReadsTo-none : (Is : List ℕ → Type 0) (s : Decompositions I) (text : List ℕ) → Is text → ReadsTo steps Is s text s text
+  pub ReadsTo-none : (Is : List ℕ → Type 0) (s : DecomposedSource I) (text : List ℕ) → Is text → ReadsTo steps Is s text s text
   ReadsTo-none Is s text is = record { more = []; grown = sym (append-nil text); at = λ cs h. (cs, refl, h, inl is) }
 
   -- one character was read
-  pub ReadsMore-one : (old new : Decompositions I) (text longer : List ℕ) (c : ℕ) → longer ≡ text ++ c ∷ []
+  pub ReadsMore-one : (old new : DecomposedSource I) (text longer : List ℕ) (c : ℕ) → longer ≡ text ++ c ∷ []
       → ((cs : List ℕ) → StillReads steps old cs → (rest : List ℕ) × (cs ≡ c ∷ rest) × StillReads steps new rest) → ReadsMore steps old text new longer
   ReadsMore-one old new text longer c pushed came = record {
     more = c ∷ [];
@@ -39,7 +39,7 @@ module _ {I : Type 0} (steps : I → Option ℕ → I → Type 0) where
   }
 
   -- where a fact implies a weaker one, so does reading on until it holds
-  pub ReadsTo-weaker : (Is Was : List ℕ → Type 0) (old new : Decompositions I) (text longer : List ℕ) → (Was longer → Is longer) → ReadsTo steps Was old text new longer → ReadsTo steps Is old text new longer
+  pub ReadsTo-weaker : (Is Was : List ℕ → Type 0) (old new : DecomposedSource I) (text longer : List ℕ) → (Was longer → Is longer) → ReadsTo steps Was old text new longer → ReadsTo steps Is old text new longer
   ReadsTo-weaker Is Was old new text longer f reads = record {
     more = reads.more;
     grown = reads.grown;
@@ -56,7 +56,7 @@ module _ {I : Type 0} (steps : I → Option ℕ → I → Type 0) where
   }
 
   -- first so far, and then further
-  pub ReadsTo-then : (Is Was : List ℕ → Type 0) (old mid new : Decompositions I) (text middle longer : List ℕ) → ((more : List ℕ) → Was middle → Was (middle ++ more))
+  pub ReadsTo-then : (Is Was : List ℕ → Type 0) (old mid new : DecomposedSource I) (text middle longer : List ℕ) → ((more : List ℕ) → Was middle → Was (middle ++ more))
       → ReadsTo steps Was old text mid middle → ReadsTo steps Is mid middle new longer → ReadsTo steps (λ l. Was l × Is l) old text new longer
   ReadsTo-then Is Was old mid new text middle longer stays first second = record {
     more = first.more ++ second.more;
@@ -73,12 +73,12 @@ module _ {I : Type 0} (steps : I → Option ℕ → I → Type 0) where
 
 -- ---- one character
 
-pub one_came : {I : Type 0} (steps : I → Option ℕ → I → Type 0) (old new : Decompositions I) (text longer : List ℕ) (c : ℕ) → longer ≡ text ++ c ∷ []
+pub one_came : {I : Type 0} (steps : I → Option ℕ → I → Type 0) (old new : DecomposedSource I) (text longer : List ℕ) (c : ℕ) → longer ≡ text ++ c ∷ []
     → ((cs : List ℕ) → StillReads steps old cs → (rest : List ℕ) × (cs ≡ c ∷ rest) × StillReads steps new rest) → ReadsOne steps (Some c) old text new longer
 one_came steps old new text longer c pushed came =
     (ReadsTo-weaker steps (λ _. IsTrue true) (λ _. ⊤) old new text longer (λ _. refl) (ReadsMore-one steps old new text longer c pushed came), pushed)
 
-pub none_came : {I : Type 0} (steps : I → Option ℕ → I → Type 0) (old new : Decompositions I) (text : List ℕ)
+pub none_came : {I : Type 0} (steps : I → Option ℕ → I → Type 0) (old new : DecomposedSource I) (text : List ℕ)
     → ((cs : List ℕ) → StillReads steps old cs → (cs ≡ []) × StillReads steps new []) → ReadsOne steps None old text new text
 none_came steps old new text ended = (
   record {
@@ -90,16 +90,16 @@ none_came steps old new text ended = (
 )
 
 -- the text has not become shorter
-pub ReadsTo-longer : {I : Type 0} (steps : I → Option ℕ → I → Type 0) (Is : List ℕ → Type 0) (old new : Decompositions I) (text longer : List ℕ) → ReadsTo steps Is old text new longer → length text ≤ length longer
+pub ReadsTo-longer : {I : Type 0} (steps : I → Option ℕ → I → Type 0) (Is : List ℕ → Type 0) (old new : DecomposedSource I) (text longer : List ℕ) → ReadsTo steps Is old text new longer → length text ≤ length longer
 ReadsTo-longer steps Is old new text longer reads = omega (arith, ap length reads.grown, length-append text reads.more)
 
 -- ---- a loop that reads on
 
 -- the text is as it is to be
-pub so_far_is : {I : Type 0} (steps : I → Option ℕ → I → Type 0) (old now : Decompositions I) (text middle : List ℕ) (Is : List ℕ → Type 0) → ReadsMore steps old text now middle → Is middle → ReadsTo steps Is old text now middle
+pub so_far_is : {I : Type 0} (steps : I → Option ℕ → I → Type 0) (old now : DecomposedSource I) (text middle : List ℕ) (Is : List ℕ → Type 0) → ReadsMore steps old text now middle → Is middle → ReadsTo steps Is old text now middle
 so_far_is steps old now text middle Is so_far is = ReadsTo-weaker steps Is (λ _. ⊤) old now text middle (λ _. is) so_far
 
-module _ {I : Type 0} (steps : I → Option ℕ → I → Type 0) (old now new : Decompositions I) (text middle longer : List ℕ) (so_far : ReadsMore steps old text now middle) where
+module _ {I : Type 0} (steps : I → Option ℕ → I → Type 0) (old now new : DecomposedSource I) (text middle longer : List ℕ) (so_far : ReadsMore steps old text now middle) where
   -- it was read on to what it is to be
   pub so_far_to : (Is : List ℕ → Type 0) → ReadsTo steps Is now middle new longer → ReadsTo steps Is old text new longer
   so_far_to Is reads =
@@ -128,7 +128,7 @@ some_begins : (found : Option ℕ) (text longer : List ℕ) → longer ≡ text 
 some_begins (Some c) text longer is came = omega (arith, ap length is, length-append text (c ∷ []))
 some_begins None text longer is came = absurd (false≢true came)
 
-pub ReadsTo-begun : {I : Type 0} (steps : I → Option ℕ → I → Type 0) (old new : Decompositions I) (text longer : List ℕ) (found : Option ℕ) → ReadsOne steps found old text new longer → ReadsTo steps IsBegun old text new longer
+pub ReadsTo-begun : {I : Type 0} (steps : I → Option ℕ → I → Type 0) (old new : DecomposedSource I) (text longer : List ℕ) (found : Option ℕ) → ReadsOne steps found old text new longer → ReadsTo steps IsBegun old text new longer
 ReadsTo-begun steps old new text longer found reads =
     ReadsTo-weaker steps IsBegun (λ _. IsTrue (is_some found)) old new text longer (some_begins found text longer reads.1) reads.0
 

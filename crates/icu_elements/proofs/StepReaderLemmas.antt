@@ -1,7 +1,7 @@
 -- What a reader of steps has left, where more is read ahead and where a step is taken.
 use Rattle.std.proofs.Common.{◌≡◌, ◌⊎◌, ℕ, ◌+◌, ◌-◌, List, [], ◌∷◌, ◌++◌, length, Option, refl, sym, ap, subst, ◌∙◌, append_assoc, length-append, arith, inl, inr}
 use Rattle.std.specs.Prelude.{slice_get}
-use Rattle.unicode_normalization.specs.declared.decompose.Decompositions.{Decompositions}
+use Rattle.icu_elements.specs.declared.decomposed_source.DecomposedSource.{DecomposedSource}
 use Rattle.icu_entries.specs.Elements.{Element}
 use Rattle.icu_elements.specs.declared.step_reader.StepReader.{StepReader}
 use Rattle.icu_elements.specs.TextElements.{Step, step, consumed, last_two}
@@ -16,13 +16,13 @@ use Rattle.icu_elements.proofs.StreamLemmas.{enough_or_ended}
 -- ---- reading ahead
 
 -- So much of a text was read, and the source has what is left of it: nothing, unless what was read is as it is to be.
-pub record IsAhead {I : Type 0} (steps : I → Option ℕ → I → Type 0) (Is : List ℕ → Type 0) (source : Decompositions I) (text whole : List ℕ) : Type 0 where
+pub record IsAhead {I : Type 0} (steps : I → Option ℕ → I → Type 0) (Is : List ℕ → Type 0) (source : DecomposedSource I) (text whole : List ℕ) : Type 0 where
   pub left : List ℕ
   pub still : StillReads steps source left
   pub whole_is : whole ≡ text ++ left
   pub enough : Is text ⊎ (left ≡ [])
 
-pub read_on : {I : Type 0} (steps : I → Option ℕ → I → Type 0) (Is : List ℕ → Type 0) (old new : Decompositions I) (text longer whole more : List ℕ)
+pub read_on : {I : Type 0} (steps : I → Option ℕ → I → Type 0) (Is : List ℕ → Type 0) (old new : DecomposedSource I) (text longer whole more : List ℕ)
     → ReadsTo steps Is old text new longer → StillReads steps old more → whole ≡ text ++ more → IsAhead steps Is new longer whole
 read_on steps Is old new text longer whole more came source is =
     let at = came.at more source in
@@ -40,7 +40,7 @@ nothing_more text left none (inl some) = absurd (omega (arith, some, ap length n
 nothing_more text left none (inr ended) = ended
 
 -- none came, so none is left
-pub none_came : {I : Type 0} (steps : I → Option ℕ → I → Type 0) (source : Decompositions I) (text whole : List ℕ) → IsAhead steps IsBegun source text whole → text ≡ [] → whole ≡ []
+pub none_came : {I : Type 0} (steps : I → Option ℕ → I → Type 0) (source : DecomposedSource I) (text whole : List ℕ) → IsAhead steps IsBegun source text whole → text ≡ [] → whole ≡ []
 none_came steps source text whole h none = h.whole_is ∙ ap (λ (l : List ℕ). l ++ h.left) none ∙ nothing_more text h.left none h.enough
 
 first_came : (text left : List ℕ) → IsBegun text ⊎ (left ≡ []) → slice_get text 0 ≡ slice_get (text ++ left) 0
@@ -49,7 +49,7 @@ first_came [] left (inr ended) = ap (λ (l : List ℕ). slice_get l 0) (sym ende
 first_came (c ∷ cs) left h = refl
 
 -- the first that was read is the first of all
-pub first_of_all : {I : Type 0} (steps : I → Option ℕ → I → Type 0) (source : Decompositions I) (text whole : List ℕ) → IsAhead steps IsBegun source text whole → slice_get text 0 ≡ slice_get whole 0
+pub first_of_all : {I : Type 0} (steps : I → Option ℕ → I → Type 0) (source : DecomposedSource I) (text whole : List ℕ) → IsAhead steps IsBegun source text whole → slice_get text 0 ≡ slice_get whole 0
 first_of_all steps source text whole h = first_came text h.left h.enough ∙ ap (λ (l : List ℕ). slice_get l 0) (sym h.whole_is)
 
 -- ---- a step
@@ -81,7 +81,7 @@ module _ {I : Type 0} (steps : I → Option ℕ → I → Type 0) (old new : Ste
       }
 
   -- a character came, so much more was read ahead, and a step was taken
-  pub TakesStep-read : (mid : Decompositions I) (text middle longer : List ℕ) → (before whole : List ℕ) → HasLeft steps old before whole
+  pub TakesStep-read : (mid : DecomposedSource I) (text middle longer : List ℕ) → (before whole : List ℕ) → HasLeft steps old before whole
       → ReadsTo steps IsBegun old.source (unread_at old.position) mid text → text ≡ c ∷ middle
       → ReadsTo steps (HasWholeStep (reading_in old) (consumed_last old.position) c) mid middle new.source longer
       → es ≡ [] → IsStep (step (reading_in old) (consumed_last old.position) c longer) c (consumed_last old.position) es (elements_given new) new.position

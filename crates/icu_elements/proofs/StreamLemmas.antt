@@ -3,7 +3,7 @@ use Rattle.std.proofs.Common.{◌≡◌, ◌⊎◌, ℕ, ◌-◌, ◌<◌, ◌�
 use Rattle.std.specs.Prelude.{option_to_list}
 use Rattle.std.proofs.lemmas.Bool.{false≢true, true≢false}
 use Rattle.std.proofs.Math.ListN.{drop_of_length-le}
-use Rattle.unicode_normalization.specs.declared.decompose.Decompositions.{Decompositions}
+use Rattle.icu_elements.specs.declared.decomposed_source.DecomposedSource.{DecomposedSource}
 use Rattle.icu_entries.specs.Elements.{Element, end_element}
 use Rattle.icu_elements.specs.declared.element_reader.ElementReader.{ElementReader}
 use Rattle.icu_elements.specs.declared.text_reading.TextReading.{TextReading}
@@ -13,7 +13,7 @@ use Rattle.icu_elements.specs.ReadAhead.{IsEnough, HasWholeStep}
 use Rattle.icu_elements.specs.TextElements.{Reading, step, consumed, last_two, elements_after, elements_of}
 use Rattle.icu_elements.specs.inner.Positions.{consumed_last, unread_at, IsStep}
 use Rattle.icu_elements.specs.Reading.{reading_of}
-use Rattle.icu_elements.specs.inner.Iterating.{StillReads}
+use Rattle.icu_elements.specs.inner.Iterating.{GivesChar, StillReads}
 use Rattle.icu_elements.specs.inner.ReadyElements.{ready_elements}
 use Rattle.icu_elements.specs.inner.StepsTaken.{TakesChar, HasElementsAt, LooksAhead, TakesStepAt, StepsOrLooks}
 use Rattle.icu_elements.specs.inner.Streams.{elements_before, HasElements}
@@ -52,7 +52,7 @@ stepped reading before c text left whole es fs p is enough h =
     ∙ ap₂ (λ (l : List Element) (b : List ℕ). l ++ elements_after reading b (s.rest ++ left)) (sym h.elements) (sym h.recent)
     ∙ ap (λ (r : List ℕ). fs ++ elements_after reading (consumed_last p) (r ++ left)) (sym h.rest)
 
-module _ {I : Type 0} (steps : I → Option ℕ → I → Type 0) (reading : TextReading) (old new : Decompositions I) (at p : Position) (all : List Element) where
+module _ {I : Type 0} (steps : I → Option ℕ → I → Type 0) (reading : TextReading) (old new : DecomposedSource I) (at p : Position) (all : List Element) where
   -- a character was taken off the text
   pub taken_off : (c : ℕ) → TakesChar steps (Some c) old (unread_at at) new (unread_at p) → consumed_last p ≡ consumed_last at
       → HasElements steps reading old at [] all → HasElementsAt steps reading new p c all
@@ -116,7 +116,7 @@ module _ {I : Type 0} (steps : I → Option ℕ → I → Type 0) (reading : Tex
 -- ---- an element that stands ready
 
 -- where all that stood ready were taken, none does
-pub cleared : {I : Type 0} (steps : I → Option ℕ → I → Type 0) (source : Decompositions I) (r : ElementReader) (none es : List Element) → length r.ready.elements.items ≤ r.next → none ≡ []
+pub cleared : {I : Type 0} (steps : I → Option ℕ → I → Type 0) (source : DecomposedSource I) (r : ElementReader) (none es : List Element) → length r.ready.elements.items ≤ r.next → none ≡ []
     → HasElements steps r.reading source r.position (ready_elements r) es → HasElements steps r.reading source r.position none es
 cleared steps source r none es past empty h = record {
   left = h.left;
@@ -130,7 +130,7 @@ some_ready r inside none =
     let nothing : length (ready_elements r) ≡ 0 = ap length none in omega (arith, inside, counted, nothing)
 
 -- where one that stood ready was taken, the others are left
-pub taken_ready : {I : Type 0} (steps : I → Option ℕ → I → Type 0) (es : List Element) (source : Decompositions I) (r s : ElementReader) (o : Option Element)
+pub taken_ready : {I : Type 0} (steps : I → Option ℕ → I → Type 0) (es : List Element) (source : DecomposedSource I) (r s : ElementReader) (o : Option Element)
     → HasElements steps r.reading source r.position (ready_elements r) es → ready_elements r ≡ option_to_list o ++ ready_elements s → (o ≡ None → es ≡ []) → s.position ≡ r.position → s.reading ≡ r.reading
     → (unwrap_or o end_element ≡ first_of es) × HasElements steps s.reading source s.position (ready_elements s) (rest_of es)
 taken_ready steps es source r s o h split end same same_reading =
@@ -146,7 +146,7 @@ taken_ready steps es source r s o h split end same same_reading =
     )
 
 -- where one that stood ready was taken, or none, it and the others come
-pub listed : {I : Type 0} (steps : I → Option ℕ → I → Type 0) (es : List Element) (source : Decompositions I) (r s : ElementReader) (o : Option Element)
+pub listed : {I : Type 0} (steps : I → Option ℕ → I → Type 0) (es : List Element) (source : DecomposedSource I) (r s : ElementReader) (o : Option Element)
     → HasElements steps r.reading source r.position (ready_elements r) es → ready_elements r ≡ option_to_list o ++ ready_elements s → s.position ≡ r.position → s.reading ≡ r.reading
     → HasElements steps s.reading source s.position (option_to_list o ++ ready_elements s) es
 listed steps es source r s o h same same_position same_reading = record {
@@ -164,7 +164,7 @@ none_stands r s (Some e) split end none = cc
 none_stands r s None split end none = sym split ∙ end refl
 
 -- an element that is given is the first, and the others are left
-pub first_came : {I : Type 0} (steps : I → Option ℕ → I → Type 0) (reading : TextReading) (source : Decompositions I) (p : Position) (o : Option Element) (ready es : List Element) → is_some o ≡ true
+pub first_came : {I : Type 0} (steps : I → Option ℕ → I → Type 0) (reading : TextReading) (source : DecomposedSource I) (p : Position) (o : Option Element) (ready es : List Element) → is_some o ≡ true
     → HasElements steps reading source p (option_to_list o ++ ready) es → (unwrap_or o end_element ≡ first_of es) × HasElements steps reading source p ready (rest_of es)
 first_came steps reading source p (Some e) ready es some h = (
   sym (ap first_of h.elements),
@@ -173,7 +173,7 @@ first_came steps reading source p (Some e) ready es some h = (
 first_came steps reading source p None ready es some h = absurd (false≢true some)
 
 -- where nothing is left, the end element is the first
-pub none_left_to_come : {I : Type 0} (steps : I → Option ℕ → I → Type 0) (reading : TextReading) (source : Decompositions I) (p : Position) (ready es : List Element) → ready ≡ [] → es ≡ []
+pub none_left_to_come : {I : Type 0} (steps : I → Option ℕ → I → Type 0) (reading : TextReading) (source : DecomposedSource I) (p : Position) (ready es : List Element) → ready ≡ [] → es ≡ []
     → HasElements steps reading source p [] [] → (end_element ≡ first_of es) × HasElements steps reading source p ready (rest_of es)
 none_left_to_come steps reading source p ready es none ended h = (
   sym (ap first_of ended),
@@ -182,13 +182,13 @@ none_left_to_come steps reading source p ready es none ended h = (
 )
 
 -- other elements that are the same come
-pub same_ready : {I : Type 0} (steps : I → Option ℕ → I → Type 0) (reading : TextReading) (source : Decompositions I) (p : Position) (ready others es : List Element) → ready ≡ others
+pub same_ready : {I : Type 0} (steps : I → Option ℕ → I → Type 0) (reading : TextReading) (source : DecomposedSource I) (p : Position) (ready others es : List Element) → ready ≡ others
     → HasElements steps reading source p ready es → HasElements steps reading source p others es
 same_ready steps reading source p ready others es same h = subst (λ (l : List Element). HasElements steps reading source p l es) same h
 
 -- ---- a character that was taken off a text
 
-module _ {I : Type 0} (steps : I → Option ℕ → I → Type 0) (old new : Decompositions I) (text rest : List ℕ) (none : text ≡ []) (still : rest ≡ []) where
+module _ {I : Type 0} (steps : I → Option ℕ → I → Type 0) (old new : DecomposedSource I) (text rest : List ℕ) (none : text ≡ []) (still : rest ≡ []) where
   -- neither the text nor its source had one
   pub none_taken_off : ((cs : List ℕ) → StillReads steps old cs → (cs ≡ []) × StillReads steps new []) → TakesChar steps None old text new rest
   none_taken_off ended = λ cs h.
@@ -209,9 +209,14 @@ module _ {I : Type 0} (steps : I → Option ℕ → I → Type 0) (old new : Dec
         λ other. cc,
       )
 
+  -- its source gave its next
+  pub next_taken_off : (found : Option ℕ) → GivesChar steps found old new → TakesChar steps found old text new rest
+  next_taken_off None gives = none_taken_off gives
+  next_taken_off (Some c) gives = one_taken_off c gives
+
 -- ---- a step without a list
 
-module _ {I : Type 0} (steps : I → Option ℕ → I → Type 0) (reading : TextReading) (old new : Decompositions I) (at p : Position) (c : ℕ) (es : List Element) where
+module _ {I : Type 0} (steps : I → Option ℕ → I → Type 0) (reading : TextReading) (old new : DecomposedSource I) (at p : Position) (c : ℕ) (es : List Element) where
   -- one was taken, and nothing stands ready
   pub lone_given : (o : Option Element) (ready : List Element) → is_some o ≡ true → ready ≡ [] → StepsOrLooks steps (reading_of reading) c old at new p o → HasElementsAt steps reading old at c es
       → HasElements steps reading new p (option_to_list o ++ ready) es

@@ -1,7 +1,7 @@
 -- What an iterator of elements still gives, and that it may be called.
 use Rattle.std.specs.Prelude.{◌≡◌, ℕ, List, [], ◌∷◌, Option, ⊤}
 use Rattle.std.specs.Iterator.{Count}
-use Rattle.unicode_normalization.specs.Decompositions.{CanDecompose}
+use Rattle.icu_elements.specs.inner.Iterating.{CanRead}
 use Rattle.icu_entries.specs.Elements.{Element, end_element}
 use Rattle.icu_elements.specs.declared.collation_elements.Progress.{Progress}
 use Rattle.icu_elements.specs.declared.collation_elements.Progress.TheVariants.{Reading, Refused}
@@ -24,7 +24,7 @@ StillGives steps s es = IsLeftAt s.progress steps s es
 
 -- its source may be called, or none is needed after an allocation failed
 abbrev pub IsReadyAt : {I : Type 0} → Progress → (I → Type 0) → (I → Count) → CollationElements I → Type 0
-IsReadyAt Reading can left s = CanDecompose can left s.source
+IsReadyAt Reading can left s = CanRead can left s.source
 IsReadyAt Refused can left s = ⊤
 
 -- it may be called: so may its source, as long as no allocation failed

@@ -1,12 +1,11 @@
 -- What a reader of steps has given, and what it has left.
 use Rattle.std.specs.Prelude.{◌≡◌, ℕ, ◌+◌, List, ◌∷◌, ◌++◌, Option, length}
 use Rattle.std.specs.Iterator.{Count}
-use Rattle.unicode_normalization.specs.Decompositions.{CanDecompose}
+use Rattle.icu_elements.specs.inner.Iterating.{CanRead, StillReads}
 use Rattle.icu_entries.specs.Elements.{Element}
 use Rattle.icu_elements.specs.declared.step_reader.StepReader.{StepReader}
 use Rattle.icu_elements.specs.TextElements.{Reading, step, consumed, last_two}
 use Rattle.icu_elements.specs.Reading.{reading_of}
-use Rattle.icu_elements.specs.inner.Iterating.{StillReads}
 use Rattle.icu_elements.specs.inner.Positions.{consumed_last, unread_at}
 use Rattle.icu_elements.specs.inner.Streams.{chars_ahead}
 
@@ -37,7 +36,7 @@ pub record TakesStep {I : Type 0} (steps : I → Option ℕ → I → Type 0) (o
 
 -- it may be called
 abbrev pub CanStep : {I : Type 0} → (I → Type 0) → (I → Count) → StepReader I → Type 0
-CanStep can left r = CanDecompose can left r.source
+CanStep can left r = CanRead can left r.source
 
 -- a bound on the characters that may still come
 abbrev pub steps_ahead : {I : Type 0} → (I → Count) → StepReader I → ℕ

@@ -3,17 +3,17 @@
 ghost use Rattle.std.specs.Prelude.{◌≡◌, ◌≤◌, ◌++◌, ℕ, List, [], None, option_to_list, unwrap_or, IsErr, IfOk, OnOk, OnErr};
 ghost use Rattle.std.specs.Iterator.{IsFinite};
 ghost use Rattle.icu_entries.specs.Elements.{Element, end_element};
-ghost use Rattle.unicode_normalization.specs.Decompositions.{CanDecompose};
+ghost use Rattle.icu_elements.specs.inner.Iterating.{CanRead};
 ghost use Rattle.unicode_normalization.specs.Forms.{nfd};
 ghost use Rattle.unicode_normalization.specs.Iter.{Spells};
 
+use crate::decomposed_source::DecomposedSource;
 use crate::element_reader::ElementReader;
 use crate::reader::lone_step::lone_step;
 use crate::reader::stream::{stream_step, take_char};
 use crate::text_reading::TextReading;
 use icu_entries::CollationElement;
 use std::alloc::AllocError;
-use unicode_normalization::Decompositions;
 
 /// How far the reading has come.
 #[derive(Debug, Clone, Copy, PartialEq, Eq)]
@@ -27,7 +27,7 @@ enum Progress {
 /// change places by decomposition.
 #[derive(Drop)]
 pub struct CollationElements<'d, I> {
-    source: Decompositions<I>,
+    source: DecomposedSource<I>,
     reader: ElementReader<'d>,
     progress: Progress,
 }
@@ -50,7 +50,7 @@ impl<'d, I: Iterator<Item = char> + Drop> CollationElements<'d, I> {
     {
         let alloc = reading.tables.allocator();
         CollationElements {
-            source: Decompositions::new_canonical(alloc, delegate),
+            source: DecomposedSource::new(alloc, delegate),
             reader: ElementReader::at_start(reading, Vec::new(alloc)),
             progress: Progress::Reading,
         }
@@ -82,7 +82,7 @@ impl<'d, I: Iterator<Item = char> + Drop> CollationElements<'d, I> {
         ensures gives { (es : List Element) → StillGives I.next_gives self.old es
             → IfOk result (λ next. (unwrap_or next end_element ≡ first_of es)
             × HasSource I.next_gives self.new (rest_of es)) }
-        ensures ready { OnOk result (CanDecompose I.can_next I.remaining self.new.source) }
+        ensures ready { OnOk result (CanRead I.can_next I.remaining self.new.source) }
         ensures is_reading { OnOk result (self.new.progress ≡ Progress.Reading) }
         ensures refused { IsRefused self.old → IsErr result }
     {
@@ -94,8 +94,8 @@ impl<'d, I: Iterator<Item = char> + Drop> CollationElements<'d, I> {
 
     /// The next element, one that stands ready, or else the first of the next step that gives any.
     fn take_next(&mut self) -> Result<Option<CollationElement>, AllocError>
-        requires { CanDecompose I.can_next I.remaining self.old.source }
-        ensures ready { OnOk result (CanDecompose I.can_next I.remaining self.new.source) }
+        requires { CanRead I.can_next I.remaining self.old.source }
+        ensures ready { OnOk result (CanRead I.can_next I.remaining self.new.source) }
         ensures gives { (es : List Element) → HasSource I.next_gives self.old es
             → IfOk result (λ next. (unwrap_or next end_element ≡ first_of es)
             × HasSource I.next_gives self.new (rest_of es)) }
@@ -110,9 +110,9 @@ impl<'d, I: Iterator<Item = char> + Drop> CollationElements<'d, I> {
 
     /// Takes a step at a character that was taken off the text, and gives the first of its elements.
     fn step_at(&mut self, c: char) -> Result<Option<CollationElement>, AllocError>
-        requires can { CanDecompose I.can_next I.remaining self.old.source }
+        requires can { CanRead I.can_next I.remaining self.old.source }
         requires none_ready { ready_elements self.old.reader ≡ [] }
-        ensures ready { OnOk result (CanDecompose I.can_next I.remaining self.new.source) }
+        ensures ready { OnOk result (CanRead I.can_next I.remaining self.new.source) }
         ensures gives { (es : List Element)
             → HasElementsAt I.next_gives self.old.reader.reading self.old.source
             self.old.reader.position c es
@@ -144,9 +144,9 @@ impl<'d, I: Iterator<Item = char> + Drop> CollationElements<'d, I> {
 
     /// Reads on, step by step, until an element comes.
     fn read_on(&mut self) -> Result<Option<CollationElement>, AllocError>
-        requires can { CanDecompose I.can_next I.remaining self.old.source }
+        requires can { CanRead I.can_next I.remaining self.old.source }
         requires none_ready { ready_elements self.old.reader ≡ [] }
-        ensures ready { OnOk result (CanDecompose I.can_next I.remaining self.new.source) }
+        ensures ready { OnOk result (CanRead I.can_next I.remaining self.new.source) }
         ensures gives { (es : List Element) → HasSource I.next_gives self.old es
             → IfOk result (λ next. (unwrap_or next end_element ≡ first_of es)
             × HasSource I.next_gives self.new (rest_of es)) }

@@ -3,6 +3,7 @@
 #![tactic(auto)]
 
 pub mod collation_elements;
+mod decomposed_source;
 mod element_list;
 pub mod element_reader;
 pub mod element_tables;

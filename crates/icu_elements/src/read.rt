@@ -2,10 +2,9 @@
 
 ghost use Rattle.std.specs.Prelude.{◌≡◌, ℕ, List, IfOk};
 ghost use Rattle.std.specs.Iterator.{IsFinite};
-ghost use Rattle.unicode_normalization.specs.Decompositions.{CanDecompose};
+ghost use Rattle.unicode_normalization.specs.Decompositions.{CanDecompose, DecomposesTo};
 ghost use Rattle.unicode_normalization.specs.Forms.{nfd};
 ghost use Rattle.unicode_normalization.specs.Iter.{Spells};
-ghost use Rattle.icu_elements.specs.inner.Iterating.{StillReads};
 
 use std::alloc::{AllocError, Global};
 use unicode_normalization::Decompositions;
@@ -31,7 +30,7 @@ pub(crate) fn whole_text<I: Iterator<Item = char> + Drop>(
     source: &mut Decompositions<I>,
 ) -> Result<Vec<char>, AllocError>
     requires { CanDecompose I.can_next I.remaining source.old }
-    ensures { (cs : List ℕ) → StillReads I.next_gives source.old cs
+    ensures { (cs : List ℕ) → DecomposesTo I.next_gives source.old cs
         → IfOk result (λ text. text.items ≡ cs) }
 {
     let mut text = Vec::new(alloc);

@@ -5,6 +5,7 @@ ghost use Rattle.std.specs.Iterator.{IsFinite};
 ghost use Rattle.unicode_normalization.specs.Forms.{nfd};
 ghost use Rattle.unicode_normalization.specs.Iter.{Spells};
 
+use crate::decomposed_source::DecomposedSource;
 use crate::element_list::ElementList;
 use crate::reader::ahead::{read_ahead, read_first};
 use crate::reader::position::Position;
@@ -12,14 +13,13 @@ use crate::reader::step::read_char;
 use crate::text_reading::TextReading;
 use icu_entries::CollationElement;
 use std::alloc::AllocError;
-use unicode_normalization::Decompositions;
 
 /// Reads a text step by step: at each step it takes one character of the decomposed text, with what its contraction or
 /// its number takes (UTS #10, "Produce Collation Element Arrays"). The delegate is read no further than the next step
 /// asks.
 #[derive(Drop)]
 pub struct StepReader<'d, I> {
-    source: Decompositions<I>,
+    source: DecomposedSource<I>,
     reading: TextReading<'d>,
     position: Position,
     list: ElementList,
@@ -39,7 +39,7 @@ impl<'d, I: Iterator<Item = char> + Drop> StepReader<'d, I> {
     {
         let alloc = reading.tables.allocator();
         StepReader {
-            source: Decompositions::new_canonical(alloc, delegate),
+            source: DecomposedSource::new(alloc, delegate),
             reading,
             position: Position::at_start(alloc, Vec::new(alloc)),
             list: ElementList {

@@ -1,6 +1,6 @@
 -- What reading ahead does: characters come from a source of decomposed characters to those that were read.
 use Rattle.std.specs.Prelude.{true, not, Bool, ◌<◌, ◌&&◌, ◌||◌, ◌==◌, length, drop, is_some, ◌≡◌, ◌⊎◌, ℕ, List, [], ◌++◌, Option, None, IsTrue, option_to_list, ⊤}
-use Rattle.unicode_normalization.specs.declared.decompose.Decompositions.{Decompositions}
+use Rattle.icu_elements.specs.declared.decomposed_source.DecomposedSource.{DecomposedSource}
 use Rattle.std.specs.List.{list_any}
 use Rattle.unicode_normalization.specs.Order.{is_starter}
 use Rattle.icu_entries.specs.declared.entry.EntryKind.TheVariants.{Digit}
@@ -13,17 +13,17 @@ use Rattle.icu_elements.specs.inner.Iterating.{StillReads}
 
 -- Some more came after the text that there was, of what the source had; then the text is as it is to be, or the source
 -- has no more.
-pub record ReadsTo {I : Type 0} (steps : I → Option ℕ → I → Type 0) (Is : List ℕ → Type 0) (old : Decompositions I) (text : List ℕ) (new : Decompositions I) (longer : List ℕ) : Type 0 where
+pub record ReadsTo {I : Type 0} (steps : I → Option ℕ → I → Type 0) (Is : List ℕ → Type 0) (old : DecomposedSource I) (text : List ℕ) (new : DecomposedSource I) (longer : List ℕ) : Type 0 where
   pub more : List ℕ
   pub grown : longer ≡ text ++ more
   pub at : (cs : List ℕ) → StillReads steps old cs → (left : List ℕ) × (cs ≡ more ++ left) × StillReads steps new left × (Is longer ⊎ (left ≡ []))
 
 -- some more came
-abbrev pub ReadsMore : {I : Type 0} → (I → Option ℕ → I → Type 0) → Decompositions I → List ℕ → Decompositions I → List ℕ → Type 0
+abbrev pub ReadsMore : {I : Type 0} → (I → Option ℕ → I → Type 0) → DecomposedSource I → List ℕ → DecomposedSource I → List ℕ → Type 0
 ReadsMore steps = ReadsTo steps (λ _. ⊤)
 
 -- one came, or all did
-abbrev pub ReadsOne : {I : Type 0} → (I → Option ℕ → I → Type 0) → Option ℕ → Decompositions I → List ℕ → Decompositions I → List ℕ → Type 0
+abbrev pub ReadsOne : {I : Type 0} → (I → Option ℕ → I → Type 0) → Option ℕ → DecomposedSource I → List ℕ → DecomposedSource I → List ℕ → Type 0
 ReadsOne steps found old text new longer = ReadsTo steps (λ _. IsTrue (is_some found)) old text new longer × (longer ≡ text ++ option_to_list found)
 
 -- ---- how far it reads

@@ -1,7 +1,7 @@
 -- Steps at characters that were taken off a text, which comes from a source.
 use Rattle.std.specs.Prelude.{◌≡◌, ◌≢◌, ◌<◌, ℕ, ⊤, true, List, [], ◌∷◌, ◌++◌, Option, Some, None, length, drop, option_to_list}
 use Rattle.std.specs.List.{AllByRecursion, list_any}
-use Rattle.unicode_normalization.specs.declared.decompose.Decompositions.{Decompositions}
+use Rattle.icu_elements.specs.declared.decomposed_source.DecomposedSource.{DecomposedSource}
 use Rattle.unicode_normalization.specs.Order.{is_starter}
 use Rattle.icu_entries.specs.declared.entry.EntryKind.{EntryKind}
 use Rattle.icu_entries.specs.declared.entry.EntryKind.TheVariants.{Prefix, Contraction, Digit}
@@ -22,30 +22,30 @@ use Rattle.icu_elements.specs.inner.ReadsAhead.{ReadsTo, ReadsMore}
 
 -- The first character of a text was taken off it, or, where that is empty, the next one of its source. None was taken
 -- where nothing is left.
-abbrev pub TakesChar : {I : Type 0} → (I → Option ℕ → I → Type 0) → Option ℕ → Decompositions I → List ℕ → Decompositions I → List ℕ → Type 0
+abbrev pub TakesChar : {I : Type 0} → (I → Option ℕ → I → Type 0) → Option ℕ → DecomposedSource I → List ℕ → DecomposedSource I → List ℕ → Type 0
 TakesChar steps found old text new rest =
     (cs : List ℕ) → StillReads steps old cs → (left : List ℕ) × StillReads steps new left × (text ++ cs ≡ option_to_list found ++ (rest ++ left)) × (found ≡ None → rest ++ left ≡ [])
 
 -- these elements come of a character that was taken off the text, of what is left of that, and of what its source has
-pub record HasElementsAt {I : Type 0} (steps : I → Option ℕ → I → Type 0) (reading : TextReading) (from : Decompositions I) (p : Position) (c : ℕ) (all : List Element) : Type 0 where
+pub record HasElementsAt {I : Type 0} (steps : I → Option ℕ → I → Type 0) (reading : TextReading) (from : DecomposedSource I) (p : Position) (c : ℕ) (all : List Element) : Type 0 where
   pub left : List ℕ
   pub source : StillReads steps from left
   pub elements : all ≡ elements_after (reading_of reading) (consumed_last p) (c ∷ (unread_at p ++ left))
 
 -- Some more was read of a text, as much as a step at the character before it looks at, and the step was taken: its
 -- elements came after those that there were.
-pub record TakesStepAt {I : Type 0} (steps : I → Option ℕ → I → Type 0) (reading : Reading) (c : ℕ) (old : Decompositions I) (at : Position) (new : Decompositions I) (p : Position) (es fs : List Element) : Type 0 where
+pub record TakesStepAt {I : Type 0} (steps : I → Option ℕ → I → Type 0) (reading : Reading) (c : ℕ) (old : DecomposedSource I) (at : Position) (new : DecomposedSource I) (p : Position) (es fs : List Element) : Type 0 where
   pub text : List ℕ
   pub ahead : ReadsTo steps (HasWholeStep reading (consumed_last at) c) old (unread_at at) new text
   pub taken : IsStep (step reading (consumed_last at) c text) c (consumed_last at) es fs p
 
 -- some more was read of a text, if any, and nothing was taken
-pub record LooksAhead {I : Type 0} (steps : I → Option ℕ → I → Type 0) (old : Decompositions I) (at : Position) (new : Decompositions I) (p : Position) : Type 0 where
+pub record LooksAhead {I : Type 0} (steps : I → Option ℕ → I → Type 0) (old : DecomposedSource I) (at : Position) (new : DecomposedSource I) (p : Position) : Type 0 where
   pub ahead : ReadsMore steps old (unread_at at) new (unread_at p)
   pub before : consumed_last p ≡ consumed_last at
 
 -- a step was taken that gives one element, or none was taken
-abbrev pub StepsOrLooks : {I : Type 0} → (I → Option ℕ → I → Type 0) → Reading → ℕ → Decompositions I → Position → Decompositions I → Position → Option Element → Type 0
+abbrev pub StepsOrLooks : {I : Type 0} → (I → Option ℕ → I → Type 0) → Reading → ℕ → DecomposedSource I → Position → DecomposedSource I → Position → Option Element → Type 0
 StepsOrLooks steps reading c old at new p (Some e) = TakesStepAt steps reading c old at new p [] (e ∷ [])
 StepsOrLooks steps reading c old at new p None = LooksAhead steps old at new p
 
@@ -116,14 +116,14 @@ pub record IsWholeMatch (context : Context) (mapping : Mapping) (text : List ℕ
 
 -- Some more was read of a text, so much that what follows changes nothing of the match of a context: that is the
 -- mapping at this index, or none, since no mark follows that may join.
-pub record IsDirectMatch {I : Type 0} (steps : I → Option ℕ → I → Type 0) (context : Context) (old : Decompositions I) (text : List ℕ) (new : Decompositions I) (longer : List ℕ) (at : Option ℕ) : Type 0 where
+pub record IsDirectMatch {I : Type 0} (steps : I → Option ℕ → I → Type 0) (context : Context) (old : DecomposedSource I) (text : List ℕ) (new : DecomposedSource I) (longer : List ℕ) (at : Option ℕ) : Type 0 where
   pub ahead : ReadsTo steps (IsWholeMatch context (chosen_mapping context at)) old text new longer
   pub longest : longest_mapping context.mappings longer ≡ mapping_at context.mappings at
   pub unmarked : NoMarkFirst (drop (length (chosen_mapping context at).chars) longer)
 
 -- So much was read, and what that match consumes was taken off the text, after a character; its entry gives this
 -- element.
-pub record IsDirectStep {I : Type 0} (steps : I → Option ℕ → I → Type 0) (context : Context) (c : ℕ) (old : Decompositions I) (text before : List ℕ) (new : Decompositions I) (rest after : List ℕ) (e : Element) : Type 0 where
+pub record IsDirectStep {I : Type 0} (steps : I → Option ℕ → I → Type 0) (context : Context) (c : ℕ) (old : DecomposedSource I) (text before : List ℕ) (new : DecomposedSource I) (rest after : List ℕ) (e : Element) : Type 0 where
   pub at : Option ℕ
   pub longer : List ℕ
   pub found : IsDirectMatch steps context old text new longer at

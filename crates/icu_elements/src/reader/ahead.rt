@@ -13,9 +13,10 @@ ghost use Rattle.icu_elements.specs.Reading.{element_tables, reading_of};
 ghost use Rattle.icu_collation_data.specs.Data.{longest_mapping};
 ghost use Rattle.icu_matches.specs.MatchesAhead.{are_decided, mapping_length};
 ghost use Rattle.icu_matches.specs.Texts.{still_unread};
-ghost use Rattle.unicode_normalization.specs.Decompositions.{CanDecompose, decompositions_size};
+ghost use Rattle.icu_elements.specs.inner.Iterating.{CanRead, chars_in_source};
 ghost use Rattle.unicode_normalization.specs.Order.{is_starter};
 
+use crate::decomposed_source::DecomposedSource;
 use crate::element_tables::ElementTables;
 use crate::reader::recent::RecentChars;
 use crate::reader::taken_digits::begins_with_mark;
@@ -24,46 +25,42 @@ use icu_collation_data::FoundContext;
 use icu_entries::{CollationElement32, EntryKind};
 use icu_matches::{ClassedText, after_prefix, decided_front, find_longest, mapping_goes_on};
 use std::alloc::{AllocError, Global};
-use unicode_normalization::Decompositions;
 use unicode_normalization::char::canonical_combining_class;
 
 /// Takes one more character from the source, and returns it: `None` where none is left.
 fn read_one<I: Iterator<Item = char> + Drop>(
-    source: &mut Decompositions<I>,
+    source: &mut DecomposedSource<I>,
     text: &mut ClassedText,
 ) -> Result<Option<char>, AllocError>
-    requires { CanDecompose I.can_next I.remaining source.old }
-    ensures ready { OnOk result (CanDecompose I.can_next I.remaining source.new) }
+    requires { CanRead I.can_next I.remaining source.old }
+    ensures ready { OnOk result (CanRead I.can_next I.remaining source.new) }
     ensures text { IfOk result (λ found. ReadsOne I.next_gives found
         source.old (still_unread text.old) source.new (still_unread text.new)) }
     ensures size { OnOk result
-        (decompositions_size I.remaining source.new + length (still_unread text.new)
-        ≤ decompositions_size I.remaining source.old + length (still_unread text.old)) }
+        (chars_in_source I.remaining source.new + length (still_unread text.new)
+        ≤ chars_in_source I.remaining source.old + length (still_unread text.old)) }
     ensures shorter { IfOk result (λ found. is_some found ≡ true
-        → decompositions_size I.remaining source.new < decompositions_size I.remaining source.old) }
+        → chars_in_source I.remaining source.new < chars_in_source I.remaining source.old) }
 {
-    match source.next() {
-        None => Ok(None),
-        Some(item) => {
-            let c = item?;
-            text.push(c)?;
-            Ok(Some(c))
-        }
-    }
+    let Some(c) = source.next()? else {
+        return Ok(None);
+    };
+    text.push(c)?;
+    Ok(Some(c))
 }
 
 /// Reads on until a character is there.
 pub(crate) fn read_first<I: Iterator<Item = char> + Drop>(
-    source: &mut Decompositions<I>,
+    source: &mut DecomposedSource<I>,
     text: &mut ClassedText,
 ) -> Result<(), AllocError>
-    requires { CanDecompose I.can_next I.remaining source.old }
-    ensures ready { OnOk result (CanDecompose I.can_next I.remaining source.new) }
+    requires { CanRead I.can_next I.remaining source.old }
+    ensures ready { OnOk result (CanRead I.can_next I.remaining source.new) }
     ensures text { OnOk result (ReadsTo I.next_gives IsBegun
         source.old (still_unread text.old) source.new (still_unread text.new)) }
     ensures size { OnOk result
-        (decompositions_size I.remaining source.new + length (still_unread text.new)
-        ≤ decompositions_size I.remaining source.old + length (still_unread text.old)) }
+        (chars_in_source I.remaining source.new + length (still_unread text.new)
+        ≤ chars_in_source I.remaining source.old + length (still_unread text.old)) }
 {
     if !text.is_empty() {
         return Ok(());
@@ -93,17 +90,17 @@ fn stops_run(tables: ElementTables<'_>, text: &ClassedText) -> bool
 /// Reads on until a character doesn't go on a number, or a mark comes next.
 fn read_run<I: Iterator<Item = char> + Drop>(
     tables: ElementTables<'_>,
-    source: &mut Decompositions<I>,
+    source: &mut DecomposedSource<I>,
     text: &mut ClassedText,
 ) -> Result<(), AllocError>
-    requires { CanDecompose I.can_next I.remaining source.old }
-    ensures ready { OnOk result (CanDecompose I.can_next I.remaining source.new) }
+    requires { CanRead I.can_next I.remaining source.old }
+    ensures ready { OnOk result (CanRead I.can_next I.remaining source.new) }
     ensures text { OnOk result (ReadsTo I.next_gives
         (λ l. stops_run (element_tables tables.entry) l ≡ true)
         source.old (still_unread text.old) source.new (still_unread text.new)) }
     ensures size { OnOk result
-        (decompositions_size I.remaining source.new + length (still_unread text.new)
-        ≤ decompositions_size I.remaining source.old + length (still_unread text.old)) }
+        (chars_in_source I.remaining source.new + length (still_unread text.new)
+        ≤ chars_in_source I.remaining source.old + length (still_unread text.old)) }
 {
     if stops_run(tables, text) {
         return Ok(());
@@ -119,17 +116,17 @@ fn read_run<I: Iterator<Item = char> + Drop>(
 /// Reads on until a starter stands behind so many characters.
 pub(crate) fn read_starter<I: Iterator<Item = char> + Drop>(
     from: usize,
-    source: &mut Decompositions<I>,
+    source: &mut DecomposedSource<I>,
     text: &mut ClassedText,
 ) -> Result<(), AllocError>
-    requires can { CanDecompose I.can_next I.remaining source.old }
+    requires can { CanRead I.can_next I.remaining source.old }
     requires inside { from ≤ length (still_unread text.old) }
-    ensures ready { OnOk result (CanDecompose I.can_next I.remaining source.new) }
+    ensures ready { OnOk result (CanRead I.can_next I.remaining source.new) }
     ensures text { OnOk result (ReadsTo I.next_gives (λ l. list_any is_starter (drop from l) ≡ true)
         source.old (still_unread text.old) source.new (still_unread text.new)) }
     ensures size { OnOk result
-        (decompositions_size I.remaining source.new + length (still_unread text.new)
-        ≤ decompositions_size I.remaining source.old + length (still_unread text.old)) }
+        (chars_in_source I.remaining source.new + length (still_unread text.new)
+        ≤ chars_in_source I.remaining source.old + length (still_unread text.old)) }
 {
     if text.has_starter_from(from) {
         return Ok(());
@@ -160,12 +157,12 @@ fn longest_len(context: FoundContext<'_>, text: &[char]) -> usize
 fn read_mappings<I: Iterator<Item = char> + Drop>(
     alloc: Global,
     context: FoundContext<'_>,
-    source: &mut Decompositions<I>,
+    source: &mut DecomposedSource<I>,
     text: &mut ClassedText,
 ) -> Result<usize, AllocError>
-    requires can { CanDecompose I.can_next I.remaining source.old }
+    requires can { CanRead I.can_next I.remaining source.old }
     requires ascending { IsTrue (has_ascending_mappings (found_context context)) }
-    ensures ready { OnOk result (CanDecompose I.can_next I.remaining source.new) }
+    ensures ready { OnOk result (CanRead I.can_next I.remaining source.new) }
     ensures text { OnOk result (ReadsTo I.next_gives
         (λ l. are_decided (found_context context.entry).mappings l ≡ true)
         source.old (still_unread text.old) source.new (still_unread text.new)) }
@@ -173,8 +170,8 @@ fn read_mappings<I: Iterator<Item = char> + Drop>(
         (found_context context.entry).mappings (still_unread text.new))) }
     ensures inside { IfOk result (λ taken. taken ≤ length (still_unread text.new)) }
     ensures size { OnOk result
-        (decompositions_size I.remaining source.new + length (still_unread text.new)
-        ≤ decompositions_size I.remaining source.old + length (still_unread text.old)) }
+        (chars_in_source I.remaining source.new + length (still_unread text.new)
+        ≤ chars_in_source I.remaining source.old + length (still_unread text.old)) }
 {
     let mut front = decided_front(alloc, context, text)?;
     'mappings: while mapping_goes_on(context, front.as_slice()) {
@@ -191,18 +188,18 @@ fn read_mappings<I: Iterator<Item = char> + Drop>(
 fn read_match<I: Iterator<Item = char> + Drop>(
     alloc: Global,
     context: FoundContext<'_>,
-    source: &mut Decompositions<I>,
+    source: &mut DecomposedSource<I>,
     text: &mut ClassedText,
 ) -> Result<usize, AllocError>
-    requires can { CanDecompose I.can_next I.remaining source.old }
+    requires can { CanRead I.can_next I.remaining source.old }
     requires ascending { IsTrue (has_ascending_mappings (found_context context)) }
-    ensures ready { OnOk result (CanDecompose I.can_next I.remaining source.new) }
+    ensures ready { OnOk result (CanRead I.can_next I.remaining source.new) }
     ensures text { IfOk result (λ taken.
         ReadsTo I.next_gives (IsMatchRead (found_context context.entry) taken)
         source.old (still_unread text.old) source.new (still_unread text.new)) }
     ensures size { OnOk result
-        (decompositions_size I.remaining source.new + length (still_unread text.new)
-        ≤ decompositions_size I.remaining source.old + length (still_unread text.old)) }
+        (chars_in_source I.remaining source.new + length (still_unread text.new)
+        ≤ chars_in_source I.remaining source.old + length (still_unread text.old)) }
 {
     let taken = read_mappings(alloc, context, source, text)?;
     read_starter(taken, source, text)?;
@@ -220,16 +217,16 @@ fn begins_number(reading: TextReading<'_>, ce32: CollationElement32) -> bool
 fn read_number<I: Iterator<Item = char> + Drop>(
     reading: TextReading<'_>,
     ce32: CollationElement32,
-    source: &mut Decompositions<I>,
+    source: &mut DecomposedSource<I>,
     text: &mut ClassedText,
 ) -> Result<(), AllocError>
-    requires { CanDecompose I.can_next I.remaining source.old }
-    ensures ready { OnOk result (CanDecompose I.can_next I.remaining source.new) }
+    requires { CanRead I.can_next I.remaining source.old }
+    ensures ready { OnOk result (CanRead I.can_next I.remaining source.new) }
     ensures text { OnOk result (ReadsTo I.next_gives (IsRunRead (reading_of reading.entry) ce32)
         source.old (still_unread text.old) source.new (still_unread text.new)) }
     ensures size { OnOk result
-        (decompositions_size I.remaining source.new + length (still_unread text.new)
-        ≤ decompositions_size I.remaining source.old + length (still_unread text.old)) }
+        (chars_in_source I.remaining source.new + length (still_unread text.new)
+        ≤ chars_in_source I.remaining source.old + length (still_unread text.old)) }
 {
     if !begins_number(reading, ce32) {
         return Ok(());
@@ -241,18 +238,18 @@ fn read_number<I: Iterator<Item = char> + Drop>(
 fn read_contraction<I: Iterator<Item = char> + Drop>(
     reading: TextReading<'_>,
     context: FoundContext<'_>,
-    source: &mut Decompositions<I>,
+    source: &mut DecomposedSource<I>,
     text: &mut ClassedText,
 ) -> Result<(), AllocError>
-    requires can { CanDecompose I.can_next I.remaining source.old }
+    requires can { CanRead I.can_next I.remaining source.old }
     requires ascending { IsTrue (has_ascending_mappings (found_context context)) }
-    ensures ready { OnOk result (CanDecompose I.can_next I.remaining source.new) }
+    ensures ready { OnOk result (CanRead I.can_next I.remaining source.new) }
     ensures text { OnOk result (ReadsTo I.next_gives (HasWholeContraction (reading_of reading.entry)
         (found_context context.entry)) source.old (still_unread text.old)
         source.new (still_unread text.new)) }
     ensures size { OnOk result
-        (decompositions_size I.remaining source.new + length (still_unread text.new)
-        ≤ decompositions_size I.remaining source.old + length (still_unread text.old)) }
+        (chars_in_source I.remaining source.new + length (still_unread text.new)
+        ≤ chars_in_source I.remaining source.old + length (still_unread text.old)) }
 {
     let taken = read_match(reading.tables.allocator(), context, source, text)?;
     if taken > 0 {
@@ -265,16 +262,16 @@ fn read_contraction<I: Iterator<Item = char> + Drop>(
 fn read_dot<I: Iterator<Item = char> + Drop>(
     reading: TextReading<'_>,
     c: char,
-    source: &mut Decompositions<I>,
+    source: &mut DecomposedSource<I>,
     text: &mut ClassedText,
 ) -> Result<(), AllocError>
-    requires { CanDecompose I.can_next I.remaining source.old }
-    ensures ready { OnOk result (CanDecompose I.can_next I.remaining source.new) }
+    requires { CanRead I.can_next I.remaining source.old }
+    ensures ready { OnOk result (CanRead I.can_next I.remaining source.new) }
     ensures text { OnOk result (ReadsTo I.next_gives (IsDotRead (reading_of reading.entry) c)
         source.old (still_unread text.old) source.new (still_unread text.new)) }
     ensures size { OnOk result
-        (decompositions_size I.remaining source.new + length (still_unread text.new)
-        ≤ decompositions_size I.remaining source.old + length (still_unread text.old)) }
+        (chars_in_source I.remaining source.new + length (still_unread text.new)
+        ≤ chars_in_source I.remaining source.old + length (still_unread text.old)) }
 {
     if reading.lithuanian_dot_above && c == '\u{307}' {
         return read_first(source, text);
@@ -287,17 +284,17 @@ pub(crate) fn read_ahead<I: Iterator<Item = char> + Drop>(
     reading: TextReading<'_>,
     recent: RecentChars,
     c: char,
-    source: &mut Decompositions<I>,
+    source: &mut DecomposedSource<I>,
     text: &mut ClassedText,
 ) -> Result<(), AllocError>
-    requires { CanDecompose I.can_next I.remaining source.old }
-    ensures ready { OnOk result (CanDecompose I.can_next I.remaining source.new) }
+    requires { CanRead I.can_next I.remaining source.old }
+    ensures ready { OnOk result (CanRead I.can_next I.remaining source.new) }
     ensures text { OnOk result (ReadsTo I.next_gives (HasWholeStep (reading_of reading.entry)
         (recent_chars recent) c) source.old (still_unread text.old)
         source.new (still_unread text.new)) }
     ensures size { OnOk result
-        (decompositions_size I.remaining source.new + length (still_unread text.new)
-        ≤ decompositions_size I.remaining source.old + length (still_unread text.old)) }
+        (chars_in_source I.remaining source.new + length (still_unread text.new)
+        ≤ chars_in_source I.remaining source.old + length (still_unread text.old)) }
 {
     if reading.tables.diacritic(c).is_some() {
         return read_dot(reading, c, source, text);

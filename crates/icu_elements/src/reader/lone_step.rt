@@ -14,9 +14,10 @@ ghost use Rattle.icu_elements.specs.inner.StepsTaken.{IsSingle, FirstIsLater, Fi
 ghost use Rattle.icu_elements.specs.inner.Streams.{chars_ahead};
 ghost use Rattle.icu_matches.specs.Texts.{still_unread};
 ghost use Rattle.icu_provider.specs.Tables.{diacritic_of, entry_of};
-ghost use Rattle.unicode_normalization.specs.Decompositions.{CanDecompose, decompositions_size};
+ghost use Rattle.icu_elements.specs.inner.Iterating.{CanRead, chars_in_source};
 ghost use Rattle.unicode_normalization.specs.Order.{is_starter};
 
+use crate::decomposed_source::DecomposedSource;
 use crate::element_tables::ElementTables;
 use crate::reader::ahead::{read_first, read_starter};
 use crate::reader::position::Position;
@@ -26,7 +27,6 @@ use icu_collation_data::{FoundContext, FoundMapping};
 use icu_entries::{CollationElement, CollationElement32, EntryKind};
 use icu_matches::{ClassedText, find_longest, mapping_goes_on};
 use std::alloc::AllocError;
-use unicode_normalization::Decompositions;
 use unicode_normalization::char::canonical_combining_class;
 
 /// The element of an entry that gives one and looks at nothing but its character, whatever its home is. `None` says
@@ -167,12 +167,12 @@ fn no_mark_at(text: &ClassedText, index: usize) -> bool
 /// mark follows that may join. `None` says nothing.
 fn direct_match<I: Iterator<Item = char> + Drop>(
     context: FoundContext<'_>,
-    source: &mut Decompositions<I>,
+    source: &mut DecomposedSource<I>,
     text: &mut ClassedText,
 ) -> Result<Option<Option<usize>>, AllocError>
-    requires can { CanDecompose I.can_next I.remaining source.old }
+    requires can { CanRead I.can_next I.remaining source.old }
     requires ascending { IsTrue (has_ascending_mappings (found_context context)) }
-    ensures ready { OnOk result (CanDecompose I.can_next I.remaining source.new) }
+    ensures ready { OnOk result (CanRead I.can_next I.remaining source.new) }
     ensures text { IfOk result (λ found. MatchOption found
         (ReadsMore I.next_gives source.old (still_unread text.old)
         source.new (still_unread text.new))
@@ -181,8 +181,8 @@ fn direct_match<I: Iterator<Item = char> + Drop>(
     ensures inside { IfOk result (λ found. IfSome found (λ at. IfSome at
         (λ i. i < length (found_context context.entry).mappings))) }
     ensures size { OnOk result
-        (decompositions_size I.remaining source.new + length (still_unread text.new)
-        ≤ decompositions_size I.remaining source.old + length (still_unread text.old)) }
+        (chars_in_source I.remaining source.new + length (still_unread text.new)
+        ≤ chars_in_source I.remaining source.old + length (still_unread text.old)) }
 {
     read_first(source, text)?;
     if text.is_empty() {
@@ -206,14 +206,14 @@ fn direct_match<I: Iterator<Item = char> + Drop>(
 /// Takes what a contraction consumes off the text, where no mark may join it and its entry gives one element.
 fn take_direct<I: Iterator<Item = char> + Drop>(
     context: FoundContext<'_>,
-    source: &mut Decompositions<I>,
+    source: &mut DecomposedSource<I>,
     text: &mut ClassedText,
     recent: &mut RecentChars,
     c: char,
 ) -> Result<Option<CollationElement>, AllocError>
-    requires can { CanDecompose I.can_next I.remaining source.old }
+    requires can { CanRead I.can_next I.remaining source.old }
     requires ascending { IsTrue (has_ascending_mappings (found_context context)) }
-    ensures ready { OnOk result (CanDecompose I.can_next I.remaining source.new) }
+    ensures ready { OnOk result (CanRead I.can_next I.remaining source.new) }
     ensures text { IfOk result (λ found. MatchOption found
         (ReadsMore I.next_gives source.old (still_unread text.old)
         source.new (still_unread text.new))
@@ -222,8 +222,8 @@ fn take_direct<I: Iterator<Item = char> + Drop>(
         (recent_chars recent.new))) }
     ensures recent { IfOk result (λ found. found ≡ None → recent.new ≡ recent.old) }
     ensures size { OnOk result
-        (decompositions_size I.remaining source.new + length (still_unread text.new)
-        ≤ decompositions_size I.remaining source.old + length (still_unread text.old)) }
+        (chars_in_source I.remaining source.new + length (still_unread text.new)
+        ≤ chars_in_source I.remaining source.old + length (still_unread text.old)) }
 {
     let Some(index) = direct_match(context, source, text)? else {
         return Ok(None);
@@ -241,13 +241,13 @@ fn take_direct<I: Iterator<Item = char> + Drop>(
 /// and no mark may join.
 fn contraction_step<I: Iterator<Item = char> + Drop>(
     reading: TextReading<'_>,
-    source: &mut Decompositions<I>,
+    source: &mut DecomposedSource<I>,
     at: &mut Position,
     c: char,
 ) -> Result<Option<CollationElement>, AllocError>
-    requires can { CanDecompose I.can_next I.remaining source.old }
+    requires can { CanRead I.can_next I.remaining source.old }
     requires no_diacritic { diacritic_of (element_tables reading.tables) c ≡ None }
-    ensures ready { OnOk result (CanDecompose I.can_next I.remaining source.new) }
+    ensures ready { OnOk result (CanRead I.can_next I.remaining source.new) }
     ensures step { IfOk result (StepsOrLooks I.next_gives (reading_of reading.entry) c
         source.old at.old source.new at.new) }
     ensures size { OnOk result (chars_ahead I.remaining source.new at.new
@@ -289,12 +289,12 @@ fn sounding_diacritic(
 /// returns that. `None`: no step was taken.
 pub(crate) fn lone_step<I: Iterator<Item = char> + Drop>(
     reading: TextReading<'_>,
-    source: &mut Decompositions<I>,
+    source: &mut DecomposedSource<I>,
     at: &mut Position,
     c: char,
 ) -> Result<Option<CollationElement>, AllocError>
-    requires { CanDecompose I.can_next I.remaining source.old }
-    ensures ready { OnOk result (CanDecompose I.can_next I.remaining source.new) }
+    requires { CanRead I.can_next I.remaining source.old }
+    ensures ready { OnOk result (CanRead I.can_next I.remaining source.new) }
     ensures step { IfOk result (StepsOrLooks I.next_gives (reading_of reading.entry) c
         source.old at.old source.new at.new) }
     ensures size { OnOk result (chars_ahead I.remaining source.new at.new

@@ -8,10 +8,10 @@ use Rattle.icu_elements.proofs.collation_elements.CollationElements.new.Goals as
 pub returns-clause-text : goal.returns-clause-text
 returns-clause-text g c = λ cs h. StillGives-source _ _ _ refl (record {
   left = nfd cs;
-  source = c.new_canonical.ensures.text cs h;
+  source = c.new.ensures.text cs h;
   elements = fresh_by c.at_start.result _ (nfd cs) c.at_start.ensures.reading c.at_start.ensures.ready c.at_start.ensures.before (search rules);
 })
 
 pub returns-clause-ready : goal.returns-clause-ready
 unfolding CanGive
-returns-clause-ready g c = c.new_canonical.ensures.ready
+returns-clause-ready g c = c.new.ensures.ready

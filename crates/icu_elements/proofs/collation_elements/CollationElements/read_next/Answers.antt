@@ -1,8 +1,8 @@
-use Rattle.icu_elements.proofs.CollationElementsLemmas.{HasSource-StillGives, CanDecompose-CanGive}
+use Rattle.icu_elements.proofs.CollationElementsLemmas.{HasSource-StillGives, CanRead-CanGive}
 use Rattle.icu_elements.proofs.collation_elements.CollationElements.read_next.Goals as goal
 
 pub take_next-requires : goal.take_next-requires
-take_next-requires g c = CanDecompose-CanGive g.I.Iterator.can_next g.I.Iterator.remaining _ c.in-Reading.is c.requires
+take_next-requires g c = CanRead-CanGive g.I.Iterator.can_next g.I.Iterator.remaining _ c.in-Reading.is c.requires
 
 pub returns-in-Reading-clause-gives : goal.returns-in-Reading-clause-gives
 returns-in-Reading-clause-gives g c = λ es h.

@@ -1,6 +1,6 @@
 use Rattle.std.proofs.Common.{◌≡◌, List, []}
 use Rattle.icu_entries.specs.Elements.{Element}
-use Rattle.unicode_normalization.specs.Decompositions.{CanDecompose}
+use Rattle.icu_elements.specs.inner.Iterating.{CanRead}
 use Rattle.icu_elements.specs.CollationElements.{HasSource}
 use Rattle.icu_elements.specs.inner.ReadyElements.{ready_elements}
 use Rattle.icu_elements.specs.inner.Streams.{chars_ahead}
@@ -9,7 +9,7 @@ use Rattle.icu_elements.proofs.collation_elements.CollationElements.read_on.Give
 -- nothing is lost, and none stands ready
 abbrev pub invariant-steps : goal.invariant-steps
 invariant-steps g l = record {
-  can : CanDecompose g.I.Iterator.can_next g.I.Iterator.remaining l.self.source;
+  can : CanRead g.I.Iterator.can_next g.I.Iterator.remaining l.self.source;
   none : ready_elements l.self.reader ≡ [];
   gives : (es : List Element) → HasSource g.I.Iterator.next_gives l.fn.self es → HasSource g.I.Iterator.next_gives l.self es;
   progress : l.self.progress ≡ l.fn.self.progress;

@@ -1,5 +1,5 @@
 use Rattle.std.proofs.Common.{◌+◌, ◌≤◌, length}
-use Rattle.unicode_normalization.specs.Decompositions.{CanDecompose, decompositions_size}
+use Rattle.icu_elements.specs.inner.Iterating.{CanRead, chars_in_source}
 use Rattle.icu_collation_data.specs.StoredData.{found_context}
 use Rattle.icu_matches.specs.MatchesAhead.{IsDecidedFront}
 use Rattle.icu_matches.specs.Texts.{still_unread}
@@ -8,11 +8,11 @@ use Rattle.icu_elements.proofs.reader.ahead.read_mappings.Given as goal
 
 abbrev pub invariant-mappings : goal.invariant-mappings
 invariant-mappings g l = record {
-  can : CanDecompose g.I.Iterator.can_next g.I.Iterator.remaining l.source;
+  can : CanRead g.I.Iterator.can_next g.I.Iterator.remaining l.source;
   reads : ReadsMore g.I.Iterator.next_gives l.fn.source (still_unread l.fn.text) l.source (still_unread l.text);
-  size : decompositions_size g.I.Iterator.remaining l.source + length (still_unread l.text) ≤ decompositions_size g.I.Iterator.remaining l.fn.source + length (still_unread l.fn.text);
+  size : chars_in_source g.I.Iterator.remaining l.source + length (still_unread l.text) ≤ chars_in_source g.I.Iterator.remaining l.fn.source + length (still_unread l.fn.text);
   front : IsDecidedFront (found_context l.context).mappings (still_unread l.text) l.front.items;
 }
 
 abbrev pub decreases-mappings : goal.decreases-mappings
-decreases-mappings g l = decompositions_size g.I.Iterator.remaining l.source
+decreases-mappings g l = chars_in_source g.I.Iterator.remaining l.source

@@ -1,15 +1,15 @@
 use Rattle.std.proofs.Common.{◌+◌, ◌≤◌, length}
-use Rattle.unicode_normalization.specs.Decompositions.{CanDecompose, decompositions_size}
+use Rattle.icu_elements.specs.inner.Iterating.{CanRead, chars_in_source}
 use Rattle.icu_matches.specs.Texts.{still_unread}
 use Rattle.icu_elements.specs.inner.ReadsAhead.{ReadsMore}
 use Rattle.icu_elements.proofs.reader.ahead.read_run.Given as goal
 
 abbrev pub invariant-loop-c : goal.invariant-loop-c
 invariant-loop-c g l = record {
-  can : CanDecompose g.I.Iterator.can_next g.I.Iterator.remaining l.source;
+  can : CanRead g.I.Iterator.can_next g.I.Iterator.remaining l.source;
   reads : ReadsMore g.I.Iterator.next_gives l.fn.source (still_unread l.fn.text) l.source (still_unread l.text);
-  size : decompositions_size g.I.Iterator.remaining l.source + length (still_unread l.text) ≤ decompositions_size g.I.Iterator.remaining l.fn.source + length (still_unread l.fn.text);
+  size : chars_in_source g.I.Iterator.remaining l.source + length (still_unread l.text) ≤ chars_in_source g.I.Iterator.remaining l.fn.source + length (still_unread l.fn.text);
 }
 
 abbrev pub decreases-loop-c : goal.decreases-loop-c
-decreases-loop-c g l = decompositions_size g.I.Iterator.remaining l.source
+decreases-loop-c g l = chars_in_source g.I.Iterator.remaining l.source
