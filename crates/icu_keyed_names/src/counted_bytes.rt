@@ -77,7 +77,8 @@ fn push_count(bytes: &mut Vec<u8>, count: usize) -> Result<(), AllocError>
     ensures err { OnErr result (bytes.new.items ≡ bytes.old.items) }
 {
     if count < 255 {
-        return bytes.extend_from_slice(&[count as u8]);
+        bytes.push(count as u8)?;
+        return Ok(());
     }
     let [a, b, c, d, e, f, g, h] = (count as u64).to_be_bytes();
     bytes.extend_from_slice(&[WIDE, a, b, c, d, e, f, g, h])

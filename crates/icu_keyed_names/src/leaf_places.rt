@@ -1,11 +1,12 @@
 //! Where a border stands among the entries of leaves.
 
-ghost use Rattle.std.specs.Prelude.{◌≡◌, ◌≤◌, true, false, length, IsTrue};
+ghost use Rattle.std.specs.Prelude.{◌≡◌, ◌<◌, ◌≤◌, true, false, length, IfSome, IsTrue};
 ghost use Rattle.std.specs.List.Sorted.{IsPartitionPoint};
 ghost use Rattle.icu_keyed_names.specs.inner.NameEntries.{entry_before};
-ghost use Rattle.icu_keyed_names.specs.inner.Leaves.{AreFilled, IsInside, IsParted, Parts, entries_of, leaf_at, leaf_before};
+ghost use Rattle.icu_keyed_names.specs.inner.Leaves.{AreFilled, IsInside, IsParted, Parts, PassesBefore, entries_of, leaf_at, leaf_before};
 
 use crate::name_entries::{Entry, Sought};
+use crate::numbers::{entries_below, numbers_below};
 
 /// A place among the entries: a leaf, and how many of its entries stand before the place.
 #[derive(Clone, Copy)]
@@ -77,21 +78,6 @@ fn find_by_keys(bytes: &[u8], leaves: &[Vec<Entry>], sought: &Sought<'_>) -> Pla
     Place { leaf, index }
 }
 
-/// A leaf that has the place of a border, where the numbers that the leaves behind the first one begin with tell it.
-fn leaf_by_numbers(firsts: &[u64], prefix: u64) -> usize {
-    firsts.partition_point(|first| -> bool { *first < prefix })
-}
-
-/// How many entries of a leaf have a number below that of a border, or where it is among them, stand before the border.
-fn index_by_numbers(bytes: &[u8], leaf: &[Entry], sought: &Sought<'_>) -> usize {
-    let prefix = sought.prefix;
-    let count = leaf.partition_point(|entry| -> bool { entry.prefix < prefix });
-    match leaf.get(count) {
-        Some(entry) if entry.prefix == prefix => entries_before(bytes, leaf, sought),
-        _ => count,
-    }
-}
-
 /// Whether the entry before an index of a leaf stands before a border, and the one at the index behind it.
 fn has_place(bytes: &[u8], leaf: &[Entry], index: usize, sought: &Sought<'_>) -> bool
     ensures { IsTrue result → IsInside (entry_before bytes.now sought.now.border) leaf.now index }
@@ -108,6 +94,40 @@ fn has_place(bytes: &[u8], leaf: &[Entry], index: usize, sought: &Sought<'_>) ->
     !leaf[index].is_before(bytes, sought)
 }
 
+/// The place of a border behind entries with lower numbers, as many as are told, where the next one has its number.
+fn tied_place(bytes: &[u8], leaf: &[Entry], count: usize, sought: &Sought<'_>) -> Option<usize>
+    requires there { count < length leaf.now }
+    requires some { 0 < count }
+    requires passes { PassesBefore (entry_before bytes.now sought.now.border) leaf.now count }
+    ensures { IfSome result (IsInside (entry_before bytes.now sought.now.border) leaf.now) }
+{
+    if count + 1 < leaf.len() && leaf[count + 1].is_above(sought) {
+        if leaf[count].is_before(bytes, sought) {
+            return Some(count + 1);
+        }
+        return Some(count);
+    }
+    let index = count + entries_before(bytes, &leaf[count..], sought);
+    if has_place(bytes, leaf, index, sought) {
+        return Some(index);
+    }
+    None
+}
+
+/// The place of a border in a leaf, where there are entries on both sides of it, and numbers show it or come near.
+fn place_inside(bytes: &[u8], leaf: &[Entry], sought: &Sought<'_>) -> Option<usize>
+    ensures { IfSome result (IsInside (entry_before bytes.now sought.now.border) leaf.now) }
+{
+    let count = entries_below(leaf, sought.prefix);
+    if count == 0 || leaf.len() <= count || !leaf[count - 1].is_below(sought) {
+        return None;
+    }
+    if leaf[count].is_above(sought) {
+        return Some(count);
+    }
+    tied_place(bytes, leaf, count, sought)
+}
+
 /// The place of a border. Numbers tell it mostly, and what stands beside it is looked at.
 pub(crate) fn find_place(
     bytes: &[u8],
@@ -121,14 +141,13 @@ pub(crate) fn find_place(
         AreFilled leaves.now → IsParted test (entries_of leaves.now)
         → Parts test leaves.now result.leaf result.index }
 {
-    let leaf = leaf_by_numbers(firsts, sought.prefix);
+    let leaf = numbers_below(firsts, sought.prefix);
     if leaves.len() <= leaf {
         return find_by_keys(bytes, leaves, sought);
     }
     let entries = leaf_at(leaves, leaf);
-    let index = index_by_numbers(bytes, entries, sought);
-    if !has_place(bytes, entries, index, sought) {
-        return find_by_keys(bytes, leaves, sought);
+    match place_inside(bytes, entries, sought) {
+        Some(index) => Place { leaf, index },
+        None => find_by_keys(bytes, leaves, sought),
     }
-    Place { leaf, index }
 }

@@ -10,6 +10,7 @@ mod leaf_places;
 mod leaves;
 mod name_entries;
 pub mod names;
+mod numbers;
 
 pub use borders::Border;
 pub use keyed_names::KeyedNames;

@@ -1,6 +1,6 @@
 //! Entries of names: where they stand in the buffer.
 
-ghost use Rattle.std.specs.Prelude.{◌≡◌, drop};
+ghost use Rattle.std.specs.Prelude.{◌≡◌, ℕ, List, true, false, drop, IsTrue};
 ghost use Rattle.icu_levels.specs.ListOrder.{list_order};
 ghost use Rattle.icu_keyed_names.specs.inner.NameEntries.{behind_counted, count_of, entry_before, first_counted, key_in, name_in, prefix_of};
 ghost use Rattle.icu_beginnings.specs.KeyBeginnings.{AreBytes};
@@ -62,6 +62,7 @@ impl Entry {
     }
 
     /// How the key compares to another one, where both begin with the same number.
+    #[inline(never)]
     fn tied_order(&self, bytes: &[u8], other: &[u8]) -> Ordering
         ensures { self.now.prefix ≡ prefix_of other.now
             → result ≡ list_order (key_in bytes.now self.now) other.now }
@@ -72,7 +73,24 @@ impl Entry {
         first.then(key.bytes.cmp(skip(other, FIRST)))
     }
 
+    /// Whether the number is below that of a border, so that the key stands before it.
+    pub(crate) fn is_below(&self, sought: &Sought<'_>) -> bool
+        ensures { IsTrue result → (bytes : List ℕ)
+            → entry_before bytes sought.now.border self.now ≡ true }
+    {
+        self.prefix < sought.prefix
+    }
+
+    /// Whether the number is above that of a border, so that the key stands behind it.
+    pub(crate) fn is_above(&self, sought: &Sought<'_>) -> bool
+        ensures { IsTrue result → (bytes : List ℕ)
+            → entry_before bytes sought.now.border self.now ≡ false }
+    {
+        sought.prefix < self.prefix
+    }
+
     /// Whether the key stands before a border.
+    #[inline(always)]
     pub(crate) fn is_before(&self, bytes: &[u8], sought: &Sought<'_>) -> bool
         ensures { result ≡ entry_before bytes.now sought.now.border self.now }
     {
