@@ -1,6 +1,6 @@
 -- A letter composed with a mark that contractions join gives before marks of lower classes what it gives at the end of
 -- a text.
-use Rattle.std.proofs.Common.{◌≡◌, ◌≢◌, ℕ, ◌≤◌, ◌<◌, Bool, true, false, ◌&&◌, ◌||◌, nat_eq, nat_le, nat_lt, List, [], ◌∷◌, ◌++◌, length, drop, append-nil, append_assoc, Option, Some, None, refl, sym, ap, ◌∙◌, inl, inr, arith, flat_map, subst, eq-eqb, if◌then◌else◌, rules}
+use Rattle.std.proofs.Common.{◌≡◌, ◌≢◌, ℕ, ◌≤◌, ◌<◌, Bool, true, false, ◌&&◌, nat_eq, nat_le, nat_lt, List, [], ◌∷◌, ◌++◌, length, drop, append-nil, append_assoc, Option, Some, None, refl, sym, ap, ◌∙◌, inl, inr, arith, flat_map, subst, eq-eqb, rules}
 use Rattle.std.specs.Prelude.{bytes_eq, ⊤}
 use Rattle.std.specs.List.{starts_with}
 use Rattle.std.proofs.lemmas.Bool.{cases_Bool, and_parts, lt-ltb, ne_eqb, true≢false}
@@ -8,19 +8,18 @@ use Rattle.ucd_normal.specs.CanonicalCombiningClass.{canonical_combining_class a
 use Rattle.ucd_normal.specs.declared.forms.Form.TheVariants.{Nfd}
 use Rattle.unicode_normalization.specs.Decompose.{decompose}
 use Rattle.unicode_normalization.specs.Forms.{nfd, normalize, decomposed}
-use Rattle.unicode_normalization.specs.Order.{is_starter, sink, canonical_order}
+use Rattle.unicode_normalization.specs.Order.{is_starter, sink}
 use Rattle.unicode_normalization.proofs.OrderLemmas.{canonical_order-cons, is_reorderable_from, sink-past, sink-nil}
-use Rattle.icu_entries.specs.declared.entry.EntryKind.{EntryKind}
 use Rattle.icu_entries.specs.declared.entry.EntryKind.TheVariants.{Digit}
 use Rattle.icu_entries.specs.Elements.{Element}
 use Rattle.icu_entries.specs.Entries.{kind_of}
-use Rattle.icu_collation_data.specs.Data.{Mapping, Context, Data, homed, plain_of, context_of, mapping_entry, is_longer, longest_from, longest_mapping}
+use Rattle.icu_collation_data.specs.Data.{Mapping, Context, Data, homed, plain_of, context_of, mapping_entry, is_longer, longest_from}
 use Rattle.icu_collation_data.specs.Final.{final_elements}
 use Rattle.icu_provider.specs.Tables.{entry_of, diacritic_of}
 use Rattle.icu_matches.specs.Matches.{Match, after_prefix, is_blocked, with_marks, contracted, match_of}
 use Rattle.icu_matches.proofs.ChoiceLemmas.{either, digit_by}
 use Rattle.icu_matches.proofs.ReadAheadLemmas.{match_of-contraction}
-use Rattle.icu_elements.specs.TextElements.{Reading, Step, entry_step, matched_step, step, consumed, last_two, elements_after}
+use Rattle.icu_elements.specs.TextElements.{Reading, Step, entry_step, matched_step, consumed, last_two, elements_after}
 use Rattle.icu_elements.proofs.StepLemmas.{elements_after_cons, elements_after_nil}
 use Rattle.icu_boundaries.specs.Alone.{context_after, stays_first, all_stay}
 use Rattle.icu_boundaries.proofs.NfdLemmas.{nfd-nil, nfd-begins, nfd-stay, stays_first-rises}

@@ -17,7 +17,7 @@ use crate::last_characters::LastCharacters;
 use crate::ready_elements::ReadyElements;
 use crate::ready_place::ReadyPlace;
 use crate::stands::{read_behind, stands_before};
-use crate::unjoined::{is_plainly_unjoined, is_unjoined};
+use crate::unjoined::{is_cut_before_ascii, is_plainly_unjoined, is_unjoined};
 use crate::{CharFacts, FactsKind, Kept};
 use icu_encodings::EncodedText;
 use icu_entries::CollationElement;
@@ -27,6 +27,15 @@ use icu_facts::FewElements;
 /// `SteadyCursor` goes on from there.
 #[derive(Debug, Clone, Copy)]
 pub struct LongPiece;
+
+/// Whether a character begins contractions, and has one element where none goes on.
+#[inline(always)]
+fn is_base_of_one(facts: &CharFacts) -> bool
+    ensures base { IsTrue result → facts.now.kind ≡ FactsKind.Base }
+    ensures one { IsTrue result → facts.now.count ≡ 1 }
+{
+    facts.kind == FactsKind::Base && facts.count == 1
+}
 
 /// Reads an encoded text and gives its collation elements, one by one (UTS #10, "Produce Collation Element Arrays"). A
 /// character that gives the same elements wherever it stands is read from what is kept of it; any other with what
@@ -111,7 +120,12 @@ impl<'c, 'd, T: EncodedText, R: ReadyPlace> ElementCursor<'c, 'd, T, R> {
         let (byte, rest) = self.text.split_first_ascii()?;
         let c = char::from(byte);
         let tables = self.tables;
-        self.take_kept(c, tables.kept(c), rest)
+        match tables.kept(c) {
+            Kept::Facts(facts) if is_base_of_one(facts) && is_cut_before_ascii(tables, rest) => {
+                self.take_one(c, facts, rest)
+            }
+            kept => self.take_kept(c, kept, rest),
+        }
     }
 
     /// The element of a character that has one. Nothing stands ready then, and nothing is stored of what does.
@@ -163,6 +177,7 @@ impl<'c, 'd, T: EncodedText, R: ReadyPlace> ElementCursor<'c, 'd, T, R> {
         match kept {
             Kept::Own => self.take_own(c, rest),
             Kept::Facts(facts) if facts.kind == FactsKind::Mark => self.take_mark(c, facts, rest),
+            Kept::Facts(facts) if facts.kind == FactsKind::Base => self.take_base(c, facts, rest),
             Kept::Facts(facts) => self.take_char(c, facts, rest),
             Kept::Nothing => self.take_syllable(c, rest),
         }
@@ -193,9 +208,6 @@ impl<'c, 'd, T: EncodedText, R: ReadyPlace> ElementCursor<'c, 'd, T, R> {
         ensures next { gives_with R.ready T.text self.old
             ≡ option_to_list result ++ gives_with R.ready T.text self.new }
     {
-        if facts.kind == FactsKind::Base {
-            return self.take_base(c, facts, rest);
-        }
         if !stands_before(self.tables, facts, rest) {
             return None;
         }

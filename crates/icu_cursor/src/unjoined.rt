@@ -8,6 +8,7 @@ ghost use Rattle.icu_collation_data.specs.Contexts.{has_ascending_mappings};
 ghost use Rattle.icu_collation_data.specs.StoredData.{found_context};
 ghost use Rattle.icu_entries.specs.Elements.{Element};
 ghost use Rattle.icu_cursor.specs.Cursors.{cursor_reading};
+ghost use Rattle.icu_cursor.specs.inner.Places.{BeginsAtBoundary};
 ghost use Rattle.icu_cursor.specs.inner.Standing.{StandsBefore};
 ghost use Rattle.icu_elements.specs.TextElements.{Reading};
 ghost use Rattle.icu_elements.specs.inner.StepsTaken.{FirstIsEarlier, FirstIsLater, NoneBeginsWith};
@@ -252,10 +253,24 @@ fn joins_no_mark<T: EncodedText>(
     }
 }
 
+/// Whether a text begins with an ASCII character before which it may be cut. False says nothing.
+#[inline(always)]
+pub(crate) fn is_cut_before_ascii<T: EncodedText>(tables: &CursorTables<'_>, text: T) -> bool
+    ensures { IsTrue result → BeginsAtBoundary (cursor_reading tables.now) (T.text text) }
+{
+    let Some((byte, _)) = text.split_first_ascii() else {
+        return false;
+    };
+    match tables.facts(char::from(byte)) {
+        Some(facts) => facts.has_boundary_before,
+        None => false,
+    }
+}
+
 /// Whether a character that begins contractions gives before a text what it gives at the end of one, as `is_unjoined`
 /// has it, by one look at the next character: at the end and before a boundary it does, and before marks if none of
 /// them is joined. `None` where another character follows. `Some(false)` and `None` say nothing.
-#[inline(never)]
+#[inline(always)]
 pub(crate) fn is_plainly_unjoined<T: EncodedText>(
     tables: &CursorTables<'_>,
     c: char,

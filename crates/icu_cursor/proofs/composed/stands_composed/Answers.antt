@@ -1,9 +1,7 @@
-use Rattle.std.proofs.Common.{◌≡◌, ◌∷◌, ℕ, ◌≤◌, ◌<◌, arith, rules}
+use Rattle.std.proofs.Common.{◌∷◌, ◌≤◌, ◌<◌, arith, rules}
 use Rattle.icu_collation_data.specs.StoredData.{found_context}
 use Rattle.icu_cursor.specs.Cursors.{cursor_reading}
 use Rattle.icu_cursor.specs.inner.Unjoined.{BeginsNone}
-use Rattle.icu_cursor.specs.inner.Composed.{AreLowerMarksBefore, IsComposed}
-use Rattle.icu_cursor.proofs.StandLemmas.{cut_stands}
 use Rattle.icu_cursor.proofs.ComposedLemmas.{below_more, composed_stands_before}
 use Rattle.icu_cursor.proofs.composed.stands_composed.Goals as goal
 
