@@ -1,12 +1,12 @@
 -- Entries that spell their element: they lead to no other, can be read, and fail what that element fails.
-use Rattle.std.proofs.Common.{◌≡◌, ℕ, Bool, true, false, not, ◌&&◌, ◌∷◌, [], Option, Some, None, refl, ◌∙◌}
+use Rattle.std.proofs.Common.{◌≡◌, ℕ, Bool, true, false, not, ◌&&◌, ◌∷◌, [], ◌/◌, ◌*◌, Option, Some, None, refl, ap, ◌∙◌}
 use Rattle.std.specs.Prelude.{if◌then◌else◌}
 use Rattle.icu_entries.specs.declared.entry.EntryKind.{EntryKind}
 use Rattle.icu_entries.specs.declared.entry.EntryKind.TheVariants.{Simple, LongPrimary, LongSecondary}
 use Rattle.icu_entries.specs.declared.element_conditions.ElementCondition.TheVariants as of_element
-use Rattle.icu_entries.specs.Elements.{Element}
+use Rattle.icu_entries.specs.Elements.{Element, of_primary}
 use Rattle.icu_entries.specs.ElementConditions.{element_meets}
-use Rattle.icu_entries.specs.Entries.{kind_of, is_self_contained, self_contained}
+use Rattle.icu_entries.specs.Entries.{kind_of, is_self_contained, self_contained, long_primary_element}
 use Rattle.icu_entries.specs.EntryConditions.{has_digit, has_known_byte}
 use Rattle.icu_collation_data.specs.declared.character_walk.Part.{Part}
 use Rattle.icu_collation_data.specs.declared.character_walk.Part.TheVariants.{Counted, Implicit}
@@ -17,7 +17,7 @@ use Rattle.icu_collation_data.specs.DataConditions.{is_inside, has_short_mapping
 use Rattle.icu_collation_data.specs.ReachableConditions.{first_failing}
 use Rattle.icu_collation_data.specs.CollectedWeights.{is_stated}
 use Rattle.icu_collation_data.specs.inner.BlockWalks.{is_wanted, leads_to, leads_further}
-use Rattle.icu_collation_data.specs.inner.Visitors.{first_failing_element, given_elements, collected, collected_at}
+use Rattle.icu_collation_data.specs.inner.Visitors.{first_failing_element, given_elements, and_found, collected, collected_at}
 use Rattle.icu_collation_data.proofs.ReachLemmas.{leaf_leads}
 
 -- what holds of such an entry
@@ -118,3 +118,12 @@ module _ (home : Data) (c e : ℕ) (is : is_self_contained e ≡ true) where
     pub spelled_collected : {W : Type 0} (weight : W → Element → Option ℕ) (s : W × (ℕ → Bool)) → collected_at weight s home c e ≡ collected weight s x
     unfolding given_elements
     spelled_collected weight s = rw (given_elements, spelled.stated ∙ spelled_readable, spelled.gives, gives) refl
+
+-- of one that spells a primary weight alone nothing is, where no weight of its element is collected
+pub passes_long_primary : {W : Type 0} (weight : W → Element → Option ℕ) (w : W) → ((p : ℕ) → weight w (of_primary p) ≡ None) → (ws : ℕ → Bool) (home : Data) (c e : ℕ) → kind_of e ≡ LongPrimary
+    → collected_at weight (w, ws) home c e ≡ (w, ws)
+unfolding is_self_contained self_contained
+passes_long_primary weight w none ws home c e is =
+    let spelled : is_self_contained e ≡ true = rw (is, is_self_contained) refl in
+    let gives : self_contained e ≡ long_primary_element e ∷ [] = rw (is, self_contained) refl in
+    spelled_collected home c e spelled (long_primary_element e) gives weight (w, ws) ∙ ap (λ found. (w, and_found ws found)) (none (e / 256 * 256))

@@ -3,6 +3,7 @@ ghost use Rattle.std.specs.Prelude.{◌≡◌, ◌↔◌, ℕ, Bool, true, false
 ghost use Rattle.std.specs.List.{Contains};
 ghost use Rattle.std.specs.List.Sorted.{IsStrictlyIncreasing};
 ghost use Rattle.icu_entries.specs.Elements.{Element, of_primary};
+ghost use Rattle.icu_entries.specs.Entries.{kind_of};
 ghost use Rattle.icu_collation_data.specs.Reachable.{reachable_from};
 ghost use Rattle.icu_collation_data.specs.StoredData.{data_of};
 ghost use Rattle.icu_collation_data.specs.DataConditions.{is_readable};
@@ -115,6 +116,17 @@ fn is_stated(home: CollationData<'_>, c: char, entry: CollationElement32) -> boo
     }
 }
 
+/// Whether an entry spells a primary weight alone: its element has common weights below.
+#[inline(always)]
+fn is_long_primary(entry: CollationElement32) -> bool
+    ensures { result ≡ true → kind_of entry ≡ EntryKind.LongPrimary }
+{
+    match entry.kind() {
+        EntryKind::LongPrimary => true,
+        _ => false,
+    }
+}
+
 /// A visitor that collects weights.
 #[derive(Drop)]
 pub struct Collector<'w, W, H> {
@@ -194,6 +206,9 @@ impl<'w, W: Weigh, H: HoldWeights> Visit for Collector<'w, W, H> {
         c: char,
         entry: CollationElement32,
     ) -> Result<(), AllocError> {
+        if is_long_primary(entry) && !self.weigh.weighs_primaries() {
+            return Ok(());
+        }
         if entry.is_self_contained() {
             return VisitElement::visit(self, entry.self_contained());
         }

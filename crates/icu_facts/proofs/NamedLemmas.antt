@@ -1,6 +1,7 @@
 -- What a list of characters doesn't have, no mapping names whose characters are a part of it.
-use Rattle.std.proofs.Common.{◌≡◌, ◌≢◌, ℕ, zero, suc, ◌<◌, ◌≤◌, ◌+◌, Bool, true, false, ◌||◌, ◌==◌, List, [], ◌∷◌, ◌++◌, length, take, drop, get_or, Result, Ok, Err, refl, ap, sym, ◌∙◌, arith, true≢false, ⊎_elim, is_ok, OnOk}
-use Rattle.std.proofs.lemmas.Bool.{cases_Bool, cases_lt, eqb-true}
+use Rattle.std.proofs.Common.{◌≡◌, ◌≢◌, ℕ, zero, suc, ◌<◌, ◌≤◌, ◌+◌, ◌/◌, slice_index_or, set, Bool, true, false, ◌||◌, ◌==◌, List, [], ◌∷◌, ◌++◌, length, take, drop, get_or, Result, Ok, Err, refl, ap, sym, ◌∙◌, arith, true≢false, ⊎_elim, is_ok, OnOk}
+use Rattle.std.proofs.lemmas.Bool.{cases_Bool, cases_lt, eqb-true, eqb-false}
+use Rattle.std.proofs.lemmas.List.{get_or-set_other, get_or-set_same}
 use Rattle.std.proofs.lemmas.List.Folds.{list_any-append}
 use Rattle.std.proofs.lemmas.List.Sorted.{searched, IsNonDecreasingBy-from_sort}
 use Rattle.std.specs.List.{list_any}
@@ -12,6 +13,7 @@ use Rattle.icu_collation_data.specs.Contexts.{mapping_of, mappings_of, stored_co
 use Rattle.icu_collation_data.proofs.SameEntryLemmas.{or_none}
 use Rattle.icu_boundaries.specs.Cuts.{names, is_named_in}
 use Rattle.icu_facts.specs.MappingCharacters.{has_character, Ascends}
+use Rattle.icu_facts.specs.inner.NamedBlocks.{AreFirstInBlocks, AreInBlocks}
 
 both_false : (a b : Bool) → a ≡ false → b ≡ false → (a || b) ≡ false
 both_false a b e f = ap (λ p. p || b) e ∙ f
@@ -73,16 +75,29 @@ absent_by_search xs x (Err i) found up h =
     (λ (after : i ≤ k). λ e. absurd (omega (arith, where_it_is.2 k after below, e)))
     (cases_lt k i))
 
--- nothing of a block is there, where the first character from its beginning on is past it
-pub absent_in_block : (xs : List ℕ) (first x i : ℕ) → IsBinarySearchResult (λ y. nat_cmp y first) xs (Err i) → Ascends xs → (i < length xs → first + 64 ≤ get_or xs i 0)
-    → first ≤ x → x < first + 64 → has_character x xs ≡ false
-absent_in_block xs first x i found up past low high =
-    let where_it_is = searched xs first (Err i) found up in
-    none_equal x xs (λ k below.
+-- nothing of a block is there that isn't marked
+pub absent_in_block : (xs : List ℕ) (blocks : List Bool) (index x : ℕ) → AreInBlocks xs blocks → slice_index_or blocks index false ≡ false → x / 64 ≡ index → has_character x xs ≡ false
+absent_in_block xs blocks index x marked off at =
+    none_equal x xs (λ k below. λ same.
+    let on : slice_index_or blocks index false ≡ true = ap (λ i. slice_index_or blocks i false) (sym at) ∙ ap (λ y. slice_index_or blocks (y / 64) false) (sym same) ∙ marked k below in
+    absurd (true≢false (sym on ∙ off)))
+
+-- one more character is in a block that is marked
+pub one_more_in_blocks : (n : ℕ) (xs : List ℕ) (blocks : List Bool) → AreFirstInBlocks n xs blocks → get_or xs n 0 / 64 < length blocks
+    → AreFirstInBlocks (n + 1) xs (set blocks (get_or xs n 0 / 64) true)
+one_more_in_blocks n xs blocks marked inside = λ k below.
+    let place = get_or xs n 0 / 64 in
+    let there : slice_index_or (set blocks place true) place false ≡ true = get_or-set_same blocks place true false inside in
     ⊎_elim
-    (λ (before : k < i). λ e. absurd (omega (arith, where_it_is.1 k before, e, low)))
-    (λ (after : i ≤ k). λ e. absurd (omega (arith, past (omega (arith, after, below)), up i k after below, e, high)))
-    (cases_lt k i))
+    (λ (before : k < n).
+    ⊎_elim
+    (λ (here : (get_or xs k 0 / 64 == place) ≡ true). ap (λ i. slice_index_or (set blocks place true) i false) (eqb-true _ _ here) ∙ there)
+    (λ (other : (get_or xs k 0 / 64 == place) ≡ false). get_or-set_other blocks place (get_or xs k 0 / 64) true false (eqb-false _ _ other) ∙ marked k before)
+    (cases_Bool (get_or xs k 0 / 64 == place)))
+    (λ (last : n ≤ k).
+    let same : k ≡ n = omega (arith, below, last) in
+    ap (λ j. slice_index_or (set blocks place true) (get_or xs j 0 / 64) false) same ∙ there)
+    (cases_lt k n)
 
 -- what a sort leaves
 pub sorted_ascends : (xs : List ℕ) → IsSortedByKey (λ x. x) nat_cmp xs → Ascends xs

@@ -1,6 +1,7 @@
 -- The characters of some blocks are starters that decompose to themselves, by a computation over all characters.
 use Rattle.std.proofs.Common.{◌≡◌, ℕ, ◌+◌, ◌*◌, ◌<◌, ◌≤◌, Bool, true, false, not, ◌&&◌, ◌||◌, ◌==◌, nat_le, List, [], ◌∷◌, map, refl, sym, ap, ◌∙◌, inl, inr, arith}
 use Rattle.std.proofs.lemmas.Bool.{and_parts, and_from, le-leb, leb-true, or_cases, or_left, or_right, or_parts, not-false, true_from_ne_false}
+use Rattle.std.proofs.lemmas.List.Folds.{list_any_at}
 use Rattle.std.specs.List.{list_any}
 use Rattle.ucd_table.specs.Rows.{Range, in_ranges}
 use Rattle.ucd_table.proofs.Stepped.{Stepped, zip_stepped, of_ranges}
@@ -83,3 +84,9 @@ plain_in c inside =
 
 pub plain_block : (index : ℕ) → list_any (λ r. nat_le r.0 index && nat_le index r.1) PLAIN_BLOCKS ≡ true → IsPlainBlock index
 plain_block index h = λ k small. plain_in (64 * index + k) (points_in_ranges PLAIN_BLOCKS index k small h)
+
+-- the blocks from the first one of the last range on are in it
+pub last_plain : (index : ℕ) → 0xBE9 ≤ index → index < 17408 → true ≡ list_any (λ r. nat_le r.0 index && nat_le index r.1) PLAIN_BLOCKS
+last_plain index low high =
+    sym (list_any_at (λ (r : Range). nat_le r.0 index && nat_le index r.1) PLAIN_BLOCKS 14 (0, 0) (omega arith)
+    (and_from _ _ (le-leb 0xBE9 index low) (le-leb index 0x43FF (omega (arith, high)))))

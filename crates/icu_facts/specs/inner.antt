@@ -6,3 +6,4 @@ pub mod WordBlocks
 pub mod LoneEntries
 pub mod LoneTables
 pub mod JoinedPairs
+pub mod NamedBlocks

@@ -22,7 +22,7 @@ pub struct Boundaries<'d> {
 
 impl<'d> Boundaries<'d> {
     ghost use Rattle.icu_facts.specs.BoundaryTables.{HasBoundaryBefore, boundary_reading};
-    ghost use Rattle.icu_facts.specs.inner.OwnBlocks.{IsUnnamedBlock};
+    ghost use Rattle.icu_facts.specs.inner.OwnBlocks.{IsUnnamedBlock, IsUnnamedStarter};
 
     /// The boundaries of texts that are read so, by tables whose mappings name no other characters than these. Does not
     /// allocate.
@@ -61,7 +61,15 @@ impl<'d> Boundaries<'d> {
     pub(crate) fn is_boundary(&self, c: char) -> bool
         ensures { IsTrue result → IsBoundary (boundary_reading self.now) c }
     {
-        canonical_combining_class(c) == 0 && !self.named.has(c) && !self.looks_around(c)
+        self.is_unnamed_starter(c) && !self.looks_around(c)
+    }
+
+    /// Whether a character is a starter that no mapping names. False says nothing.
+    #[tactic(auto, unfolding(crate::specs::BoundaryTables::boundary_reading))]
+    pub(crate) fn is_unnamed_starter(&self, c: char) -> bool
+        ensures { IsTrue result → IsUnnamedStarter (boundary_reading self.now) c }
+    {
+        canonical_combining_class(c) == 0 && !self.named.has(c)
     }
 
     /// Whether a mapping may name one of the 64 characters from `64 * index` on. Where this is false, none does.

@@ -1,20 +1,27 @@
 //! The characters that mappings of contexts name.
 
-ghost use Rattle.std.specs.Prelude.{◌≡◌, ◌≤◌, ◌<◌, ◌+◌, ◌*◌, ℕ, false, length, slice_index, option_map, IfOk, OnOk};
+ghost use Rattle.std.specs.Prelude.{◌≡◌, ◌<◌, ◌+◌, ◌*◌, ℕ, false, length, option_map, IfOk, OnOk};
 ghost use Rattle.icu_collation_data.specs.StoredData.{data_of};
 ghost use Rattle.icu_facts.specs.MappingCharacters.{Ascends, HasMappingCharacters, HasTailoringCharacters, KeepsCharacters};
 ghost use Rattle.icu_checks.specs.Checked.{checked_tables};
+ghost use Rattle.icu_facts.specs.inner.NamedBlocks.{AreInBlocks};
 
 use icu_checks::CheckedTables;
 use icu_collation_data::CollationData;
 use std::alloc::{AllocError, Global};
 
+/// How many blocks of 64 code points there are.
+pub(crate) const BLOCK_COUNT: usize = 0x4400;
+
 /// The characters that mappings of prefixes and contractions name (UTS #35 part 5, "Context-Sensitive Mappings"), of a
-/// root and of its tailoring, in ascending order.
+/// root and of its tailoring, in ascending order, and of each block of 64 code points, whether one of them is in it.
 #[derive(Debug, Drop)]
 pub struct NamedCharacters {
     chars: Vec<char>,
+    blocks: Vec<bool>,
     ghost ascending: { Ascends chars.items },
+    ghost block_count: { length blocks.items ≡ 0x4400 },
+    ghost in_blocks: { AreInBlocks chars.items blocks.items },
 }
 
 impl NamedCharacters {
@@ -28,37 +35,37 @@ impl NamedCharacters {
         push_named(&mut chars, tables.root())?;
         push_named_by_tailoring(&mut chars, tables.tailoring())?;
         chars.sort_unstable();
-        Ok(NamedCharacters { chars })
+        let blocks = blocks_of(alloc, &chars)?;
+        Ok(NamedCharacters { chars, blocks })
     }
 
     /// Whether a mapping may name a character: where this is false, none does.
     pub fn has(&self, c: char) -> bool
         ensures { result ≡ false → may_name self.now c ≡ false }
     {
-        self.chars.binary_search(&c).is_ok()
+        self.blocks[c as usize / 64] && self.chars.binary_search(&c).is_ok()
     }
 
     /// Whether a mapping may name one of the 64 characters from `64 * index` on: where this is false, none does.
+    #[inline(always)]
     pub(crate) fn has_in_block(&self, index: u32) -> bool
         requires { index < 17408 }
         ensures { result ≡ false → (k : ℕ) → k < 64 → may_name self.now (64 * index + k) ≡ false }
     {
-        let Some(first) = char::from_u32(64 * index) else {
-            return true;
-        };
-        match self.chars.binary_search(&first) {
-            Ok(_) => true,
-            Err(place) => self.begins_at(place, 64 * index + 64),
-        }
+        self.blocks[index as usize]
     }
+}
 
-    /// Whether the characters from this place on begin below a limit. False where there are none.
-    fn begins_at(&self, place: usize, limit: u32) -> bool
-        ensures { result ≡ false → place < length self.now.chars.items
-            → limit ≤ slice_index self.now.chars.items place }
-    {
-        place < self.chars.len() && (self.chars[place] as u32) < limit
+/// Of each block of 64 code points, whether one of some characters is in it.
+fn blocks_of(alloc: Global, chars: &[char]) -> Result<Vec<bool>, AllocError>
+    ensures count { IfOk result (λ blocks. length blocks.items ≡ 0x4400) }
+    ensures blocks { IfOk result (λ blocks. AreInBlocks chars.now blocks.items) }
+{
+    let mut blocks = vec![in alloc; false; BLOCK_COUNT]?;
+    for c in chars {
+        blocks[*c as usize / 64] = true;
     }
+    Ok(blocks)
 }
 
 /// Appends the characters of all mappings of a root or a tailoring.

@@ -1,9 +1,8 @@
 //! Characters that give the elements of their entries wherever they stand.
 
-ghost use Rattle.std.specs.Prelude.{◌≡◌, ◌∷◌, [], true, IsTrue};
+ghost use Rattle.std.specs.Prelude.{◌≡◌, ◌∷◌, [], IsTrue};
 ghost use Rattle.ucd_normal.specs.declared.forms.Form.TheVariants.{Nfd};
 ghost use Rattle.unicode_normalization.specs.Decompose.{decompose};
-ghost use Rattle.icu_boundaries.specs.Alone.{is_alone};
 ghost use Rattle.icu_facts.specs.BoundaryTables.{boundary_reading};
 ghost use Rattle.icu_facts.specs.KeptFacts.{IsOwn};
 ghost use Rattle.icu_facts.specs.inner.OwnBlocks.{HasLoneEntry};
@@ -37,17 +36,13 @@ fn has_lone_entry(places: &Boundaries<'_>, c: char) -> bool
     }
 }
 
-/// Whether a character of a decomposed text gives the same elements wherever it stands. False says nothing.
-fn is_alone(places: &Boundaries<'_>, c: char) -> bool
-    ensures { IsTrue result → is_alone (boundary_reading places.now) c ≡ true }
-{
-    !is_dot(places, c) && has_lone_entry(places, c)
-}
-
 /// Whether a character decomposes to itself, gives the same elements wherever it stands, and a text may be cut before
 /// it. False says nothing.
 pub(crate) fn is_own(places: &Boundaries<'_>, c: char) -> bool
     ensures { IsTrue result → IsOwn (boundary_reading places.now) c }
 {
-    places.is_boundary(c) && is_alone(places, c) && decomposes_to_itself(c)
+    places.is_unnamed_starter(c)
+        && !is_dot(places, c)
+        && has_lone_entry(places, c)
+        && decomposes_to_itself(c)
 }

@@ -1,6 +1,6 @@
 //! Blocks of 64 code points whose characters are starters that decompose to themselves.
 
-ghost use Rattle.std.specs.Prelude.{◌≡◌, ◌&&◌, nat_le};
+ghost use Rattle.std.specs.Prelude.{◌≡◌, ◌<◌, ◌&&◌, nat_le};
 ghost use Rattle.std.specs.List.{list_any};
 
 /// The first and the last block of each range of seven and more: among them those of ideographs, private use, scripts
@@ -23,11 +23,17 @@ const PLAIN_BLOCKS: [(u32, u32); 15] = [
     (0x2FA40 / 64, 0x10FFFF / 64),
 ];
 
+/// The first block of the last of them, which has most of all blocks.
+const LAST_PLAIN: u32 = 0x2FA40 / 64;
+
 /// Whether each of the 64 characters from `64 * index` on is a starter that decomposes to itself. False says nothing.
+#[tactic(auto, using(crate::proofs::PlainLemmas::last_plain))]
 pub(crate) fn is_plain_block(index: u32) -> bool
+    requires { index < 17408 }
     ensures { result ≡ list_any (λ r. nat_le r.0 index && nat_le index r.1) PLAIN_BLOCKS }
 {
-    PLAIN_BLOCKS
-        .iter()
-        .any(|range| range.0 <= index && index <= range.1)
+    index >= LAST_PLAIN
+        || PLAIN_BLOCKS
+            .iter()
+            .any(|range| range.0 <= index && index <= range.1)
 }

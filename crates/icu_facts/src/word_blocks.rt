@@ -14,6 +14,7 @@ use crate::bases::facts_to_keep;
 use crate::boundaries::Boundaries;
 use crate::char_facts::CharFacts;
 use crate::lone_blocks::LoneBlocks;
+use crate::named::BLOCK_COUNT;
 use crate::own::is_own;
 use crate::own_blocks::is_own_block;
 use crate::syllables::is_syllable;
@@ -162,11 +163,12 @@ impl WordBlocks {
         ensures made { IfOk result (λ made. (reading : Reading) → IsMade reading made) }
         ensures count { IfOk result (λ made. length made.blocks.items ≡ 0) }
     {
+        let blocks: Vec<u16> = Vec::with_capacity(alloc, BLOCK_COUNT)?;
         let mut words: Vec<u16> = Vec::new(alloc);
         words.extend_from_slice(&[OWN; 64])?;
         words.extend_from_slice(&[NOTHING; 64])?;
         Ok(WordBlocks {
-            blocks: Vec::new(alloc),
+            blocks,
             words,
             facts: Vec::new(alloc),
         })

@@ -47,6 +47,7 @@ fn fill_page(page: &mut Vec<u64>) -> Result<(), AllocError>
         ≡ slice_index page.old.items k) }
     ensures len { OnOk result (1024 ≤ length page.new.items) }
 {
+    page.reserve(PAGE_LEN)?;
     for _index in page.len()..PAGE_LEN {
         page.push(0)?;
     }

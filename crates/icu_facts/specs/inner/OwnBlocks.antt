@@ -24,6 +24,12 @@ IsPlainBlock index = (k : ℕ) → k < 64 → IsPlain (64 * index + k)
 abbrev pub HasLoneEntry : Reading → ℕ → Type 0
 HasLoneEntry reading c = looks_at_nothing reading.numeric (kind_of (entry_of reading.tables c).entry) ≡ true
 
+-- a starter that no mapping names
+pub record IsUnnamedStarter (reading : Reading) (c : ℕ) : Type 0 where
+  pub starter : is_starter c ≡ true
+  pub root : is_named c reading.tables.root ≡ false
+  pub tailoring : is_named_by_tailoring c reading.tables.tailoring ≡ false
+
 -- no mapping names a character of a block
 abbrev pub IsUnnamedBlock : Reading → ℕ → Type 0
 IsUnnamedBlock reading index =

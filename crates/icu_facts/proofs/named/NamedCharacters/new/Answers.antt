@@ -1,14 +1,18 @@
 -- The sorted list has the characters of all mappings.
-use Rattle.std.proofs.Common.{◌≡◌, ◌∙◌, sym, ap, false, ℕ, ◌==◌}
+use Rattle.std.proofs.Common.{◌≡◌, ◌∙◌, sym, ap, subst, false, ℕ, ◌==◌, List}
 use Rattle.std.proofs.lemmas.List.Sorted.{list_any-IsPermutation}
 use Rattle.icu_boundaries.specs.Cuts.{is_named, is_named_by_tailoring}
 use Rattle.icu_facts.specs.Named.{may_name}
 use Rattle.icu_facts.specs.MappingCharacters.{has_character}
+use Rattle.icu_facts.specs.inner.NamedBlocks.{AreInBlocks}
 use Rattle.icu_facts.proofs.NamedLemmas.{sorted_ascends}
 use Rattle.icu_facts.proofs.named.NamedCharacters.new.Goals as goal
 
-pub invariant_of-result : goal.invariant_of-result
-invariant_of-result c = record { ascending = sorted_ascends _ c.sort_unstable.ensures.sorted }
+pub invariant_of-result-clause-ascending : goal.invariant_of-result-clause-ascending
+invariant_of-result-clause-ascending c = sorted_ascends _ c.sort_unstable.ensures.sorted
+
+pub invariant_of-result-clause-in_blocks : goal.invariant_of-result-clause-in_blocks
+invariant_of-result-clause-in_blocks c = subst (λ (xs : List ℕ). AreInBlocks xs c.in_ok-blocks.blocks.items) c.deref.ensures.value c.in_ok-blocks.ensures.blocks
 
 pub returns : goal.returns
 unfolding may_name
