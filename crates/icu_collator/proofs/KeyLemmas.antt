@@ -62,6 +62,11 @@ same_key c f hs cs ds h =
     (same_parts _ _ _ _ _ _ _ _ _ _ (same_secondary c.reorder f hs cs ds f.secondary) (same_cases c.reorder f hs cs ds f.cases)
     (same_tertiary c.reorder f hs cs ds f.tertiary) (same_quaternary c.reorder f hs cs ds f.quaternary) (same_identical c.reorder f hs cs ds f.identical h))
 
+-- characters that don't count may be any
+pub uncounted : (b : Bool) (cs ds : List ℕ) → b ≡ false → IsTrue b → cs ≡ ds
+uncounted false cs ds off on = cc
+uncounted true cs ds off on = cc
+
 -- the key that is written of a decomposed text, and of characters that are its own where they count, is that of the
 -- text
 pub key_read : (collation : Collation) (t ds cs : List ℕ) → ds ≡ nfd t → (IsTrue (form_by collation).identical → cs ≡ ds)

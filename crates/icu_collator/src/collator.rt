@@ -1,6 +1,6 @@
 //! Collators: each has a collation, tables and settings together.
 
-ghost use Rattle.std.specs.Prelude.{◌≡◌, false, Err, Ok, IfErr, IfOk, IsOk, IfSome, IsSome};
+ghost use Rattle.std.specs.Prelude.{◌≡◌, ◌<◌, ℕ, false, Err, Ok, IfErr, IfOk, IsOk, IfSome, IsSome};
 ghost use Rattle.icu_options.specs.Conversions.{resolved_of};
 ghost use Rattle.icu_options.specs.Merge.{merge};
 ghost use Rattle.icu_options.specs.FlaggedSettings.{values_of};
@@ -12,7 +12,9 @@ ghost use Rattle.icu_provider.specs.OwnedTables.{owned_tables};
 ghost use Rattle.icu_cursor.specs.Cursors.{cursor_reading};
 ghost use Rattle.icu_elements.specs.Reading.{element_tables, reading_of};
 ghost use Rattle.icu_elements.specs.TextElements.{elements_of};
-ghost use Rattle.icu_text_order.specs.Forms.{form_by, last_variable_by};
+ghost use Rattle.icu_provider.specs.SpecialPrimaries.{is_compressible};
+ghost use Rattle.icu_text_keys.specs.Compressions.{table_compression};
+ghost use Rattle.icu_text_order.specs.Forms.{compression_of, form_by, last_variable_by};
 ghost use Rattle.icu_text_order.specs.TextOrder.{reading_by, handled_elements, handled_by};
 ghost use Rattle.icu_weighting.specs.CheckedCollations.{collation_of};
 ghost use Rattle.icu_levels.specs.CommonBeginnings.{ReadsForward};
@@ -39,6 +41,8 @@ use icu_options::{
     merged_options,
 };
 use icu_provider::{CollationProvider, OwnedTables, load_tables};
+use icu_text_keys::TableCompression;
+use icu_text_keys::compression::first_asked;
 use icu_weighting::{key_form, last_variable};
 use std::alloc::{AllocError, Global};
 
@@ -211,6 +215,7 @@ impl Collator {
             settings: self.settings,
             form: key_form(&self.tables, self.settings),
             last_variable: last_variable(&self.tables, self.settings),
+            first_asked: first_asked(&self.tables),
         }
     }
 }
@@ -275,11 +280,15 @@ pub struct CollatorBorrowed<'a> {
     settings: CollatorOptionsBitField,
     form: KeyForm,
     last_variable: u32,
+    /// No lead of a primary weight below it is compressible.
+    first_asked: u8,
     ghost backward: { (values_of settings).backward_second_level
         ≡ is_backward (checked_tables tables.now).bits },
     ghost known: { AreFacts (reading_by (collation_of tables.now settings)) kept_facts.now },
     ghost levels: { form ≡ form_by (collation_of tables.now settings) },
     ghost variable: { last_variable ≡ last_variable_by (collation_of tables.now settings) },
+    ghost asked: { (lead : ℕ) → lead < first_asked
+        → is_compressible (checked_tables tables.now).special lead ≡ false },
     ghost names: { NamesAll named.now (checked_tables tables.now).tables },
 }
 
@@ -346,6 +355,7 @@ impl<'a> CollatorBorrowed<'a> {
             settings,
             form: key_form(self.tables, settings),
             last_variable: last_variable(self.tables, settings),
+            first_asked: self.first_asked,
         })
     }
 
@@ -361,6 +371,15 @@ impl<'a> CollatorBorrowed<'a> {
         ensures { result ≡ last_variable_by (collation_borrowed self.now) }
     {
         self.last_variable
+    }
+
+    /// How primary weights are written in keys.
+    #[inline(always)]
+    pub(crate) fn compression(&self) -> TableCompression<'a>
+        ensures { table_compression result
+            ≡ compression_of (collation_borrowed self.now).tables }
+    {
+        TableCompression::asked_from(self.tables, self.first_asked)
     }
 
     /// Whether secondary weights are read backward.

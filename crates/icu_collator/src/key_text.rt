@@ -1,6 +1,6 @@
 //! The elements of a text for its key, as variable weighting leaves them (UTS #10, "Variable Weighting").
 
-ghost use Rattle.std.specs.Prelude.{◌≡◌, ◌++◌, [], None, false, IfOk, map, option_to_list};
+ghost use Rattle.std.specs.Prelude.{◌≡◌, ◌++◌, [], None, false, IfOk, IsTrue, map, option_to_list};
 ghost use Rattle.icu_collator.specs.inner.KeyElements.{steady_elements_left};
 ghost use Rattle.icu_weighting.specs.Handled.{handled, stayed};
 
@@ -152,7 +152,6 @@ impl<'c, 'd, T: CountedText> KeyElements<'c, 'd, T> {
     {
         match &mut self.pieces {
             Some(pieces) => pieces.next_read(),
-            None if self.lone.is_at_end() => Ok(None),
             None => self.next_ascii(),
         }
     }
@@ -186,6 +185,17 @@ impl<'c, 'd, T: CountedText> KeyElements<'c, 'd, T> {
         Ok(next)
     }
 
+    /// Whether no element is left. `false` says nothing.
+    #[inline(always)]
+    fn is_at_end(&self) -> bool
+        ensures { IsTrue result → key_elements_left T.text self.now ≡ [] }
+    {
+        match &self.pieces {
+            None => self.lone.is_at_end(),
+            Some(_) => false,
+        }
+    }
+
     /// The next element, or `None` after the last one. Fails only where an allocation does.
     #[inline(always)]
     fn next(&mut self) -> Result<Option<CollationElement>, AllocError>
@@ -195,6 +205,7 @@ impl<'c, 'd, T: CountedText> KeyElements<'c, 'd, T> {
     {
         match self.next_at_once() {
             Some(element) => Ok(Some(element)),
+            None if self.is_at_end() => Ok(None),
             None => self.next_read(),
         }
     }

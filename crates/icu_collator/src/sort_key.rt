@@ -1,6 +1,6 @@
 //! The sort keys of texts.
 
-ghost use Rattle.std.specs.Prelude.{◌≡◌, ◌<◌, List, ℕ, chars, IfOk, IsTrue};
+ghost use Rattle.std.specs.Prelude.{◌≡◌, List, ℕ, chars, false};
 ghost use Rattle.std.specs.List.{AllByRecursion};
 ghost use Rattle.icu_encodings.specs.DecodedTexts.{utf16_text, utf8_text};
 ghost use Rattle.icu_keys.specs.KeyWrites.{WritesKey};
@@ -16,11 +16,10 @@ use crate::collator::CollatorBorrowed;
 use crate::key_characters::decomposed;
 use crate::texts::str_text;
 use icu_decomposed_text::CountedText;
-use icu_encodings::{EncodedText, Utf8Text, Utf16Text};
+use icu_encodings::{Utf8Text, Utf16Text};
 use icu_keys::{CollationKeySink, SortKeyError};
 use icu_text_keys::laws::texts_have_case;
-use icu_text_keys::{TableCompression, write_key};
-use std::alloc::AllocError;
+use icu_text_keys::write_key;
 
 /// What a call returns that was to write a key and ran out of memory before it wrote anything.
 fn write_nothing<S: CollationKeySink>(sink: &mut S) -> Result<S::Output, SortKeyError<S::Error>>
@@ -90,7 +89,42 @@ impl<'a> CollatorBorrowed<'a> {
     }
 
     /// Writes the key of a text, whatever its encoding.
+    #[inline(always)]
     fn write_encoded_key<T: CountedText, S: CollationKeySink>(
+        &self,
+        text: T,
+        sink: &mut S,
+    ) -> Result<S::Output, SortKeyError<S::Error>>
+        ensures key { WritesKey S.effects sink.old
+            (text_key (collation_borrowed self.now) (T.text text)) result sink.new }
+    {
+        if self.key_form().identical {
+            return self.write_identical_key(text, sink);
+        }
+        self.write_elements_key(text, sink)
+    }
+
+    /// Writes the key of a text whose characters don't count.
+    #[inline(always)]
+    fn write_elements_key<T: CountedText, S: CollationKeySink>(
+        &self,
+        text: T,
+        sink: &mut S,
+    ) -> Result<S::Output, SortKeyError<S::Error>>
+        requires elements { (form_by (collation_borrowed self.now)).identical ≡ false }
+        ensures key { WritesKey S.effects sink.old
+            (text_key (collation_borrowed self.now) (T.text text)) result sink.new }
+    {
+        self.tables.are_well_formed();
+        texts_have_case();
+        text.has_scalar_values();
+        let characters: [char; 0] = [];
+        self.write_key_with_characters(text, &characters, sink)
+    }
+
+    /// Writes the key of a text whose characters count, which are read into a list.
+    #[inline(never)]
+    fn write_identical_key<T: CountedText, S: CollationKeySink>(
         &self,
         text: T,
         sink: &mut S,
@@ -101,7 +135,7 @@ impl<'a> CollatorBorrowed<'a> {
         self.tables.are_well_formed();
         texts_have_case();
         text.has_scalar_values();
-        let Ok(characters) = self.key_characters(text) else {
+        let Ok(characters) = decomposed(self.tables.allocator(), text) else {
             return write_nothing(sink);
         };
         self.write_key_with_characters(text, characters.as_slice(), sink)
@@ -109,6 +143,7 @@ impl<'a> CollatorBorrowed<'a> {
 
     /// Writes the key of a text, with these characters at the identical level. Its elements are written as they are
     /// read: no list of them is made.
+    #[inline(always)]
     fn write_key_with_characters<T: CountedText, S: CollationKeySink>(
         &self,
         text: T,
@@ -148,7 +183,7 @@ impl<'a> CollatorBorrowed<'a> {
             (level_lists (reorder collation.tables) (form_by collation)
             (handled_by collation (nfd (T.text text))) characters.now)) result sink.new }
     {
-        let compression = TableCompression::new(self.tables);
+        let compression = self.compression();
         let tables = self.cursor_tables();
         let mut plain = self.plain_key_text(&tables, text);
         let alloc = self.tables.allocator();
@@ -178,7 +213,7 @@ impl<'a> CollatorBorrowed<'a> {
             (level_lists (reorder collation.tables) (form_by collation)
             (handled_by collation (nfd (T.text text))) characters.now)) result sink.new }
     {
-        let compression = TableCompression::new(self.tables);
+        let compression = self.compression();
         let tables = self.cursor_tables();
         let mut handled = self.handled_key_text(&tables, text);
         let alloc = self.tables.allocator();
@@ -190,18 +225,5 @@ impl<'a> CollatorBorrowed<'a> {
             &mut handled,
             characters,
         )
-    }
-
-    /// The characters of a text, decomposed, where they count.
-    fn key_characters<T: EncodedText>(&self, text: T) -> Result<Vec<char>, AllocError>
-        ensures { IfOk result (λ cs. IsTrue (form_by (collation_borrowed self.now)).identical →
-            cs.items ≡ nfd (T.text text)) }
-    {
-        let alloc = self.tables.allocator();
-        if self.key_form().identical {
-            decomposed(alloc, text)
-        } else {
-            Ok(Vec::new(alloc))
-        }
     }
 }

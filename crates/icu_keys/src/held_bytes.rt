@@ -1,11 +1,15 @@
 //! The bytes of a level that is held.
 
-ghost use Rattle.std.specs.Prelude.{◌≡◌, ◌<◌, ◌≤◌, [], ◌∷◌, ◌++◌, OnOk, OnErr};
+ghost use Rattle.std.specs.Prelude.{◌≡◌, ◌<◌, ◌≤◌, [], ◌∷◌, ◌++◌, take, OnOk, OnErr};
 ghost use Rattle.icu_keys.specs.Writes.{Writes};
 
 use crate::held::INLINE;
 use crate::sink::CollationKeySink;
+use crate::writes::write_each;
 use std::alloc::{AllocError, Global};
+
+/// So many bytes are written one by one.
+const FEW: usize = 8;
 
 /// Bytes in order: the first ones stand in the value itself, and those for which it has no place in a list. A push of
 /// one of the first asks for nothing but their number.
@@ -63,6 +67,25 @@ impl HeldBytes {
         Ok(())
     }
 
+    /// Writes those that stand in the value. An error is the sink's own.
+    #[inline(always)]
+    fn write_first<S: CollationKeySink>(
+        &self,
+        sink: &mut S,
+        state: &mut S::State,
+    ) -> Result<(), S::Error>
+        requires { S.is_sound sink.old state.old }
+        ensures sound { S.is_sound sink.new state.new }
+        ensures bytes { Writes S.effects sink.old state.old (take self.now.count self.now.first)
+            result sink.new state.new }
+    {
+        let bytes = &self.first[..self.count];
+        if bytes.len() <= FEW {
+            return write_each(sink, state, bytes);
+        }
+        sink.write(state, bytes)
+    }
+
     /// Writes them to a sink. An error is the sink's own.
     #[inline(always)]
     #[tactic(auto, unfolding(crate::specs::HeldByteLists::held_bytes))]
@@ -79,7 +102,7 @@ impl HeldBytes {
         if self.count == 0 {
             return Ok(());
         }
-        sink.write(state, &self.first[..self.count])?;
+        self.write_first(sink, state)?;
         if self.more.is_empty() {
             return Ok(());
         }

@@ -118,6 +118,7 @@ impl HeldTertiaries {
     }
 
     /// Writes the level to a sink, as it ends here.
+    #[inline(always)]
     fn write<S: CollationKeySink>(&self, sink: &mut S, state: &mut S::State) -> Result<(), S::Error>
         requires { S.is_sound sink.old state.old }
         ensures sound { S.is_sound sink.new state.new }
@@ -129,6 +130,7 @@ impl HeldTertiaries {
     }
 
     /// Writes the level, as it ends here, after the byte that opens it.
+    #[inline(always)]
     fn write_opened<S: CollationKeySink>(
         &self,
         sink: &mut S,
@@ -145,6 +147,7 @@ impl HeldTertiaries {
 
     /// Writes the level to a sink, as it ends here, between the bytes that open and close it. An error is the sink's
     /// own.
+    #[inline(always)]
     pub fn write_closed<S: CollationKeySink>(
         &self,
         sink: &mut S,

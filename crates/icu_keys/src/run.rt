@@ -201,6 +201,7 @@ impl Run {
     }
 
     /// Ends the run at the end of the level, and writes it.
+    #[inline(always)]
     pub fn write_end<S: CollationKeySink>(
         mut self,
         runs: &RunBytes,

@@ -103,6 +103,7 @@ impl SecondaryWriter {
     }
 
     /// Writes what is left at the end of the level. An error is the sink's own.
+    #[inline(always)]
     pub fn close<S: CollationKeySink>(
         self,
         sink: &mut S,

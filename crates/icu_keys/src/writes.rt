@@ -44,6 +44,23 @@ pub(crate) fn write_both<S: CollationKeySink>(
     write_optional(sink, state, second)
 }
 
+/// Writes bytes, each by itself: for a few of them that is less than what copies any number.
+#[inline(always)]
+pub(crate) fn write_each<S: CollationKeySink>(
+    sink: &mut S,
+    state: &mut S::State,
+    bytes: &[u8],
+) -> Result<(), S::Error>
+    requires { S.is_sound sink.old state.old }
+    ensures sound { S.is_sound sink.new state.new }
+    ensures bytes { Writes S.effects sink.old state.old bytes.now result sink.new state.new }
+{
+    for byte in bytes {
+        sink.write_byte(state, *byte)?;
+    }
+    Ok(())
+}
+
 /// Writes the byte of a weight of one byte, unless it is 0.
 #[inline(always)]
 fn write_one<S: CollationKeySink>(

@@ -131,7 +131,8 @@ impl CommonElements {
         }
     }
 
-    /// Writes the primary of an element that has common weights beside it, and counts it. After an error, discard them.
+    /// Writes the primary of an element that has common weights beside it, and counts it, whether levels are held or
+    /// not. After an error, discard them.
     #[inline(always)]
     pub(crate) fn push<S: CollationKeySink, C: PrimaryCompression>(
         &mut self,
@@ -149,6 +150,12 @@ impl CommonElements {
             (λ (hs : List HandledElement). common_rest (C.compression compression.old) t identical
             self.old cs (stayed element ∷ hs))
             (common_rest (C.compression compression.old) t identical self.new cs)
+            result sink.new state.new }
+        ensures held { (t : TertiaryForm) (levels : TwoLevels) (identical : Bool) (cs : List ℕ) →
+            KeyFeeds S.effects sink.old state.old
+            (λ (hs : List HandledElement). three_rest (C.compression compression.old) t identical
+            self.old levels cs (stayed element ∷ hs))
+            (three_rest (C.compression compression.old) t identical self.new levels cs)
             result sink.new state.new }
         ensures compression { C.compression compression.new ≡ C.compression compression.old }
     {
@@ -223,6 +230,36 @@ impl CommonElements {
                 element,
             ),
             Handled::Shifted(_) => Ok(()),
+        }
+    }
+
+    /// Writes what the next element gives, where levels are held. An element with common weights, as most are, goes by
+    /// code of its own, which one comparison of its weights leads to.
+    #[inline(always)]
+    pub(crate) fn push_next<S: CollationKeySink, C: PrimaryCompression>(
+        &mut self,
+        form: TertiaryForm,
+        sink: &mut S,
+        state: &mut S::State,
+        compression: &mut C,
+        levels: &mut TwoLevels,
+        element: Handled,
+    ) -> Result<(), SortKeyError<S::Error>>
+        requires sound { S.is_sound sink.old state.old }
+        requires form { HasTertiaryForm form levels.old }
+        requires case { HasCase (handled_as element) }
+        ensures sound { S.is_sound sink.new state.new }
+        ensures form { HasTertiaryForm form levels.new }
+        ensures bytes { (identical : Bool) (cs : List ℕ) → KeyFeeds S.effects sink.old state.old
+            (λ (hs : List HandledElement). three_rest (C.compression compression.old) form identical
+            self.old levels.old cs (handled_as element ∷ hs))
+            (three_rest (C.compression compression.old) form identical self.new levels.new cs)
+            result sink.new state.new }
+        ensures compression { C.compression compression.new ≡ C.compression compression.old }
+    {
+        match self.takes(&element) {
+            Some(common) => self.push(sink, state, compression, common),
+            None => self.push_handled(form, sink, state, compression, levels, element),
         }
     }
 

@@ -15,9 +15,12 @@ use icu_weighting::element_weights::reordered;
 /// signs, digits and Latin letters.
 const FIRST_AFTER_LATIN: u8 = 0x60;
 
+/// What stands for the lead that was asked of last, where none was yet.
+const NONE_ASKED: u16 = 0x100;
+
 /// A lead below which none is compressible: that after Latin, or 0 where there is one among those before it.
 #[tactic(auto, using(crate::proofs::CompressionLemmas::none_below, crate::proofs::CompressionLemmas::none_without_bits))]
-fn first_asked(special: CollationSpecialPrimaries<'_>) -> u8
+fn first_compressible(special: CollationSpecialPrimaries<'_>) -> u8
     ensures { (lead : ℕ) → lead < result → is_compressible (special_of special.entry) lead ≡ false }
 {
     let numbers = special.last_primaries();
@@ -32,6 +35,14 @@ fn first_asked(special: CollationSpecialPrimaries<'_>) -> u8
     FIRST_AFTER_LATIN
 }
 
+/// A lead of checked tables below which none is compressible. Work it out once for many keys.
+pub fn first_asked(tables: &CheckedTables) -> u8
+    ensures { (lead : ℕ) → lead < result
+        → is_compressible (checked_tables tables.now).special lead ≡ false }
+{
+    first_compressible(tables.special_primaries())
+}
+
 /// How primaries are written: by the reordering of the tables, if they have one, and by the leads that their special
 /// primaries name compressible (UTS #35 part 5, "Collation Reordering").
 #[derive(Clone, Copy)]
@@ -39,13 +50,14 @@ pub struct TableCompression<'d> {
     tables: &'d CheckedTables,
     /// No lead below it is compressible, so that this isn't asked of Latin letters and digits.
     first_asked: u8,
-    /// The lead that was asked of last, and whether it is compressible: weights of most scripts share their lead.
-    last: u8,
+    /// The lead that was asked of last, or `NONE_ASKED`, and whether it is compressible: weights of most
+    /// scripts share their lead.
+    last: u16,
     is_last_compressible: bool,
     ghost none_below: { (lead : ℕ) → lead < first_asked
         → is_compressible (checked_tables tables.now).special lead ≡ false },
-    ghost answered: { is_compressible (checked_tables tables.now).special last
-        ≡ is_last_compressible },
+    ghost answered: { last < 0x100
+        → is_compressible (checked_tables tables.now).special last ≡ is_last_compressible },
 }
 
 impl<'d> TableCompression<'d> {
@@ -56,13 +68,22 @@ impl<'d> TableCompression<'d> {
     pub fn new(tables: &'d CheckedTables) -> TableCompression<'d>
         ensures { table_compression result ≡ compression_of (checked_tables tables.now) }
     {
-        let special = tables.special_primaries();
-        let first_asked = first_asked(special);
+        TableCompression::asked_from(tables, first_asked(tables))
+    }
+
+    /// That of checked tables, where none of the leads below `first_asked` is compressible, as `first_asked` returned
+    /// it.
+    #[inline(always)]
+    pub fn asked_from(tables: &'d CheckedTables, first_asked: u8) -> TableCompression<'d>
+        requires { (lead : ℕ) → lead < first_asked
+            → is_compressible (checked_tables tables.now).special lead ≡ false }
+        ensures { table_compression result ≡ compression_of (checked_tables tables.now) }
+    {
         TableCompression {
             tables,
             first_asked,
-            last: 0,
-            is_last_compressible: first_asked == 0 && special.is_compressible(0),
+            last: NONE_ASKED,
+            is_last_compressible: false,
         }
     }
 
@@ -76,7 +97,7 @@ impl<'d> TableCompression<'d> {
         TableCompression {
             tables: self.tables,
             first_asked: self.first_asked,
-            last: lead,
+            last: u16::from(lead),
             is_last_compressible: self.tables.special_primaries().is_compressible(lead),
         }
     }
@@ -97,7 +118,7 @@ impl<'d> PrimaryCompression for TableCompression<'d> {
         if lead < self.first_asked {
             return false;
         }
-        if lead != self.last {
+        if u16::from(lead) != self.last {
             *self = self.asked_of(lead);
         }
         self.is_last_compressible

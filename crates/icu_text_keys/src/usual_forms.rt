@@ -70,6 +70,7 @@ impl UsualForm {
 }
 
 /// Which of the usual forms a form is, where it is one.
+#[inline(always)]
 pub(crate) fn usual_form(form: KeyForm) -> Option<UsualForm>
     ensures { IfSome result (λ usual. form ≡ form_of usual form.identical) }
 {

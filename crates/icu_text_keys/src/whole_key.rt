@@ -76,7 +76,7 @@ fn write_held<S: CollationKeySink, C: PrimaryCompression, H: HandledSource>(
         result sink.new state.new }
 {
     'writing: while let Some(element) = next_element(elements)? {
-        commons.push_handled(form, sink, state, compression, levels, element)?;
+        commons.push_next(form, sink, state, compression, levels, element)?;
     }
     commons.close_held(form, identical, sink, state, levels, characters)
 }
@@ -166,8 +166,9 @@ fn write_three_levels<F: WrittenForm, S: CollationKeySink, C: PrimaryCompression
     commons.close(tertiary, identical, sink, state, characters)
 }
 
-/// Writes all levels of a key of this form.
-#[inline(always)]
+/// Writes all levels of a key of this form. Not inlined: code for a form has a frame of its own, and clears no locals
+/// of another.
+#[inline(never)]
 fn write_in_form<F: WrittenForm, S: CollationKeySink, C: PrimaryCompression, H: HandledSource>(
     alloc: Global,
     form: &F,
@@ -204,6 +205,7 @@ fn write_in_form<F: WrittenForm, S: CollationKeySink, C: PrimaryCompression, H: 
 }
 
 /// Writes all levels of a key of a usual form, each by code of its own.
+#[inline(always)]
 fn write_usual<S: CollationKeySink, C: PrimaryCompression, H: HandledSource>(
     alloc: Global,
     usual: UsualForm,
@@ -261,6 +263,7 @@ fn write_usual<S: CollationKeySink, C: PrimaryCompression, H: HandledSource>(
 
 /// Writes all levels of a key. The forms that keys mostly have are told apart here, once. Each is a type, so that code
 /// is built for it which asks for no level at an element.
+#[inline(always)]
 fn write_levels<S: CollationKeySink, C: PrimaryCompression, H: HandledSource>(
     alloc: Global,
     form: KeyForm,

@@ -9,5 +9,6 @@ invariant_of-result c = record {
   known = facts_stay (checked_tables c.args.self.now.tables.now) c.args.self.now.kept_facts.now _ _ _ _ c.numeric.ensures c.numeric-2.ensures c.if-numeric.false c.args.self.now.known;
   levels = c.key_form.ensures;
   variable = c.last_variable.ensures;
+  asked = c.args.self.now.asked;
   names = c.args.self.now.names;
 }

@@ -1,6 +1,6 @@
 use Rattle.std.proofs.Common.{◌≡◌, ℕ, ◌<◌, ◌≤◌}
 use Rattle.std.specs.Prelude.{slice_index}
-use Rattle.icu_text_keys.proofs.compression.first_asked.Given as goal
+use Rattle.icu_text_keys.proofs.compression.first_compressible.Given as goal
 
 -- the numbers so far have no bit
 abbrev pub invariant-loop-index : goal.invariant-loop-index

@@ -1,10 +1,10 @@
--- What was read is what the key of the text is of.
-use Rattle.std.proofs.Common.{◌∙◌, ℕ, List, refl, subst}
+-- The key is that of the text, whose characters don't count.
+use Rattle.std.proofs.Common.{ℕ, List, refl, subst}
 use Rattle.unicode_normalization.specs.Forms.{nfd}
 use Rattle.icu_keys.specs.KeyWrites.{WritesKey}
 use Rattle.icu_collator.specs.Collators.{collation_borrowed}
-use Rattle.icu_collator.proofs.KeyLemmas.{key_read}
-use Rattle.icu_collator.proofs.collator.CollatorBorrowed.write_encoded_key.Goals as goal
+use Rattle.icu_collator.proofs.KeyLemmas.{key_read, uncounted}
+use Rattle.icu_collator.proofs.collator.CollatorBorrowed.write_elements_key.Goals as goal
 
 pub write_key_with_characters-requires : goal.write_key_with_characters-requires
 write_key_with_characters-requires g c = record {
@@ -14,6 +14,6 @@ write_key_with_characters-requires g c = record {
 pub returns : goal.returns
 returns g c =
     let text = g.T.EncodedText.text c.args.text in
-    let read = key_read (collation_borrowed c.args.self.now) text (nfd text) c.as_slice.result.now
-    refl (λ on. c.as_slice.ensures.value ∙ c.in-Ok.ensures on) in
+    let read = key_read (collation_borrowed c.args.self.now) text (nfd text) _
+    refl (uncounted _ _ _ c.requires.elements) in
     record { key = subst (λ (key : List ℕ). WritesKey g.S.CollationKeySink.effects c.args.sink.now key c.write_key_with_characters.result c.write_key_with_characters.new.sink) read c.write_key_with_characters.ensures.key }
