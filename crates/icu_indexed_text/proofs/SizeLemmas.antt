@@ -1,5 +1,5 @@
 -- The characters of a text take all of its units.
-use Rattle.std.proofs.Common.{◌≡◌, ℕ, suc, ◌+◌, ◌-◌, ◌^◌, ◌<◌, ◌≤◌, true, List, [], ◌∷◌, Some, None, if◌then◌else◌, length, map, take, drop, sum, get_or, slice_index, refl, sym, ap, ◌∙◌, subst, arith, inl, inr, length-append}
+use Rattle.std.proofs.Common.{◌≡◌, ℕ, suc, ◌+◌, ◌-◌, ◌^◌, ◌<◌, ◌≤◌, ◌==◌, true, false, List, [], ◌∷◌, Some, None, if◌then◌else◌, length, map, take, drop, sum, get_or, slice_index, refl, sym, ap, ◌∙◌, subst, arith, inl, inr, length-append}
 use Rattle.std.specs.Prelude.{chars, encode_utf8, encode_utf8_all, IsUtf8, slice_index_or}
 use Rattle.std.specs.Char.{len_utf8}
 use Rattle.std.specs.Char.Utf16.{surrogate_pair_char}
@@ -9,8 +9,8 @@ use Rattle.std.proofs.lemmas.Bool.Decides.{nat_tests}
 use Rattle.std.proofs.lemmas.List.{length-map, drop_at, take_all}
 use Rattle.std.proofs.lemmas.List.Sums.{sum_by-cons}
 use Rattle.std.proofs.lemmas.Str.{encodes-chars, scalars-chars, length-encode, len_utf8_bounds}
-use Rattle.bstr.specs.Utf8.{Decoded, decoded, good, or_replacement, pieces}
-use Rattle.bstr.proofs.lemmas.PieceLemmas.{sizes, pieces-nil, pieces-step, pieces-sizes, lossy_chars-step, value-1}
+use Rattle.bstr.specs.Utf8.{Decoded, code_of_2, continues, decoded, good, or_replacement, pieces, second}
+use Rattle.bstr.proofs.lemmas.PieceLemmas.{sizes, pieces-nil, pieces-step, pieces-sizes, lossy_chars-step, value-1, value-6}
 use Rattle.bstr.proofs.lemmas.EncodeLemmas.{decoded-encode}
 use Rattle.icu_encodings.specs.DecodedTexts.{utf8_text, utf16_text}
 use Rattle.icu_encodings.specs.inner.Utf16Units.{is_pair, pair_char, lone_char}
@@ -95,6 +95,36 @@ utf8_takes_ascii (b ∷ bs) c some is low =
     let rest_is : take (length (b ∷ bs) - 1) bs ≡ bs = take_all (length (b ∷ bs) - 1) bs (omega arith) in
     subst (λ (l : List ℕ). TakesFirst c 1 (utf8_text (b ∷ bs)) (utf8_sizes (b ∷ bs)) (utf8_text l) (utf8_sizes l)) (sym rest_is)
     (subst (λ k. TakesFirst k 1 (utf8_text (b ∷ bs)) (utf8_sizes (b ∷ bs)) (utf8_text bs) (utf8_sizes bs)) (sym is) (utf8_takes_byte b bs (omega (arith, is, low))))
+
+-- a well-formed character of two bytes
+pub utf8_takes_two : (b c : ℕ) (bs : List ℕ) → 0xC2 ≤ b → b ≤ 0xDF → 0x80 ≤ c → c ≤ 0xBF
+    → TakesFirst (code_of_2 b c) 2 (utf8_text (b ∷ c ∷ bs)) (utf8_sizes (b ∷ c ∷ bs)) (utf8_text bs) (utf8_sizes bs)
+utf8_takes_two b c bs low high at_least at_most =
+    let all = b ∷ c ∷ bs in
+    let e0 : (b == 0xE0) ≡ false = grind (arith, nat_tests) in
+    let ed : (b == 0xED) ≡ false = grind (arith, nat_tests) in
+    let f0 : (b == 0xF0) ≡ false = grind (arith, nat_tests) in
+    let f4 : (b == 0xF4) ≡ false = grind (arith, nat_tests) in
+    let goes_on : continues c ≡ true = grind (arith, nat_tests) in
+    let second_fits : second b c ≡ true = rw (e0, ed, f0, f4) goes_on in
+    let value : decoded all ≡ good (code_of_2 b c) 2 =
+    value-6 (length all) b c (slice_index all 2) (slice_index all 3) (omega arith, low, omega (arith, high), second_fits) in
+    subst (λ (d : Decoded). TakesFirst (or_replacement d.char) d.size (utf8_text all) (utf8_sizes all) (utf8_text (drop d.size all)) (utf8_sizes (drop d.size all))) value
+    (utf8_takes all (omega arith))
+
+-- where the first two bytes are one
+pub utf8_takes_pair : (bs : List ℕ) (b c d e x : ℕ) → 2 ≤ length bs → b ≡ get_or bs 0 d → c ≡ get_or bs 1 e → 0xC2 ≤ b → b ≤ 0xDF → 0x80 ≤ c → c ≤ 0xBF → x ≡ code_of_2 b c
+    → TakesFirst x 2 (utf8_text bs) (utf8_sizes bs) (utf8_text (take (length bs - 2) (drop 2 bs))) (utf8_sizes (take (length bs - 2) (drop 2 bs)))
+utf8_takes_pair [] b c d e x long f s low high at_least at_most is = absurd (omega arith)
+utf8_takes_pair (y ∷ []) b c d e x long f s low high at_least at_most is = absurd (omega arith)
+utf8_takes_pair (y ∷ z ∷ bs) b c d e x long f s low high at_least at_most is =
+    let all = y ∷ z ∷ bs in
+    let rest_is : take (length all - 2) bs ≡ bs = take_all (length all - 2) bs (omega arith) in
+    let all_is : b ∷ c ∷ bs ≡ all = ap (λ k. k ∷ c ∷ bs) f ∙ ap (λ k. y ∷ k ∷ bs) s in
+    subst (λ (l : List ℕ). TakesFirst x 2 (utf8_text all) (utf8_sizes all) (utf8_text l) (utf8_sizes l)) (sym rest_is)
+    (subst (λ (l : List ℕ). TakesFirst x 2 (utf8_text l) (utf8_sizes l) (utf8_text bs) (utf8_sizes bs)) all_is
+    (subst (λ k. TakesFirst k 2 (utf8_text (b ∷ c ∷ bs)) (utf8_sizes (b ∷ c ∷ bs)) (utf8_text bs) (utf8_sizes bs)) (sym is)
+    (utf8_takes_two b c bs low high at_least at_most)))
 
 -- of UTF-8 without damage
 written_sizes : (cs : List ℕ) → scalars cs ≡ true → utf8_sizes (encode_utf8_all cs) ≡ str_sizes cs

@@ -1,6 +1,6 @@
 //! Texts whose characters say how many units they take.
 
-ghost use Rattle.std.specs.Prelude.{◌≡◌, ℕ, List, [], length, sum, MatchOption};
+ghost use Rattle.std.specs.Prelude.{◌≡◌, ℕ, List, [], length, sum, IfSome, MatchOption};
 ghost use Rattle.icu_encodings.specs.DecodedTexts.{utf8_text};
 ghost use Rattle.icu_indexed_text.specs.UnitOffsets.{TakesFirst, latin1_sizes, utf16_sizes, utf8_sizes};
 
@@ -23,6 +23,23 @@ pub trait SizedText: EncodedText {
         ensures all { sum (sizes self) ≡ length (Self.units self) };
 }
 
+/// The first character of UTF-8 that begins with a well-formed one of two bytes, how many it takes, and the others.
+#[inline(always)]
+fn split_two(bytes: &[u8]) -> Option<(char, usize, &[u8])>
+    ensures { IfSome result (λ p. TakesFirst p.0 p.1
+        (utf8_text bytes.now) (utf8_sizes bytes.now) (utf8_text p.2.now) (utf8_sizes p.2.now)) }
+{
+    let [first, second, rest @ ..] = bytes else {
+        return None;
+    };
+    if *first < 0xC2 || *first > 0xDF || *second < 0x80 || *second > 0xBF {
+        return None;
+    }
+    let code = (u32::from(*first) - 0xC0) * 64 + (u32::from(*second) - 0x80);
+    let c = char::from_u32(code)?;
+    Some((c, 2, rest))
+}
+
 /// The first character of bytes that are decoded as UTF-8, how many of them it takes, and the others.
 #[inline(always)]
 fn split_utf8(bytes: &[u8]) -> Option<(char, usize, &[u8])>
@@ -34,6 +51,9 @@ fn split_utf8(bytes: &[u8]) -> Option<(char, usize, &[u8])>
     }
     if bytes[0] < 0x80 {
         return Some((char::from(bytes[0]), 1, &bytes[1..]));
+    }
+    if let Some(found) = split_two(bytes) {
+        return Some(found);
     }
     let (c, size) = decode_lossy(bytes);
     let (_, rest) = bytes.split_at(size);
