@@ -1,11 +1,14 @@
 //! Records, sorted by their columns.
 
-ghost use Rattle.std.specs.Prelude.{◌≡◌, ◌≢◌, ◌++◌, IfErr, IfOk, OnOk};
+ghost use Rattle.std.specs.Prelude.{◌≡◌, ◌≢◌, ◌++◌, IfErr, IfOk, OnErr, OnOk};
+ghost use Rattle.std.specs.Io.KnownBytes.{Appends};
+ghost use Rattle.collate_commands.specs.PartialWrites.{AppendsBeginning};
 ghost use Rattle.csv.specs.Reading.{strip_bom};
 ghost use Rattle.csv_records.specs.CsvCuts.{HasRecords};
 ghost use Rattle.icu_collator.specs.Collators.{collation_kept};
 ghost use Rattle.keyed_lines.specs.InputLines.{ended_lines};
 ghost use Rattle.keyed_lines.specs.ShownLines.{shown_lines};
+ghost use Rattle.keyed_lines.specs.OrderedTexts.{ordered_text};
 ghost use Rattle.line_commands.specs.Printed.{Prints};
 ghost use Rattle.csv_sorts.specs.ColumnOrders.{as_they_came, body_of, header_of};
 ghost use Rattle.csv_sorts.specs.CsvErrors.{ExplainsClosing, ExplainsCsv, ExplainsOpen};
@@ -14,10 +17,9 @@ ghost use Rattle.csv_sorts.specs.declared.csv_request.CsvError.TheVariants.{Writ
 
 use crate::csv_request::{CsvError, CsvRequest};
 use crate::record_key::keys_of_records;
-use collate_commands::write_text;
 use csv_records::{csv_records, is_closed, past_mark};
 use icu_collator::Collator;
-use keyed_lines::{Direction, LineOrder, SortRequest, Ties, push_line, text_by_keys};
+use keyed_lines::{Direction, LineOrder, OrderedLines, SortRequest, Ties, push_line, text_by_keys};
 use std::alloc::{AllocError, Global};
 use std::io::Write;
 
@@ -70,6 +72,16 @@ fn push_records(text: &mut Vec<u8>, records: &[&[u8]]) -> Result<(), AllocError>
     Ok(())
 }
 
+/// A byte order mark, and the records before those that are sorted.
+fn head_text(alloc: Global, mark: &[u8], header: &[&[u8]]) -> Result<Vec<u8>, AllocError>
+    ensures { IfOk result (λ text.
+        text.items ≡ mark.now ++ ended_lines 10 (shown_lines header.now)) }
+{
+    let mut text = Vec::from_slice(alloc, mark)?;
+    push_records(&mut text, header)?;
+    Ok(text)
+}
+
 /// A byte order mark, the records before those that are sorted, and then those that are, as they were written.
 fn headed_text(
     alloc: Global,
@@ -80,8 +92,7 @@ fn headed_text(
     ensures { IfOk result (λ text. text.items
         ≡ mark.now ++ (ended_lines 10 (shown_lines header.now) ++ sorted.now)) }
 {
-    let mut text = Vec::from_slice(alloc, mark)?;
-    push_records(&mut text, header)?;
+    let mut text = head_text(alloc, mark, header)?;
     text.extend_from_slice(sorted)?;
     Ok(text)
 }
@@ -153,13 +164,30 @@ pub fn text_sorted_by_columns(
     Ok(output)
 }
 
+/// Prints what stands before records, and then the records.
+fn print_behind<W: Write>(
+    head: &[u8],
+    records: OrderedLines<'_>,
+    output: &mut W,
+) -> Result<(), CsvError>
+    ensures ok { OnOk result (Appends (W.contents output.old) (W.contents output.new)
+        (head.now ++ ordered_text records.entry)) }
+    ensures stops { OnErr result (AppendsBeginning (W.contents output.old) (W.contents output.new)
+        (head.now ++ ordered_text records.entry)) }
+    ensures failed { IfErr result (λ e. e ≡ WriteFailed) }
+{
+    match records.write_behind(head, output) {
+        Ok(()) => Ok(()),
+        Err(_) => Err(CsvError::WriteFailed),
+    }
+}
+
 /// Prints a text of CSV with its records in the order of their columns.
 ///
 /// # Errors
 ///
 /// Those of `text_sorted_by_columns`, and then nothing is printed; or a write or the flush fails: then a beginning was
 /// printed.
-#[tactic(auto, using(crate::proofs::StopLemmas::kept_unwritten))]
 pub fn print_sorted_by_columns<W: Write>(
     alloc: Global,
     collator: &Collator,
@@ -174,9 +202,11 @@ pub fn print_sorted_by_columns<W: Write>(
         (W.contents output.old) (W.contents output.new)) }
     ensures explains { IfErr result (λ e. e ≢ WriteFailed → ExplainsCsv request.entry text.now e) }
 {
-    let sorted = text_sorted_by_columns(alloc, collator, request, text)?;
-    match write_text(output, sorted.as_slice()) {
-        Ok(()) => Ok(()),
-        Err(_) => Err(CsvError::WriteFailed),
-    }
+    let records = closed_records(alloc, request.delimiter, text)?;
+    let header = header_of(request.has_header, records.as_slice());
+    let body = body_of(request.has_header, records.as_slice());
+    let keys = keys_of_records(alloc, &collator.as_borrowed(), request, header.len(), body)?;
+    let sorted = OrderedLines::new(alloc, &keys, body, written_as(request))?;
+    let head = head_text(alloc, front_mark(text), header)?;
+    print_behind(head.as_slice(), sorted, output)
 }

@@ -6,11 +6,11 @@ ghost use Rattle.line_commands.specs.Printed.{Prints, StopsPrinting};
 ghost use Rattle.field_sorts.specs.FieldSortedInputs.{SortsByFields};
 
 use crate::field_sort::FieldSorts;
-use crate::sorted_by_fields::text_sorted_by_fields;
+use crate::line_key::keys_of_lines;
 use collate_commands::ProgramError;
 use icu_collator::Collator;
-use keyed_lines::SortRequest;
-use line_commands::print_text;
+use keyed_lines::{OrderedLines, SortRequest, lines_by};
+use line_commands::print_lines;
 use std::alloc::Global;
 use std::io::Write;
 
@@ -35,6 +35,8 @@ pub fn print_sorted_by_fields<W: Write>(
         fields.entry.ends fields.entry.sorts.now request input.now)
         (W.contents output.old) (W.contents output.new)) }
 {
-    let text = text_sorted_by_fields(alloc, collator, fields, input, request)?;
-    print_text(text.as_slice(), output)
+    let lines = lines_by(alloc, input, request.separator)?;
+    let keys = keys_of_lines(alloc, &collator.as_borrowed(), fields, lines.as_slice())?;
+    let sorted = OrderedLines::new(alloc, &keys, lines.as_slice(), request)?;
+    print_lines(sorted, output)
 }

@@ -12,3 +12,4 @@ pub mod SettledLemmas
 pub mod SortedPlaceLemmas
 pub mod SortedLineLemmas
 pub mod WrittenLineLemmas
+pub mod ChunkLemmas

@@ -1,8 +1,8 @@
 -- What is appended of lines, one after another.
-use Rattle.std.proofs.Common.{◌≡◌, ℕ, Bool, true, false, List, [], ◌∷◌, ◌++◌, map, if◌then◌else◌, refl, sym, length, take, drop, get_or, ◌<◌, ◌-◌, arith, ap}
-use Rattle.keyed_lines.specs.FirstLines.{firsts, firsts_behind, have_one_key}
+use Rattle.std.proofs.Common.{◌≡◌, ℕ, Bool, true, false, List, [], ◌∷◌, ◌++◌, map, if◌then◌else◌, refl, sym, length, take, drop, get_or, ◌<◌, ◌+◌, ◌-◌, ◌∙◌, arith, ap}
+use Rattle.keyed_lines.specs.FirstLines.{firsts, firsts_behind, have_one_key, unrepeated}
 use Rattle.keyed_lines.specs.InputLines.{ended_lines}
-use Rattle.std.proofs.lemmas.List.{take_all}
+use Rattle.std.proofs.lemmas.List.{at_drop_more, take_all}
 use Rattle.keyed_lines.specs.KeyBuffers.{line_bytes, place_pair, pairs_at}
 use Rattle.keyed_lines.specs.declared.keyed_lines.KeyedLines.{KeyedLines}
 use Rattle.keyed_lines.specs.declared.line_places.LinePlace.{LinePlace}
@@ -27,3 +27,23 @@ first_then separator k (p ∷ ps) d some =
     ap (λ (qs : List LinePlace). (line_bytes (place_pair k p) ++ separator ∷ [])
     ++ ended_lines separator (map line_bytes (firsts_behind have_one_key (place_pair k p) (pairs_at k qs))))
     (sym (take_all (length (p ∷ ps) - 1) ps (omega arith)))
+
+module _ (separator : ℕ) (k : KeyedLines) where
+  -- the text of lines, one behind another
+  abbrev pub each_text : List LinePlace → List ℕ
+  each_text places = ended_lines separator (map line_bytes (pairs_at k places))
+
+  -- that of the first of those that have one key, behind another line
+  abbrev pub behind_text : List ℕ × List ℕ → List LinePlace → List ℕ
+  behind_text before places = ended_lines separator (map line_bytes (firsts_behind have_one_key before (pairs_at k places)))
+
+  pub each_next : (places : List LinePlace) (i : ℕ) (d : LinePlace) → i < length places
+      → each_text (drop i places) ≡ (line_bytes (place_pair k (get_or places i d)) ++ separator ∷ []) ++ each_text (drop (i + 1) places)
+  each_next places i d within = at_drop_more each_text places i d within
+
+  pub behind_next : (before : List ℕ × List ℕ) (places : List LinePlace) (i : ℕ) (d : LinePlace) → i < length places
+      → behind_text before (drop i places)
+      ≡ unrepeated separator before (place_pair k (get_or places i d)) ++ behind_text (place_pair k (get_or places i d)) (drop (i + 1) places)
+  behind_next before places i d within =
+      at_drop_more (behind_text before) places i d within
+      ∙ next_first separator before (place_pair k (get_or places i d)) (pairs_at k (drop (i + 1) places))

@@ -6,4 +6,5 @@ pub mod ShownLines
 pub mod KeyBuffers
 pub mod KeyedOrders
 pub mod SortedTexts
+pub mod OrderedTexts
 pub mod inner

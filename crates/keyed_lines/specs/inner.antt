@@ -1,3 +1,4 @@
 -- Words of private contracts and proofs only: no public contract names them.
+pub mod Chunks
 pub mod PlaceOrders
 pub mod SettledPlaces

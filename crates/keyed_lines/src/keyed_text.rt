@@ -9,7 +9,7 @@ use crate::keyed_lines::KeyedLines;
 use crate::line_keys::LineKeys;
 use crate::sort_lines::sorted_places;
 use crate::sort_request::SortRequest;
-use crate::written_lines::written_lines;
+use crate::written_lines::lines_text;
 use std::alloc::{AllocError, Global};
 
 /// The lines that a request asks for, in its order, each with a separator behind it. The first key is that of the first
@@ -30,6 +30,6 @@ pub fn text_by_keys(
 {
     let keyed = KeyedLines { keys, lines };
     let places = sorted_places(alloc, &keyed, request.order)?;
-    let text = written_lines(alloc, &keyed, places.as_slice(), request)?;
+    let text = lines_text(alloc, &keyed, places.as_slice(), request)?;
     Ok(text)
 }

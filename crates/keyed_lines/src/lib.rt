@@ -1,6 +1,7 @@
 //! Lines of an input, with sort keys in the order of the keys.
 #![tactic(auto)]
 
+mod chunks;
 pub mod input_lines;
 pub mod key_front;
 mod keyed_lines;
@@ -8,6 +9,7 @@ pub mod keyed_text;
 pub mod line_keys;
 pub mod line_order;
 mod line_places;
+pub mod ordered_lines;
 mod settled_places;
 mod sort_lines;
 pub mod sort_request;
@@ -17,5 +19,6 @@ pub use input_lines::lines_by;
 pub use keyed_text::text_by_keys;
 pub use line_keys::LineKeys;
 pub use line_order::{Direction, LineOrder, Ties};
+pub use ordered_lines::OrderedLines;
 pub use sort_request::{Repeats, SortRequest};
 pub use written_lines::push_line;

@@ -1,31 +1,31 @@
 //! Lines as they are printed.
 
-ghost use Rattle.std.specs.Prelude.{◌≡◌, ◌++◌, ◌∷◌, [], IfOk, OnOk, map};
-ghost use Rattle.keyed_lines.specs.FirstLines.{firsts, firsts_behind, have_one_key, printed, unrepeated};
+ghost use Rattle.std.specs.Prelude.{◌≡◌, ◌++◌, ◌∷◌, [], IfOk, OnErr, OnOk, map};
+ghost use Rattle.std.specs.Io.KnownBytes.{Appends};
+ghost use Rattle.keyed_lines.specs.FirstLines.{firsts, firsts_behind, have_one_key, unrepeated};
 ghost use Rattle.keyed_lines.specs.InputLines.{ended_lines};
 ghost use Rattle.keyed_lines.specs.KeyBuffers.{line_bytes, place_pair, pairs_at};
+ghost use Rattle.keyed_lines.specs.OrderedTexts.{WritesBeginning, ordered_text_at};
+ghost use Rattle.keyed_lines.specs.inner.Chunks.{Proceeds};
 
+use crate::chunks::{make_room, push_bytes, write_chunk};
 use crate::keyed_lines::KeyedLines;
 use crate::line_places::LinePlace;
 use crate::sort_request::{Repeats, SortRequest};
 use std::alloc::{AllocError, Global};
+use std::io::{Result, Write};
 
 /// Appends a line and a separator.
-pub fn push_line(text: &mut Vec<u8>, line: &[u8], separator: u8) -> Result<(), AllocError>
+pub fn push_line(
+    text: &mut Vec<u8>,
+    line: &[u8],
+    separator: u8,
+) -> std::result::Result<(), AllocError>
     ensures { OnOk result (text.new.items ≡ text.old.items ++ (line.now ++ separator ∷ [])) }
 {
     text.extend_from_slice(line)?;
     text.push(separator)?;
     Ok(())
-}
-
-/// How many bytes lines have with what ends them.
-fn ended_length(lines: &[&[u8]]) -> usize {
-    let mut length: usize = 0;
-    for line in lines {
-        length = length.saturating_add(line.len()).saturating_add(1);
-    }
-    length
 }
 
 /// So many lines are looked at before they are copied.
@@ -54,13 +54,15 @@ fn first_bytes(keyed: &KeyedLines<'_>, places: &[LinePlace]) -> usize {
 /// Before each batch of lines looks at where they stand, and then at their first bytes. Lines in order are spread over
 /// the memory: reads that don't wait for one another bring many of them near at once. It makes room for a byte, at
 /// most, by what was read, so that it is read indeed; a line to come takes that much.
-fn look_ahead(
+fn look_ahead<W: Write>(
     keyed: &KeyedLines<'_>,
     places: &[LinePlace],
     from: usize,
-    text: &mut Vec<u8>,
-) -> Result<(), AllocError>
-    ensures { text.new.items ≡ text.old.items }
+    chunk: &mut Vec<u8>,
+    output: &mut W,
+) -> Result<()>
+    ensures { Proceeds result (W.contents output.old) chunk.old.items
+        (W.contents output.new) chunk.new.items }
 {
     if from % AHEAD != 0 || from >= places.len() {
         return Ok(());
@@ -68,100 +70,190 @@ fn look_ahead(
     let to = from.saturating_add(AHEAD).min(places.len());
     let batch = &places[from..to];
     let seen = total_length(keyed, batch) ^ first_bytes(keyed, batch);
-    text.reserve(seen & 1)
+    make_room(chunk, seen & 1, output)
 }
 
-/// Each line.
-fn each_line(
+/// Writes a line and a separator.
+#[inline(always)]
+fn write_line<W: Write>(
+    line: &[u8],
+    separator: u8,
+    chunk: &mut Vec<u8>,
+    output: &mut W,
+) -> Result<()>
+    ensures { Proceeds result (W.contents output.old) (chunk.old.items
+        ++ (line.now ++ separator ∷ []))
+        (W.contents output.new) chunk.new.items }
+{
+    push_bytes(chunk, line, output)?;
+    push_bytes(chunk, &[separator], output)
+}
+
+/// Writes each line.
+fn write_each<W: Write>(
     keyed: &KeyedLines<'_>,
     places: &[LinePlace],
     separator: u8,
-    text: &mut Vec<u8>,
-) -> Result<(), AllocError>
-    ensures { OnOk result (text.new.items ≡ text.old.items
-        ++ ended_lines separator (map line_bytes (pairs_at keyed.now places.now))) }
+    chunk: &mut Vec<u8>,
+    output: &mut W,
+) -> Result<()>
+    ensures { Proceeds result (W.contents output.old) (chunk.old.items
+        ++ ended_lines separator (map line_bytes (pairs_at keyed.now places.now)))
+        (W.contents output.new) chunk.new.items }
 {
     let mut count: usize = 0;
     for place in places {
-        look_ahead(keyed, places, count, text)?;
-        push_line(text, keyed.line(place.index), separator)?;
+        look_ahead(keyed, places, count, chunk, output)?;
+        write_line(keyed.line(place.index), separator, chunk, output)?;
         count = count.wrapping_add(1);
     }
     Ok(())
 }
 
-/// Appends a line and a separator, unless it has the key of the line before it.
-fn push_other(
+/// Writes a line and a separator, unless it has the key of the line before it.
+fn write_other<W: Write>(
     keyed: &KeyedLines<'_>,
     before: LinePlace,
     place: LinePlace,
     separator: u8,
-    text: &mut Vec<u8>,
-) -> Result<(), AllocError>
-    ensures { OnOk result (text.new.items ≡ text.old.items
-        ++ unrepeated separator (place_pair keyed.now before) (place_pair keyed.now place)) }
+    chunk: &mut Vec<u8>,
+    output: &mut W,
+) -> Result<()>
+    ensures { Proceeds result (W.contents output.old) (chunk.old.items
+        ++ unrepeated separator (place_pair keyed.now before) (place_pair keyed.now place))
+        (W.contents output.new) chunk.new.items }
 {
     if keyed.keys.key(before.index) == keyed.keys.key(place.index) {
         return Ok(());
     }
-    push_line(text, keyed.line(place.index), separator)
+    write_line(keyed.line(place.index), separator, chunk, output)
 }
 
-/// Behind a line, the first of those that stand together and have another key.
-fn first_lines_behind(
+/// Behind a line, writes the first of those that stand together and have another key.
+fn write_firsts_behind<W: Write>(
     keyed: &KeyedLines<'_>,
     first: LinePlace,
     places: &[LinePlace],
     separator: u8,
-    text: &mut Vec<u8>,
-) -> Result<(), AllocError>
-    ensures { let k = keyed.now in OnOk result (text.new.items ≡ text.old.items
-        ++ ended_lines separator (map line_bytes
-        (firsts_behind have_one_key (place_pair k first) (pairs_at k places.now)))) }
+    chunk: &mut Vec<u8>,
+    output: &mut W,
+) -> Result<()>
+    ensures { Proceeds result (W.contents output.old) (chunk.old.items
+        ++ ended_lines separator (map line_bytes (firsts_behind have_one_key
+        (place_pair keyed.now first) (pairs_at keyed.now places.now))))
+        (W.contents output.new) chunk.new.items }
 {
     let mut before = first;
     for place in places {
-        push_other(keyed, before, *place, separator, text)?;
+        write_other(keyed, before, *place, separator, chunk, output)?;
         before = *place;
     }
     Ok(())
 }
 
-/// The first line of those that stand together and have one key.
-fn first_lines(
+/// Writes the first line of those that stand together and have one key.
+fn write_firsts<W: Write>(
     keyed: &KeyedLines<'_>,
     places: &[LinePlace],
     separator: u8,
-    text: &mut Vec<u8>,
-) -> Result<(), AllocError>
-    ensures { OnOk result (text.new.items ≡ text.old.items ++ ended_lines separator
-        (map line_bytes (firsts have_one_key (pairs_at keyed.now places.now)))) }
+    chunk: &mut Vec<u8>,
+    output: &mut W,
+) -> Result<()>
+    ensures { Proceeds result (W.contents output.old) (chunk.old.items
+        ++ ended_lines separator (map line_bytes
+        (firsts have_one_key (pairs_at keyed.now places.now))))
+        (W.contents output.new) chunk.new.items }
 {
     let [first, rest @ ..] = places else {
         return Ok(());
     };
-    push_line(text, keyed.line(first.index), separator)?;
-    first_lines_behind(keyed, *first, rest, separator, text)
+    write_line(keyed.line(first.index), separator, chunk, output)?;
+    write_firsts_behind(keyed, *first, rest, separator, chunk, output)
 }
 
-/// Those that a request asks for of lines that are sorted, each with a separator behind it.
+/// Writes those that a request asks for of lines that are sorted, each with a separator behind it.
+fn push_lines<W: Write>(
+    keyed: &KeyedLines<'_>,
+    places: &[LinePlace],
+    request: SortRequest,
+    chunk: &mut Vec<u8>,
+    output: &mut W,
+) -> Result<()>
+    ensures { Proceeds result (W.contents output.old) (chunk.old.items
+        ++ ordered_text_at keyed.now places.now request)
+        (W.contents output.new) chunk.new.items }
+{
+    match request.repeats {
+        Repeats::All => write_each(keyed, places, request.separator, chunk, output),
+        Repeats::FirstOnly => write_firsts(keyed, places, request.separator, chunk, output),
+    }
+}
+
+/// Writes bytes and then those that a request asks for of lines that are sorted, each with a separator behind it, and
+/// flushes the output.
+///
+/// # Errors
+///
+/// Fails only where a write does, or the flush.
+pub(crate) fn write_lines<W: Write>(
+    head: &[u8],
+    keyed: &KeyedLines<'_>,
+    places: &[LinePlace],
+    request: SortRequest,
+    chunk: &mut Vec<u8>,
+    output: &mut W,
+) -> Result<()>
+    ensures ok { OnOk result (Appends (W.contents output.old) (W.contents output.new)
+        (head.now ++ ordered_text_at keyed.now places.now request)) }
+    ensures err { OnErr result (WritesBeginning (W.contents output.old) (W.contents output.new)
+        (head.now ++ ordered_text_at keyed.now places.now request)) }
+{
+    chunk.clear();
+    push_bytes(chunk, head, output)?;
+    push_lines(keyed, places, request, chunk, output)?;
+    write_chunk(chunk, output)?;
+    output.flush()
+}
+
+/// How many bytes lines have with what ends them.
+fn ended_length(lines: &[&[u8]]) -> usize {
+    let mut length: usize = 0;
+    for line in lines {
+        length = length.saturating_add(line.len()).saturating_add(1);
+    }
+    length
+}
+
+/// Bytes, and others behind them.
+fn joined(before: Vec<u8>, bytes: Vec<u8>) -> std::result::Result<Vec<u8>, AllocError>
+    ensures { IfOk result (λ all. all.items ≡ before.items ++ bytes.items) }
+{
+    if before.is_empty() {
+        return Ok(bytes);
+    }
+    let mut all = before;
+    all.extend_from_slice(bytes.as_slice())?;
+    Ok(all)
+}
+
+/// Those that a request asks for of lines that are sorted, each with a separator behind it, as one chunk that has room
+/// for all.
 ///
 /// # Errors
 ///
 /// Fails only where an allocation does.
-pub(crate) fn written_lines(
+pub(crate) fn lines_text(
     alloc: Global,
     keyed: &KeyedLines<'_>,
     places: &[LinePlace],
     request: SortRequest,
-) -> Result<Vec<u8>, AllocError>
-    ensures { IfOk result (λ text. text.items ≡ ended_lines request.separator
-        (map line_bytes (printed request.repeats have_one_key (pairs_at keyed.now places.now)))) }
+) -> std::result::Result<Vec<u8>, AllocError>
+    ensures { IfOk result (λ text. text.items ≡ ordered_text_at keyed.now places.now request) }
 {
     let mut text = Vec::with_capacity(alloc, ended_length(keyed.lines))?;
-    match request.repeats {
-        Repeats::All => each_line(keyed, places, request.separator, &mut text)?,
-        Repeats::FirstOnly => first_lines(keyed, places, request.separator, &mut text)?,
+    let mut before = Vec::new(alloc);
+    match push_lines(keyed, places, request, &mut text, &mut before) {
+        Ok(()) => joined(before, text),
+        Err(_) => Err(AllocError),
     }
-    Ok(text)
 }

@@ -5,3 +5,5 @@ pub mod FrontCountLemmas
 pub mod FrontTellsLemmas
 pub mod ShortKeyLemmas
 pub mod OrderAlikeLemmas
+pub mod SortedInputLemmas
+pub mod PrintLemmas

@@ -5,6 +5,7 @@ ghost use Rattle.std.specs.Io.KnownBytes.{Appends};
 ghost use Rattle.std.specs.Ordering.{is_eq};
 ghost use Rattle.collate_commands.specs.Answers.{sign_of};
 ghost use Rattle.keyed_lines.specs.InputLines.{lines_by};
+ghost use Rattle.keyed_lines.specs.OrderedTexts.{ordered_text};
 ghost use Rattle.collate_commands.specs.KeyText.{key_text};
 ghost use Rattle.icu_collator.specs.Collators.{collation_kept};
 ghost use Rattle.icu_text_order.specs.TextOrder.{text_key, text_order};
@@ -13,11 +14,11 @@ ghost use Rattle.line_commands.specs.Printed.{Prints, StopsPrinting};
 ghost use Rattle.line_commands.specs.SortedInputs.{SortsInput};
 
 use crate::line_keys_text::keys_text;
-use crate::sorted_lines::sorted_text;
+use crate::sort_keys::keys_for_sort;
 use collate_commands::key_line::key_line;
 use collate_commands::{ProgramError, sign_line, sort_key, write_text};
 use icu_collator::Collator;
-use keyed_lines::SortRequest;
+use keyed_lines::{OrderedLines, SortRequest, lines_by};
 use std::alloc::Global;
 use std::io::Write;
 
@@ -108,11 +109,28 @@ pub fn print_keys<W: Write>(
     print_text(text.as_slice(), output)
 }
 
-/// Prints the lines of an input in order.
+/// Prints sorted lines, and flushes the output.
 ///
 /// # Errors
 ///
-/// Those of `print_key`.
+/// Fails only where a write does, or the flush; then a beginning was printed.
+pub fn print_lines<W: Write>(lines: OrderedLines<'_>, output: &mut W) -> Result<(), ProgramError>
+    ensures ok { OnOk result
+        (Appends (W.contents output.old) (W.contents output.new) (ordered_text lines.entry)) }
+    ensures stops { IfErr result (StopsPrinting (λ t. t ≡ ordered_text lines.entry)
+        (W.contents output.old) (W.contents output.new)) }
+{
+    match lines.write_to(output) {
+        Ok(()) => Ok(()),
+        Err(_) => Err(ProgramError::WriteFailed),
+    }
+}
+
+/// Prints the lines of an input in order, chunk by chunk.
+///
+/// # Errors
+///
+/// Those of `print_key`. All memory is allocated before anything is printed.
 pub fn print_sorted<W: Write>(
     alloc: Global,
     collator: &Collator,
@@ -126,6 +144,10 @@ pub fn print_sorted<W: Write>(
         (SortsInput (collation_kept collator.now) request input.now)
         (W.contents output.old) (W.contents output.new)) }
 {
-    let text = sorted_text(alloc, collator, input, request)?;
-    print_text(text.as_slice(), output)
+    let collator = collator.as_borrowed();
+    collator.has_well_formed_tables();
+    let lines = lines_by(alloc, input, request.separator)?;
+    let keys = keys_for_sort(alloc, &collator, lines.as_slice())?;
+    let sorted = OrderedLines::new(alloc, &keys, lines.as_slice(), request)?;
+    print_lines(sorted, output)
 }

@@ -1,19 +1,14 @@
 -- The records behind the header are sorted by their keys, and those that are asked for are written behind it.
 use Rattle.std.proofs.lemmas.Result.{err_from_is_err_and}
-use Rattle.std.proofs.Common.{◌≡◌, ◌++◌, ℕ, Bool, List, map, ap, ◌∙◌, subst}
-use Rattle.std.specs.List.{AllByRecursion}
-use Rattle.std.specs.Ordering.{is_eq}
+use Rattle.std.proofs.Common.{◌≡◌, ◌++◌, ℕ, List, map, ap, ◌∙◌}
 use Rattle.icu_collator.specs.Collators.{collation_kept}
-use Rattle.icu_index.specs.Listings.{IsStablySorted}
-use Rattle.icu_levels.specs.ListOrder.{list_order}
-use Rattle.keyed_lines.specs.FirstLines.{printed}
 use Rattle.keyed_lines.specs.InputLines.{ended_lines}
 use Rattle.keyed_lines.specs.KeyBuffers.{keys_in}
-use Rattle.keyed_lines.specs.KeyedOrders.{ordered_as}
 use Rattle.keyed_lines.specs.ShownLines.{shown_lines}
 use Rattle.csv_sorts.proofs.ErrorLemmas.{csv_lacks, csv_open}
 use Rattle.csv_sorts.proofs.HeadLemmas.{shown_body, shown_header}
-use Rattle.csv_sorts.specs.ColumnOrders.{HasColumns, body_of, columns_key, columns_order, header_of}
+use Rattle.csv_sorts.proofs.SortedRecordLemmas.{IsWrittenAs, sorts_csv}
+use Rattle.csv_sorts.specs.ColumnOrders.{body_of, columns_key, header_of}
 use Rattle.csv_sorts.specs.SortedRecords.{front_mark}
 use Rattle.csv_sorts.proofs.sorted_records.text_sorted_by_columns.Goals as goal
 
@@ -37,27 +32,13 @@ returns-clause-sorts c =
     c.in_ok-keys.ensures.keys ∙ ap (λ k. map (columns_key k d columns) (shown_lines body)) c.as_borrowed.ensures in
     let w = c.written_as.result in
     let by_key = c.in_ok-sorted.ensures key keyed in
-    let same : List ℕ → List ℕ → Bool = (λ x y. is_eq (list_order (key x) (key y))) in
-    let last =
-    c.as_slice-3.ensures.value
-    ∙ (by_key.written
-    ∙ (ap (λ s. ended_lines s (printed w.repeats same by_key.sorted)) c.written_as.ensures.separator
-    ∙ ap (λ p. ended_lines 10 (printed p same by_key.sorted)) c.written_as.ensures.repeats)) in
-    record {
-      records = records;
-      cut = c.in_ok-records.ensures.cut;
-      complete = subst (λ rs. AllByRecursion (HasColumns d columns) rs) behind c.in_ok-keys.ensures.has;
-      lines = by_key.sorted;
-      sorted =
-          subst (λ ls. IsStablySorted (columns_order collation d columns r.direction) ls by_key.sorted) behind
-          (subst (λ o. IsStablySorted (ordered_as o (λ x y. list_order (key x) (key y)) list_order) (shown_lines body) by_key.sorted) c.written_as.ensures.order
-          (record { permutation = by_key.permutation; ascends = by_key.ascends; stable = by_key.stable }));
-      written =
-          c.in_ok-output.ensures
-          ∙ (ap (λ (m : List ℕ). m ++ (ended_lines 10 (shown_lines header) ++ c.as_slice-3.result.now)) c.front_mark.ensures
-          ∙ (ap (λ hs. front_mark c.args.text.now ++ (ended_lines 10 hs ++ c.as_slice-3.result.now)) head
-          ∙ ap (λ (e : List ℕ). front_mark c.args.text.now ++ (ended_lines 10 (header_of r.has_header records) ++ e)) last));
-    }
+    let way : IsWrittenAs r w =
+    record { separator = c.written_as.ensures.separator; repeats = c.written_as.ensures.repeats; order = c.written_as.ensures.order } in
+    sorts_csv collation r w c.args.text.now c.in_ok-output.output.items c.in_ok-sorted.sorted.items records (shown_lines header) (shown_lines body) way
+    c.in_ok-records.ensures.cut head behind c.in_ok-keys.ensures.has by_key
+    (c.in_ok-output.ensures
+    ∙ (ap (λ (m : List ℕ). m ++ (ended_lines 10 (shown_lines header) ++ c.as_slice-3.result.now)) c.front_mark.ensures
+    ∙ ap (λ (e : List ℕ). front_mark c.args.text.now ++ (ended_lines 10 (shown_lines header) ++ e)) c.as_slice-3.ensures.value))
 
 pub returns-in_err-records-clause-explains : goal.returns-in_err-records-clause-explains
 returns-in_err-records-clause-explains c =

@@ -1,11 +1,11 @@
 -- The lines that were cut are sorted by their keys.
-use Rattle.std.proofs.Common.{◌≡◌, ℕ, List, map, ap, ◌∙◌, subst, sym}
+use Rattle.std.proofs.Common.{◌≡◌, ℕ, List, map, ap, ◌∙◌, sym}
 use Rattle.icu_collator.specs.Collators.{collation_kept}
-use Rattle.icu_index.specs.Listings.{IsStablySorted}
 use Rattle.keyed_lines.specs.InputLines.{lines_by}
 use Rattle.keyed_lines.specs.KeyBuffers.{keys_in}
 use Rattle.keyed_lines.specs.ShownLines.{shown_lines}
-use Rattle.field_sorts.specs.FieldOrders.{fields_order, line_key}
+use Rattle.field_sorts.proofs.FieldSortLemmas.{sorts_fields}
+use Rattle.field_sorts.specs.FieldOrders.{line_key}
 use Rattle.field_sorts.proofs.sorted_by_fields.text_sorted_by_fields.Goals as goal
 
 pub returns : goal.returns
@@ -20,11 +20,4 @@ returns c =
     c.in_ok-keys.ensures
     ∙ (ap (λ k. map (line_key k ends sorts) (shown_lines c.as_slice.result.now)) c.as_borrowed.ensures
     ∙ ap (λ ls. map key (shown_lines ls)) (c.as_slice.ensures.value ∙ sym c.as_slice-2.ensures.value)) in
-    let by_key = c.in_ok-text.ensures key keyed in
-    record {
-      lines = by_key.sorted;
-      sorted =
-          subst (λ ls. IsStablySorted (fields_order collation ends sorts r.order) ls by_key.sorted) cut
-          (record { permutation = by_key.permutation; ascends = by_key.ascends; stable = by_key.stable });
-      written = by_key.written;
-    }
+    sorts_fields collation ends sorts r c.args.bytes.now _ (shown_lines c.as_slice-2.result.now) cut (c.in_ok-text.ensures key keyed)
