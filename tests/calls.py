@@ -102,6 +102,7 @@ LEFT_OUT = {
     ("icu_searcher", "place_marks"): SEARCHES,
     ("icu_sort", "stable_order"): NAMES,
     ("keyed_lines", "LineKeys::push"): PROGRAM,
+    ("keyed_lines", "OrderedLines::new"): PROGRAM,
     ("keyed_lines", "lines_by"): PROGRAM,
     ("keyed_lines", "push_line"): PROGRAM,
     ("keyed_lines", "text_by_keys"): PROGRAM,

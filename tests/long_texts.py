@@ -17,6 +17,7 @@ SHIFTED = "4 1 3 1 0 0"
 A, B, C, CAPITAL, ZERO, ONE, ACUTE, RING, DOT = 0x61, 0x62, 0x63, 0x41, 0x30, 0x31, 0x301, 0x30A, 0x323
 # Marks of the classes 129, 130, 10, 27 and 103.
 SIGN_AA, SIGN_I, SHEVA, FATHATAN, SARA_U = 0xF71, 0xF72, 0x5B0, 0x64B, 0xE38
+KA, VOICED, GA, GAG = 0x304B, 0x3099, 0x304C, 0xAC01
 SEVERAL = [SIGN_AA, SHEVA, FATHATAN, SARA_U]
 SPACE, SEPARATOR, NOTHING, NONE = 0x20, 0xFFFE, 0x1, 0x2
 
@@ -163,7 +164,20 @@ LONG_TEXTS = [
               lambda n: ("Less", 0)),
 ]
 
+def of_one_weight(builder):
+    """A kana and its voiced sound mark have the same element."""
+    for c in (KA, VOICED):
+        builder.set_entry(c, 0x6110_0505)
+
+
 LONG_ELEMENTS = [
+    # Composed letters, and syllables of three jamo, whose elements are all the same.
+    LongElements("elements of composed letters", 50_000, tailored(of_one_weight),
+                 lambda n: [([GA], n)],
+                 lambda n: elements((0x6110_0000, 2 * n))),
+    LongElements("elements of syllables", 50_000, ["base Mini", "set jamo 65100505*100"],
+                 lambda n: [([GAG], n)],
+                 lambda n: elements((0x6510_0000, 3 * n))),
     # Marks each of which begins a contraction; one behind them all joins the first.
     LongElements("elements of begun", 50_000, tailored(begin_marks),
                  lambda n: [([SIGN_AA], n), ([SIGN_I], 1)],

@@ -52,6 +52,8 @@ PLANTED = [
     ("an element more", "elements.txt", "readings", lambda it: f"{it} 00000000.0000.0000".strip()),
     ("hints that are trusted", "matches.txt", "readings", lambda it: it.replace("61150000", "61100000.0500.0500 61140000")),
     ("characters that are read ahead", "taken.txt", "taken", read_ahead),
+    ("a syllable that waits for the next character", "taken.txt", "taken 0 1 c AC01 62", lambda it: "2"),
+    ("a text of composed letters that is read whole", "taken.txt", "taken 0 2 c E9\\*2710$", lambda it: "2710"),
     ("an entry of another character", "values.txt", "tailoring.entry", lambda it: "C0"),
     ("a list with a number less", "values.txt", "show", lambda it: it.rpartition(" ")[0]),
     ("metadata that is left out", "settings.txt", "merge", lambda it: it.replace(" backward", "")),

@@ -349,16 +349,24 @@ def names(every, row):
 
 
 def taken(every, row):
-    """How many more characters than elements are read at most, once so many elements were asked for."""
+    """How many characters are read once so many elements were asked for: the number for each of them in turn, or how many more
+    than elements at most."""
     tables, numeric, of, asked, wanted = bars(row, 5)
     first, _, last = asked.partition("-")
     counts = range(int(first), int(last or first) + 1)
-    most, word = wanted.split()
+    questions = [f"taken {reads_numbers(numeric)} {count:X} {text('c', characters(of))}" for count in counts]
+    return Case(made_by(every, tables, ""), questions, taken_as_answered(counts, wanted))
+
+
+def taken_as_answered(counts, wanted):
+    """`1 2 2 characters`, a number for each count of elements, or `2 more`, at most so many more than elements."""
+    *some, word = wanted.split()
+    if word == "characters" and len(some) == len(counts):
+        return [f"{int(it):X}" for it in some]
     if word != "more":
         raise ValueError(wanted)
-    questions = [f"taken {reads_numbers(numeric)} {count:X} {text('c', characters(of))}" for count in counts]
-    right = [lambda found, count=count: int(found, 16) <= count + int(most) for count in counts]
-    return Case(made_by(every, tables, ""), questions, right)
+    (most,) = map(int, some)
+    return [lambda found, count=count: int(found, 16) <= count + most for count in counts]
 
 
 def requests(every, row):

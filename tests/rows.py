@@ -39,7 +39,7 @@ FILES = {
     "cldr/tables.txt": (23, cldr_questions.companions),
     "cldr/refused.txt": (10, cldr_questions.refused),
     "matches.txt": (15, row_questions.elements),
-    "taken.txt": (9, row_questions.taken),
+    "taken.txt": (58, row_questions.taken),
     "sinks.txt": (14, row_questions.sinks),
     "names.txt": (32, row_questions.names),
     "requests.txt": (49, row_questions.requests),
