@@ -11,9 +11,8 @@ use Rattle.icu_levels.proofs.Order.{less_number, more_number, same_number}
 use Rattle.keyed_lines.proofs.LineOrderLemmas.{directed_total}
 use Rattle.keyed_lines.proofs.LinePlaceLemmas.{place_total, same_order}
 use Rattle.keyed_lines.proofs.MappedOrderLemmas.{tied_are_equal}
-use Rattle.keyed_lines.specs.KeyBuffers.{place_pair}
+use Rattle.keyed_lines.specs.KeyBuffers.{LineView, place_pair}
 use Rattle.keyed_lines.specs.KeyedOrders.{directed, keyed_order, with_ties}
-use Rattle.keyed_lines.specs.declared.keyed_lines.KeyedLines.{KeyedLines}
 use Rattle.keyed_lines.specs.declared.line_order.Direction.{Direction}
 use Rattle.keyed_lines.specs.declared.line_order.Direction.TheVariants.{Ascending, Descending}
 use Rattle.keyed_lines.specs.declared.line_order.LineOrder.{LineOrder}
@@ -69,7 +68,7 @@ apart_behind Descending f a y apart h g e =
     let high = not_below a.front y.front (cases_lt a.front y.front) g in
     apart (omega (arith, low, high, e))
 
-module _ (k : KeyedLines) where
+module _ (k : LineView) where
   by_fronts : (t : Ties) (x y : LinePlace) → nat_cmp x.front y.front ≡ Greater
       → is_lt (with_ties t (keys_of_places k) (bytes_of_places k) x y) ≡ false
   by_fronts AsTheyCame x y e = rw e refl
@@ -116,7 +115,7 @@ finer : {X : Type 0} (p q : X → Bool) → ((x : X) → p x ≡ true → q x �
 finer p q h [] = refl
 finer p q h (x ∷ xs) = finer_at p (q x) x (filter p xs) (filter q xs) (h x) (finer p q h xs)
 
-pub stable_by_keys : (k : KeyedLines) (o : LineOrder) (xs ys : List LinePlace) → IsStable (front_order o.direction) xs ys
+pub stable_by_keys : (k : LineView) (o : LineOrder) (xs ys : List LinePlace) → IsStable (front_order o.direction) xs ys
     → IsStable (place_order k o) xs ys
 stable_by_keys k o xs ys h z =
     let p = ties (λ x y. is_lt (place_order k o x y)) z in

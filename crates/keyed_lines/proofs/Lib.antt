@@ -5,11 +5,14 @@ pub mod LineOrderLemmas
 pub mod MappedOrderLemmas
 pub mod CutLineLemmas
 pub mod SecondPlaceLemmas
+pub mod FrontTellsLemmas
 pub mod LinePlaceLemmas
 pub mod FrontOrderLemmas
 pub mod RunLemmas
 pub mod SettledLemmas
 pub mod SortedPlaceLemmas
 pub mod SortedLineLemmas
+pub mod ComparedLineLemmas
+pub mod KeyedPlaceLemmas
 pub mod WrittenLineLemmas
 pub mod ChunkLemmas

@@ -6,15 +6,14 @@ use Rattle.std.specs.Cmp.{IsTotalOrder}
 use Rattle.std.specs.Ordering.{nat_cmp, ordering_reverse, ordering_then}
 use Rattle.std.specs.declared.cmp.Ordering.{Ordering}
 use Rattle.std.specs.declared.cmp.Ordering.TheVariants.{Less, Greater}
-use Rattle.icu_keyed_names.proofs.KeyPrefixLemmas.{prefix_tells}
 use Rattle.icu_keyed_names.specs.inner.NameEntries.{prefix_of}
 use Rattle.icu_levels.proofs.Order.{less_number, more_number, same_number}
 use Rattle.icu_levels.specs.ListOrder.{list_order}
 use Rattle.keyed_lines.proofs.LineOrderLemmas.{ordered_total}
+use Rattle.keyed_lines.proofs.FrontTellsLemmas.{front_tells}
 use Rattle.keyed_lines.proofs.SecondPlaceLemmas.{second_tells}
-use Rattle.keyed_lines.specs.KeyBuffers.{place_pair}
+use Rattle.keyed_lines.specs.KeyBuffers.{LineView, place_pair}
 use Rattle.keyed_lines.specs.KeyedOrders.{bytes_of_lines_order, directed, keyed_order, keys_of_lines_order, with_ties}
-use Rattle.keyed_lines.specs.declared.keyed_lines.KeyedLines.{KeyedLines}
 use Rattle.keyed_lines.specs.declared.line_order.Direction.{Direction}
 use Rattle.keyed_lines.specs.declared.line_order.Direction.TheVariants.{Ascending, Descending}
 use Rattle.keyed_lines.specs.declared.line_order.LineOrder.{LineOrder}
@@ -35,15 +34,15 @@ tells x y o less more = by (cases_lt x y) where
   by (inl h) = ap (λ p. ordering_then p o) (less_number x y h) ∙ sym (less h)
   by (inr h) = by_more (cases_lt y x) h
 
-module _ (k : KeyedLines) where
+module _ (k : LineView) where
   same_keys : (x y : LinePlace) → IsLinePlace k x → IsLinePlace k y → keys_of_places k x y ≡ keys_of_lines_order (place_pair k x) (place_pair k y)
   same_keys x y h g =
       let one = (place_pair k x).0 in
       let other = (place_pair k y).0 in
       tells x.front y.front (list_order one other)
-      (λ low. prefix_tells one other h.bytes g.bytes (subst (λ n. n < prefix_of other) h.begins (subst (λ n. x.front < n) g.begins low)))
+      (λ low. front_tells one other h.bytes g.bytes (subst (λ n. n < prefix_of other) h.begins (subst (λ n. x.front < n) g.begins low)))
       (λ high. nat_list_cmp_total.antisymm one other
-      ∙ ap ordering_reverse (prefix_tells other one g.bytes h.bytes (subst (λ n. n < prefix_of one) g.begins (subst (λ n. y.front < n) h.begins high))))
+      ∙ ap ordering_reverse (front_tells other one g.bytes h.bytes (subst (λ n. n < prefix_of one) g.begins (subst (λ n. y.front < n) h.begins high))))
 
   second_keys : (f : ℕ) (x y : LinePlace) → IsSecondPlace k f x → IsSecondPlace k f y → keys_of_places k x y ≡ keys_of_lines_order (place_pair k x) (place_pair k y)
   second_keys f x y h g =

@@ -8,15 +8,15 @@ use Rattle.std.specs.Cmp.{IsStrictWeakOrder}
 use Rattle.std.specs.List.{AllByRecursion}
 use Rattle.std.specs.List.Sorted.{IsPermutation, IsSorted, IsStable, ties}
 use Rattle.std.specs.Ordering.{is_lt}
+use Rattle.icu_beginnings.specs.KeyBeginnings.{AreBytes}
 use borrow.Rule.Slice.PartMut.{put_mid}
 use Rattle.keyed_lines.proofs.FrontOrderLemmas.{apart_behind, front_total, stands_behind}
 use Rattle.keyed_lines.proofs.LineOrderLemmas.{keyed_total}
 use Rattle.keyed_lines.proofs.LinePlaceLemmas.{second_order}
 use Rattle.keyed_lines.proofs.MappedOrderLemmas.{all_still, ascends_mapped, stable_mapped}
 use Rattle.keyed_lines.proofs.RunLemmas.{Follow, Rises, StartsOtherwise, all_append, all_back, all_front, all_weaker, are_alike, rises_across, rises_append, rises_back, rises_sorted, run_and_rest, run_has_some, run_is_some, sorted_rises, starts_otherwise}
-use Rattle.keyed_lines.specs.KeyBuffers.{place_pair, pairs_at}
+use Rattle.keyed_lines.specs.KeyBuffers.{LineView, place_pair, pairs_at}
 use Rattle.keyed_lines.specs.KeyedOrders.{keyed_order}
-use Rattle.keyed_lines.specs.declared.keyed_lines.KeyedLines.{KeyedLines}
 use Rattle.keyed_lines.specs.declared.line_order.Direction.{Direction}
 use Rattle.keyed_lines.specs.declared.line_order.LineOrder.{LineOrder}
 use Rattle.keyed_lines.specs.declared.line_places.LinePlace.{LinePlace}
@@ -29,11 +29,11 @@ front_less d x y = is_lt (front_order d x y)
 abbrev pub key_less : LineOrder → List ℕ × List ℕ → List ℕ × List ℕ → Bool
 key_less o x y = is_lt (keyed_order o x y)
 
-pairs_append : (k : KeyedLines) (xs ys : List LinePlace) → pairs_at k (xs ++ ys) ≡ pairs_at k xs ++ pairs_at k ys
+pairs_append : (k : LineView) (xs ys : List LinePlace) → pairs_at k (xs ++ ys) ≡ pairs_at k xs ++ pairs_at k ys
 pairs_append k [] ys = refl
 pairs_append k (x ∷ xs) ys = ap (λ ps. place_pair k x ∷ ps) (pairs_append k xs ys)
 
-all_pairs : (k : KeyedLines) (P : List ℕ × List ℕ → Type 0) (xs : List LinePlace) → AllByRecursion (λ x. P (place_pair k x)) xs → AllByRecursion P (pairs_at k xs)
+all_pairs : (k : LineView) (P : List ℕ × List ℕ → Type 0) (xs : List LinePlace) → AllByRecursion (λ x. P (place_pair k x)) xs → AllByRecursion P (pairs_at k xs)
 all_pairs k P [] h = tt
 all_pairs k P (x ∷ xs) h = (h.0, all_pairs k P xs h.1)
 
@@ -54,7 +54,7 @@ rest_apart d f (r ∷ rs) (a ∷ bs) alike some otherwise rises =
     let apart : a.front ≢ r.front = λ e. otherwise (e ∙ alike.0) in
     (otherwise, all_weaker (λ y. y.front ≢ r.front) (λ y. y.front ≢ f) (λ y h e. h (e ∙ sym alike.0)) bs (later_apart d r a bs apart behind later))
 
-module _ (k : KeyedLines) (o : LineOrder) where
+module _ (k : LineView) (o : LineOrder) where
   weak_keys : IsStrictWeakOrder (key_less o)
   weak_keys = ranks_by (keyed_total o) (λ (x : List ℕ × List ℕ). x)
 
@@ -205,21 +205,26 @@ module _ (k : KeyedLines) (o : LineOrder) where
     few (p ∷ []) h = (tt, tt)
     few (p ∷ q ∷ ps) h = absurd (omega (arith, h))
 
-  seconds_are : (f : ℕ) (run : List LinePlace) → AllByRecursion (IsPlaceOfRun k f) run → AllByRecursion (IsSecondPlace k f) (map (second_place k) run)
-  seconds_are f [] h = tt
-  seconds_are f (p ∷ ps) h =
-      (record { second = refl; begins = sym h.0.right.begins ∙ h.0.alike; bytes = h.0.right.bytes }, seconds_are f ps h.1)
+  abbrev HasBytes : LinePlace → Type 0
+  HasBytes p = AreBytes (place_pair k p).0
+
+  seconds_are : (f : ℕ) (run : List LinePlace) → AllByRecursion (IsPlaceOfRun k f) run → AllByRecursion HasBytes (map (second_place k) run)
+      → AllByRecursion (IsSecondPlace k f) (map (second_place k) run)
+  seconds_are f [] h g = tt
+  seconds_are f (p ∷ ps) h g =
+      (record { second = refl; begins = sym h.0.right.begins ∙ h.0.alike; bytes = g.0 }, seconds_are f ps h.1 g.1)
 
   same_pairs : (run : List LinePlace) → pairs_at k (map (second_place k) run) ≡ pairs_at k run
   same_pairs [] = refl
   same_pairs (p ∷ ps) = ap (λ qs. place_pair k p ∷ qs) (same_pairs ps)
 
   pub sorted_run : (f : ℕ) (run seconds ys : List LinePlace) → AllByRecursion (IsPlaceOfRun k f) run → seconds ≡ map (second_place k) run
-      → IsPermutation seconds ys → IsSorted (place_order k o) ys → IsStable (place_order k o) seconds ys → Settles k o run ys
-  sorted_run f run seconds ys right e moved sorted stable =
+      → AllByRecursion (λ p. AreBytes (place_pair k p).0) seconds → IsPermutation seconds ys → IsSorted (place_order k o) ys → IsStable (place_order k o) seconds ys → Settles k o run ys
+  sorted_run f run seconds ys right e bytes moved sorted stable =
       let pairs : pairs_at k seconds ≡ pairs_at k run = ap (pairs_at k) e ∙ same_pairs run in
       let are : AllByRecursion (IsSecondPlace k f) seconds =
-      subst (λ (ps : List LinePlace). AllByRecursion (IsSecondPlace k f) ps) (sym e) (seconds_are f run right) in
+      subst (λ (ps : List LinePlace). AllByRecursion (IsSecondPlace k f) ps) (sym e)
+      (seconds_are f run right (subst (λ (ps : List LinePlace). AllByRecursion HasBytes ps) e bytes)) in
       let still = all_still (IsSecondPlace k f) seconds ys moved are in
       record {
         moved = subst (λ (ps : List (List ℕ × List ℕ)). IsPermutation ps (pairs_at k ys)) pairs (IsPermutation-map (place_pair k) seconds ys moved);

@@ -3,8 +3,7 @@ use Rattle.std.proofs.Common.{◌≡◌, ℕ, Bool, true, false, List, [], ◌�
 use Rattle.keyed_lines.specs.FirstLines.{firsts, firsts_behind, have_one_key, unrepeated}
 use Rattle.keyed_lines.specs.InputLines.{ended_lines}
 use Rattle.std.proofs.lemmas.List.{at_drop_more, take_all}
-use Rattle.keyed_lines.specs.KeyBuffers.{line_bytes, place_pair, pairs_at}
-use Rattle.keyed_lines.specs.declared.keyed_lines.KeyedLines.{KeyedLines}
+use Rattle.keyed_lines.specs.KeyBuffers.{LineView, line_bytes, place_pair, pairs_at}
 use Rattle.keyed_lines.specs.declared.line_places.LinePlace.{LinePlace}
 
 -- the next of those behind another, unless both have one key
@@ -18,7 +17,7 @@ next_first separator before x xs = by (have_one_key before x) where
   by false = refl
 
 -- the first, and then those behind it
-pub first_then : (separator : ℕ) (k : KeyedLines) (places : List LinePlace) (d : LinePlace) → 0 < length places
+pub first_then : (separator : ℕ) (k : LineView) (places : List LinePlace) (d : LinePlace) → 0 < length places
     → ended_lines separator (map line_bytes (firsts have_one_key (pairs_at k places)))
     ≡ (line_bytes (place_pair k (get_or places 0 d)) ++ separator ∷ [])
     ++ ended_lines separator (map line_bytes (firsts_behind have_one_key (place_pair k (get_or places 0 d)) (pairs_at k (take (length places - 1) (drop 1 places)))))
@@ -28,7 +27,7 @@ first_then separator k (p ∷ ps) d some =
     ++ ended_lines separator (map line_bytes (firsts_behind have_one_key (place_pair k p) (pairs_at k qs))))
     (sym (take_all (length (p ∷ ps) - 1) ps (omega arith)))
 
-module _ (separator : ℕ) (k : KeyedLines) where
+module _ (separator : ℕ) (k : LineView) where
   -- the text of lines, one behind another
   abbrev pub each_text : List LinePlace → List ℕ
   each_text places = ended_lines separator (map line_bytes (pairs_at k places))

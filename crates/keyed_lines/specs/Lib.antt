@@ -5,6 +5,7 @@ pub mod KeyParts
 pub mod ShownLines
 pub mod KeyBuffers
 pub mod KeyedOrders
+pub mod LineFronts
 pub mod SortedTexts
 pub mod OrderedTexts
 pub mod inner

@@ -3,7 +3,7 @@ use Rattle.std.specs.Prelude.{ℕ, List, Option, map, take}
 use Rattle.std.specs.Io.KnownBytes.{Appends}
 use Rattle.keyed_lines.specs.FirstLines.{have_one_key, printed}
 use Rattle.keyed_lines.specs.InputLines.{ended_lines}
-use Rattle.keyed_lines.specs.KeyBuffers.{line_bytes, pairs_at}
+use Rattle.keyed_lines.specs.KeyBuffers.{line_bytes, pairs_at, view_of}
 use Rattle.keyed_lines.specs.declared.keyed_lines.KeyedLines.{KeyedLines}
 use Rattle.keyed_lines.specs.declared.line_places.LinePlace.{LinePlace}
 use Rattle.keyed_lines.specs.declared.sort_request.SortRequest.{SortRequest}
@@ -15,7 +15,7 @@ WritesBeginning old new text = (n : ℕ) × Appends old new (take n text)
 
 -- the text of the lines at these places, those that a request asks for, each with a separator
 abbrev pub ordered_text_at : KeyedLines → List LinePlace → SortRequest → List ℕ
-ordered_text_at k places r = ended_lines r.separator (map line_bytes (printed r.repeats have_one_key (pairs_at k places)))
+ordered_text_at k places r = ended_lines r.separator (map line_bytes (printed r.repeats have_one_key (pairs_at (view_of k) places)))
 
 -- the text that sorted lines have
 abbrev pub ordered_text : OrderedLines → List ℕ

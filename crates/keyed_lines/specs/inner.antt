@@ -2,3 +2,4 @@
 pub mod Chunks
 pub mod PlaceOrders
 pub mod SettledPlaces
+pub mod KeyedPlaces

@@ -42,6 +42,12 @@ pub fn key_front(key: &[u8]) -> u64
     }
 }
 
+/// Says of a key that it is bytes. Does nothing.
+#[inline(always)]
+pub(crate) fn are_bytes(key: &[u8])
+    ensures { AreBytes key.now }
+{}
+
 /// What stands behind the first eight bytes of a key.
 pub(crate) fn behind_front(key: &[u8]) -> &[u8]
     ensures { result.now ≡ drop 8 key.now }

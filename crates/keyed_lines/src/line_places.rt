@@ -2,6 +2,7 @@
 
 ghost use Rattle.std.specs.Prelude.{◌≡◌, length, OnErr, OnOk};
 ghost use Rattle.std.specs.List.Sorted.{IsPermutation, IsSorted, IsStable};
+ghost use Rattle.keyed_lines.specs.KeyBuffers.{view_of};
 ghost use Rattle.keyed_lines.specs.KeyedOrders.{with_ties};
 ghost use Rattle.keyed_lines.specs.inner.PlaceOrders.{bytes_of_places, front_order, keys_of_places, place_order};
 
@@ -21,8 +22,8 @@ pub(crate) struct LinePlace {
 #[inline(never)]
 fn behind_fronts(keyed: &KeyedLines<'_>, ties: Ties, one: &LinePlace, other: &LinePlace) -> Ordering
     requires { one.now.front ≡ other.now.front }
-    ensures { result ≡ with_ties ties (keys_of_places keyed.now) (bytes_of_places keyed.now)
-        one.now other.now }
+    ensures { let view = view_of keyed.now in
+        result ≡ with_ties ties (keys_of_places view) (bytes_of_places view) one.now other.now }
 {
     let by_keys = keyed.keys.key(one.index).cmp(keyed.keys.key(other.index));
     if by_keys.is_ne() {
@@ -37,8 +38,8 @@ fn behind_fronts(keyed: &KeyedLines<'_>, ties: Ties, one: &LinePlace, other: &Li
 /// The order of two places by their keys, and then by the bytes of their lines where that is asked for.
 #[inline(always)]
 fn tied_order(keyed: &KeyedLines<'_>, ties: Ties, one: &LinePlace, other: &LinePlace) -> Ordering
-    ensures { result ≡ with_ties ties (keys_of_places keyed.now) (bytes_of_places keyed.now)
-        one.now other.now }
+    ensures { let view = view_of keyed.now in
+        result ≡ with_ties ties (keys_of_places view) (bytes_of_places view) one.now other.now }
 {
     if one.front == other.front {
         behind_fronts(keyed, ties, one, other)
@@ -55,7 +56,7 @@ fn compare_places(
     one: &LinePlace,
     other: &LinePlace,
 ) -> Ordering
-    ensures { result ≡ place_order keyed.now order one.now other.now }
+    ensures { result ≡ place_order (view_of keyed.now) order one.now other.now }
 {
     match order.direction {
         Direction::Ascending => tied_order(keyed, order.ties, one, other),
@@ -63,18 +64,8 @@ fn compare_places(
     }
 }
 
-/// The order of the numbers that the keys of two places begin with.
-#[inline(always)]
-fn compare_fronts(direction: Direction, one: &LinePlace, other: &LinePlace) -> Ordering
-    ensures { result ≡ front_order direction one.now other.now }
-{
-    match direction {
-        Direction::Ascending => one.front.cmp(&other.front),
-        Direction::Descending => other.front.cmp(&one.front),
-    }
-}
-
-/// Sorts places by the numbers that their keys begin with alone, stably.
+/// Sorts places by the numbers that their keys begin with alone, stably. By code for each direction: a test of it in
+/// each comparison makes a sort take three times as long, since each place is then moved in two parts and read as one.
 ///
 /// # Errors
 ///
@@ -87,11 +78,18 @@ pub(crate) fn sort_by_fronts(
     ensures sorted { OnOk result (IsSorted (front_order direction) places.new.items) }
     ensures stable { IsStable (front_order direction) places.old.items places.new.items }
 {
-    places.sort_by(
-        |one, other| -> Ordering
-            ensures { result ≡ front_order direction one.now other.now }
-        { compare_fronts(direction, one, other) },
-    )
+    match direction {
+        Direction::Ascending => places.sort_by(
+            |one, other| -> Ordering
+                ensures { result ≡ front_order Direction.Ascending one.now other.now }
+            { one.front.cmp(&other.front) },
+        ),
+        Direction::Descending => places.sort_by(
+            |one, other| -> Ordering
+                ensures { result ≡ front_order Direction.Descending one.now other.now }
+            { other.front.cmp(&one.front) },
+        ),
+    }
 }
 
 /// Sorts places, stably.
@@ -105,14 +103,16 @@ pub(crate) fn sort_places(
     order: LineOrder,
 ) -> Result<(), AllocError>
     ensures permutation { IsPermutation places.old.items places.new.items }
-    ensures sorted { OnOk result (IsSorted (place_order keyed.now order) places.new.items) }
-    ensures stable { IsStable (place_order keyed.now order) places.old.items places.new.items }
+    ensures sorted { OnOk result
+        (IsSorted (place_order (view_of keyed.now) order) places.new.items) }
+    ensures stable { IsStable (place_order (view_of keyed.now) order)
+        places.old.items places.new.items }
     ensures len { length places.new.items ≡ length places.old.items }
     ensures err { OnErr result (places.new.items ≡ places.old.items) }
 {
     places.sort_by(
         |one, other| -> Ordering
-            ensures { result ≡ place_order keyed.entry.now order one.now other.now }
+            ensures { result ≡ place_order (view_of keyed.entry.now) order one.now other.now }
         { compare_places(keyed, order, one, other) },
     )
 }

@@ -3,16 +3,19 @@
 ghost use Rattle.std.specs.Prelude.{◌≡◌, ◌++◌, ℕ, List, IfOk, OnErr, OnOk, map};
 ghost use Rattle.std.specs.Io.KnownBytes.{Appends};
 ghost use Rattle.keyed_lines.specs.KeyBuffers.{keys_in};
+ghost use Rattle.keyed_lines.specs.LineFronts.{HaveFronts};
 ghost use Rattle.keyed_lines.specs.ShownLines.{shown_lines};
 ghost use Rattle.keyed_lines.specs.SortedTexts.{SortsByKey};
 ghost use Rattle.keyed_lines.specs.OrderedTexts.{WritesBeginning, ordered_text};
 
 use crate::chunks::new_chunk;
+use crate::compared_lines::places_by_fronts;
 use crate::keyed_lines::KeyedLines;
+use crate::line_comparer::LineComparer;
 use crate::line_keys::LineKeys;
 use crate::line_places::LinePlace;
 use crate::sort_lines::sorted_places;
-use crate::sort_request::SortRequest;
+use crate::sort_request::{Repeats, SortRequest};
 use crate::written_lines::write_lines;
 use std::alloc::{AllocError, Global};
 use std::io;
@@ -47,6 +50,39 @@ impl<'a> OrderedLines<'a> {
     {
         let keyed = KeyedLines { keys, lines };
         let places = sorted_places(alloc, &keyed, request.order)?;
+        let chunk = new_chunk(alloc)?;
+        Ok(OrderedLines {
+            keyed,
+            places,
+            request,
+            chunk,
+        })
+    }
+
+    /// Sorts lines by the numbers that their keys begin with, and where these are alike by comparisons, as `new` does
+    /// by keys. No line is left out.
+    ///
+    /// # Errors
+    ///
+    /// Fails only where an allocation does.
+    pub fn by_fronts<C: LineComparer>(
+        alloc: Global,
+        comparer: &C,
+        fronts: &[u64],
+        no_keys: &'a LineKeys,
+        lines: &'a [&'a [u8]],
+        request: SortRequest,
+    ) -> Result<OrderedLines<'a>, AllocError>
+        requires all { request.repeats ≡ Repeats.All }
+        requires fronts { HaveFronts (C.key_of comparer.now) (shown_lines lines.now) fronts.now }
+        ensures { IfOk result (λ sorted. SortsByKey (C.key_of comparer.now) request
+            (shown_lines lines.now) (ordered_text sorted)) }
+    {
+        let keyed = KeyedLines {
+            keys: no_keys,
+            lines,
+        };
+        let places = places_by_fronts(alloc, comparer, fronts, &keyed, request.order)?;
         let chunk = new_chunk(alloc)?;
         Ok(OrderedLines {
             keyed,

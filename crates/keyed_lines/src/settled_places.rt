@@ -3,10 +3,12 @@
 ghost use Rattle.std.specs.Prelude.{◌≡◌, ◌≤◌, ℕ, OnOk, length, map};
 ghost use Rattle.std.specs.List.{AllByRecursion};
 ghost use Rattle.std.specs.List.Sorted.{IsSorted};
+ghost use Rattle.icu_beginnings.specs.KeyBeginnings.{AreBytes};
+ghost use Rattle.keyed_lines.specs.KeyBuffers.{place_pair, view_of};
 ghost use Rattle.keyed_lines.specs.inner.PlaceOrders.{IsLinePlace, front_order};
 ghost use Rattle.keyed_lines.specs.inner.SettledPlaces.{IsPlaceOfRun, Settles, first_alike, first_run, second_place};
 
-use crate::key_front::{behind_front, key_front};
+use crate::key_front::{are_bytes, behind_front, key_front};
 use crate::keyed_lines::KeyedLines;
 use crate::line_order::LineOrder;
 use crate::line_places::{LinePlace, sort_places};
@@ -27,7 +29,7 @@ fn count_alike(places: &[LinePlace], front: u64) -> usize
 
 /// How many places from the first on begin as it does.
 #[tactic(auto, using(crate::proofs::RunLemmas::front_at))]
-fn run_length(places: &[LinePlace]) -> usize
+pub(crate) fn run_length(places: &[LinePlace]) -> usize
     ensures count { result ≡ first_run places.now }
     ensures bound { result ≤ length places.now }
 {
@@ -39,10 +41,13 @@ fn run_length(places: &[LinePlace]) -> usize
 
 /// The place of a line with the number of the second eight bytes of its key.
 fn second_place(keyed: &KeyedLines<'_>, place: &LinePlace) -> LinePlace
-    ensures { result ≡ second_place keyed.now place.now }
+    ensures place { result ≡ second_place (view_of keyed.now) place.now }
+    ensures bytes { AreBytes (place_pair (view_of keyed.now) place.now).0 }
 {
+    let key = keyed.keys.key(place.index);
+    are_bytes(key);
     LinePlace {
-        front: key_front(behind_front(keyed.keys.key(place.index))),
+        front: key_front(behind_front(key)),
         index: place.index,
     }
 }
@@ -53,7 +58,10 @@ fn fill_seconds(
     places: &[LinePlace],
     seconds: &mut Vec<LinePlace>,
 ) -> Result<(), AllocError>
-    ensures { OnOk result (seconds.new.items ≡ map (second_place keyed.now) places.now) }
+    ensures seconds { OnOk result
+        (seconds.new.items ≡ map (second_place (view_of keyed.now)) places.now) }
+    ensures bytes { OnOk result (AllByRecursion
+        (λ p. AreBytes (place_pair (view_of keyed.now) p).0) seconds.new.items) }
 {
     seconds.clear();
     for place in places {
@@ -70,8 +78,8 @@ fn settle_run(
     run: &mut [LinePlace],
     seconds: &mut Vec<LinePlace>,
 ) -> Result<(), AllocError>
-    requires { (f : ℕ) × AllByRecursion (IsPlaceOfRun keyed.now f) run.old }
-    ensures settles { OnOk result (Settles keyed.now order run.old run.new) }
+    requires { (f : ℕ) × AllByRecursion (IsPlaceOfRun (view_of keyed.now) f) run.old }
+    ensures settles { OnOk result (Settles (view_of keyed.now) order run.old run.new) }
     ensures len { length run.new ≡ length run.old }
 {
     if run.len() < 2 {
@@ -84,10 +92,10 @@ fn settle_run(
 }
 
 /// So many places are looked at before they are settled.
-const AHEAD: usize = 128;
+pub(crate) const AHEAD: usize = 128;
 
 /// Whether the place at an index begins as a neighbour does.
-fn is_tied(places: &[LinePlace], index: usize) -> bool {
+pub(crate) fn is_tied(places: &[LinePlace], index: usize) -> bool {
     let before = index.checked_sub(1).and_then(|k| places.get(k));
     let Some(place) = places.get(index) else {
         return false;
@@ -140,9 +148,9 @@ pub(crate) fn settle_places(
     order: LineOrder,
     places: &mut [LinePlace],
 ) -> Result<(), AllocError>
-    requires right { AllByRecursion (IsLinePlace keyed.now) places.old }
+    requires right { AllByRecursion (IsLinePlace (view_of keyed.now)) places.old }
     requires fronts { IsSorted (front_order order.direction) places.old }
-    ensures settles { OnOk result (Settles keyed.now order places.old places.new) }
+    ensures settles { OnOk result (Settles (view_of keyed.now) order places.old places.new) }
     ensures len { length places.new ≡ length places.old }
 {
     let mut seconds = Vec::new(alloc);

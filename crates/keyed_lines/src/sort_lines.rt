@@ -3,7 +3,7 @@
 ghost use Rattle.std.specs.Prelude.{◌≡◌, IfOk, take};
 ghost use Rattle.std.specs.List.{AllByRecursion};
 ghost use Rattle.std.specs.List.Sorted.{IsPermutation, IsSorted, IsStable};
-ghost use Rattle.keyed_lines.specs.KeyBuffers.{keyed_pairs, pairs_at};
+ghost use Rattle.keyed_lines.specs.KeyBuffers.{keyed_pairs, pairs_at, view_of};
 ghost use Rattle.keyed_lines.specs.KeyedOrders.{keyed_order};
 ghost use Rattle.keyed_lines.specs.inner.PlaceOrders.{IsLinePlace};
 
@@ -16,8 +16,10 @@ use std::alloc::{AllocError, Global};
 
 /// The places of lines with keys, one behind another.
 fn places_of(alloc: Global, keyed: &KeyedLines<'_>) -> Result<Vec<LinePlace>, AllocError>
-    ensures all { IfOk result (λ places. pairs_at keyed.now places.items ≡ keyed_pairs keyed.now) }
-    ensures right { IfOk result (λ places. AllByRecursion (IsLinePlace keyed.now) places.items) }
+    ensures all { IfOk result (λ places.
+        pairs_at (view_of keyed.now) places.items ≡ keyed_pairs keyed.now) }
+    ensures right { IfOk result (λ places.
+        AllByRecursion (IsLinePlace (view_of keyed.now)) places.items) }
 {
     let mut places = Vec::with_capacity(alloc, keyed.lines.len())?;
     for index in 0..keyed.count() {
@@ -41,11 +43,12 @@ pub(crate) fn sorted_places(
     order: LineOrder,
 ) -> Result<Vec<LinePlace>, AllocError>
     ensures permutation { IfOk result (λ places.
-        IsPermutation (keyed_pairs keyed.now) (pairs_at keyed.now places.items)) }
+        IsPermutation (keyed_pairs keyed.now) (pairs_at (view_of keyed.now) places.items)) }
     ensures sorted { IfOk result (λ places.
-        IsSorted (keyed_order order) (pairs_at keyed.now places.items)) }
+        IsSorted (keyed_order order) (pairs_at (view_of keyed.now) places.items)) }
     ensures stable { IfOk result (λ places.
-        IsStable (keyed_order order) (keyed_pairs keyed.now) (pairs_at keyed.now places.items)) }
+        IsStable (keyed_order order) (keyed_pairs keyed.now)
+        (pairs_at (view_of keyed.now) places.items)) }
 {
     let mut places = places_of(alloc, keyed)?;
     sort_by_fronts(&mut places, order.direction)?;

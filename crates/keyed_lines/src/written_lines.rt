@@ -4,7 +4,7 @@ ghost use Rattle.std.specs.Prelude.{◌≡◌, ◌++◌, ◌∷◌, [], IfOk, On
 ghost use Rattle.std.specs.Io.KnownBytes.{Appends};
 ghost use Rattle.keyed_lines.specs.FirstLines.{firsts, firsts_behind, have_one_key, unrepeated};
 ghost use Rattle.keyed_lines.specs.InputLines.{ended_lines};
-ghost use Rattle.keyed_lines.specs.KeyBuffers.{line_bytes, place_pair, pairs_at};
+ghost use Rattle.keyed_lines.specs.KeyBuffers.{line_bytes, place_pair, pairs_at, view_of};
 ghost use Rattle.keyed_lines.specs.OrderedTexts.{WritesBeginning, ordered_text_at};
 ghost use Rattle.keyed_lines.specs.inner.Chunks.{Proceeds};
 
@@ -98,7 +98,7 @@ fn write_each<W: Write>(
     output: &mut W,
 ) -> Result<()>
     ensures { Proceeds result (W.contents output.old) (chunk.old.items
-        ++ ended_lines separator (map line_bytes (pairs_at keyed.now places.now)))
+        ++ ended_lines separator (map line_bytes (pairs_at (view_of keyed.now) places.now)))
         (W.contents output.new) chunk.new.items }
 {
     let mut count: usize = 0;
@@ -120,7 +120,8 @@ fn write_other<W: Write>(
     output: &mut W,
 ) -> Result<()>
     ensures { Proceeds result (W.contents output.old) (chunk.old.items
-        ++ unrepeated separator (place_pair keyed.now before) (place_pair keyed.now place))
+        ++ unrepeated separator (place_pair (view_of keyed.now) before)
+        (place_pair (view_of keyed.now) place))
         (W.contents output.new) chunk.new.items }
 {
     if keyed.keys.key(before.index) == keyed.keys.key(place.index) {
@@ -140,7 +141,7 @@ fn write_firsts_behind<W: Write>(
 ) -> Result<()>
     ensures { Proceeds result (W.contents output.old) (chunk.old.items
         ++ ended_lines separator (map line_bytes (firsts_behind have_one_key
-        (place_pair keyed.now first) (pairs_at keyed.now places.now))))
+        (place_pair (view_of keyed.now) first) (pairs_at (view_of keyed.now) places.now))))
         (W.contents output.new) chunk.new.items }
 {
     let mut before = first;
@@ -161,7 +162,7 @@ fn write_firsts<W: Write>(
 ) -> Result<()>
     ensures { Proceeds result (W.contents output.old) (chunk.old.items
         ++ ended_lines separator (map line_bytes
-        (firsts have_one_key (pairs_at keyed.now places.now))))
+        (firsts have_one_key (pairs_at (view_of keyed.now) places.now))))
         (W.contents output.new) chunk.new.items }
 {
     let [first, rest @ ..] = places else {

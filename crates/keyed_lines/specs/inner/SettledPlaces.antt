@@ -3,9 +3,8 @@ use Rattle.std.specs.Prelude.{◌≡◌, ℕ, suc, List, [], ◌∷◌, drop, na
 use Rattle.std.specs.List.Sorted.{IsPermutation, IsSorted, IsStable}
 use Rattle.icu_beginnings.specs.KeyBeginnings.{AreBytes}
 use Rattle.icu_keyed_names.specs.inner.NameEntries.{prefix_of}
-use Rattle.keyed_lines.specs.KeyBuffers.{place_pair, pairs_at}
+use Rattle.keyed_lines.specs.KeyBuffers.{LineView, place_pair, pairs_at}
 use Rattle.keyed_lines.specs.KeyedOrders.{keyed_order}
-use Rattle.keyed_lines.specs.declared.keyed_lines.KeyedLines.{KeyedLines}
 use Rattle.keyed_lines.specs.declared.line_order.LineOrder.{LineOrder}
 use Rattle.keyed_lines.specs.declared.line_places.LinePlace.{LinePlace}
 use Rattle.keyed_lines.specs.inner.PlaceOrders.{IsLinePlace}
@@ -25,22 +24,22 @@ abbrev pub first_run : List LinePlace → ℕ
 first_run ps = first_alike (front_of ps) ps
 
 -- the place of a line with the number of the second eight bytes of its key
-abbrev pub second_place : KeyedLines → LinePlace → LinePlace
-second_place k p = record { front = prefix_of (drop 8 (place_pair k p).0); index = p.index }
+abbrev pub second_place : LineView → LinePlace → LinePlace
+second_place v p = record { front = prefix_of (drop 8 (place_pair v p).0); index = p.index }
 
 -- a place whose key begins with a number
-pub record IsPlaceOfRun (k : KeyedLines) (f : ℕ) (p : LinePlace) : Type 0 where
-  pub right : IsLinePlace k p
+pub record IsPlaceOfRun (v : LineView) (f : ℕ) (p : LinePlace) : Type 0 where
+  pub right : IsLinePlace v p
   pub alike : p.front ≡ f
 
 -- a place with the number of the second eight bytes of its key, which begins with another one
-pub record IsSecondPlace (k : KeyedLines) (f : ℕ) (p : LinePlace) : Type 0 where
-  pub second : p.front ≡ prefix_of (drop 8 (place_pair k p).0)
-  pub begins : prefix_of (place_pair k p).0 ≡ f
-  pub bytes : AreBytes (place_pair k p).0
+pub record IsSecondPlace (v : LineView) (f : ℕ) (p : LinePlace) : Type 0 where
+  pub second : p.front ≡ prefix_of (drop 8 (place_pair v p).0)
+  pub begins : prefix_of (place_pair v p).0 ≡ f
+  pub bytes : AreBytes (place_pair v p).0
 
 -- the lines at places, sorted by their keys
-pub record Settles (k : KeyedLines) (o : LineOrder) (places settled : List LinePlace) : Type 0 where
-  pub moved : IsPermutation (pairs_at k places) (pairs_at k settled)
-  pub ascends : IsSorted (keyed_order o) (pairs_at k settled)
-  pub stable : IsStable (keyed_order o) (pairs_at k places) (pairs_at k settled)
+pub record Settles (v : LineView) (o : LineOrder) (places settled : List LinePlace) : Type 0 where
+  pub moved : IsPermutation (pairs_at v places) (pairs_at v settled)
+  pub ascends : IsSorted (keyed_order o) (pairs_at v settled)
+  pub stable : IsStable (keyed_order o) (pairs_at v places) (pairs_at v settled)

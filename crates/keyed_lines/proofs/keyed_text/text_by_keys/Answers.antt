@@ -6,7 +6,7 @@ use Rattle.keyed_lines.proofs.FirstLineLemmas.{printed_as}
 use Rattle.keyed_lines.proofs.SortedLineLemmas.{keyed_still, lines_ascend, lines_moved, lines_stable}
 use Rattle.keyed_lines.specs.FirstLines.{have_one_key, printed}
 use Rattle.keyed_lines.specs.InputLines.{ended_lines}
-use Rattle.keyed_lines.specs.KeyBuffers.{line_bytes, pairs_at}
+use Rattle.keyed_lines.specs.KeyBuffers.{line_bytes, pairs_at, view_of}
 use Rattle.keyed_lines.specs.KeyedOrders.{keyed_order}
 use Rattle.keyed_lines.specs.ShownLines.{shown_lines}
 use Rattle.keyed_lines.specs.declared.keyed_lines.KeyedLines.{KeyedLines}
@@ -18,7 +18,7 @@ returns c = λ key h.
     let lines = shown_lines c.args.lines.now in
     let r = c.args.request in
     let o = r.order in
-    let sorted = pairs_at k c.in_ok-places.places.items in
+    let sorted = pairs_at (view_of k) c.in_ok-places.places.items in
     let moved : IsPermutation (zip (map key lines) lines) sorted =
     subst (λ ks. IsPermutation (zip ks lines) sorted) h c.in_ok-places.ensures.permutation in
     let stable : IsStable (keyed_order o) (zip (map key lines) lines) sorted =
@@ -30,6 +30,6 @@ returns c = λ key h.
       stable = lines_stable key o lines sorted moved stable;
       written =
           c.in_ok-text.ensures
-          ∙ (ap (λ ps. ended_lines r.separator (map line_bytes (printed r.repeats have_one_key (pairs_at k ps)))) c.as_slice.ensures.value
+          ∙ (ap (λ ps. ended_lines r.separator (map line_bytes (printed r.repeats have_one_key (pairs_at (view_of k) ps)))) c.as_slice.ensures.value
           ∙ ap (ended_lines r.separator) (printed_as key r.repeats sorted (keyed_still key o lines sorted moved)));
     }

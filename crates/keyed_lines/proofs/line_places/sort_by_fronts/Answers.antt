@@ -1,5 +1,5 @@
--- The closure keeps the order, which is total.
-use Rattle.std.proofs.Common.{◌≡◌, refl, ◌∙◌, ap}
+-- The closure for each direction keeps the order, which is total.
+use Rattle.std.proofs.Common.{◌∙◌, ap, sym}
 use Rattle.std.specs.Ordering.{is_lt}
 use Rattle.std.proofs.lemmas.Fn.{answers_by}
 use Rattle.std.proofs.lemmas.List.Sorted.{ranks_by}
@@ -8,25 +8,48 @@ use Rattle.keyed_lines.specs.inner.PlaceOrders.{front_order}
 use Rattle.keyed_lines.proofs.FrontOrderLemmas.{front_total}
 use Rattle.keyed_lines.proofs.line_places.sort_by_fronts.Goals as goal
 
-pub returns-clause-sorted : goal.returns-clause-sorted
-returns-clause-sorted c =
+pub returns-in-Ascending-clause-sorted : goal.returns-in-Ascending-clause-sorted
+returns-in-Ascending-clause-sorted c =
     on_ok_weaker c.sort_by.result (λ sorts. sorts (λ one other. is_lt (front_order c.args.direction one other))
     (ranks_by (front_total c.args.direction) (λ place. place))
-    (answers_by _ _ (λ f. f.0.now ≡ c.args.direction)
+    (answers_by _ _ (λ f. Unit {0})
     (λ f a r f' called same. (
-      ap is_lt (called.met.1 ∙ ap (λ d. front_order d a.0.now a.1.0.now) same),
-      ap (λ b. b.now) called.met.0 ∙ same,
+      ap is_lt (called.met ∙ ap (λ d. front_order d a.0.now a.1.0.now) (sym c.in-Ascending.is)),
+      tt,
     ))
-    _ refl))
+    _ tt))
     c.sort_by.ensures.sorted
 
-pub returns-clause-stable : goal.returns-clause-stable
-returns-clause-stable c =
+pub returns-in-Ascending-clause-stable : goal.returns-in-Ascending-clause-stable
+returns-in-Ascending-clause-stable c =
     c.sort_by.ensures.stable (λ one other. is_lt (front_order c.args.direction one other))
     (ranks_by (front_total c.args.direction) (λ place. place))
-    (answers_by _ _ (λ f. f.0.now ≡ c.args.direction)
+    (answers_by _ _ (λ f. Unit {0})
     (λ f a r f' called same. (
-      ap is_lt (called.met.1 ∙ ap (λ d. front_order d a.0.now a.1.0.now) same),
-      ap (λ b. b.now) called.met.0 ∙ same,
+      ap is_lt (called.met ∙ ap (λ d. front_order d a.0.now a.1.0.now) (sym c.in-Ascending.is)),
+      tt,
     ))
-    _ refl)
+    _ tt)
+
+pub returns-in-Descending-clause-sorted : goal.returns-in-Descending-clause-sorted
+returns-in-Descending-clause-sorted c =
+    on_ok_weaker c.sort_by-in-Descending.result (λ sorts. sorts (λ one other. is_lt (front_order c.args.direction one other))
+    (ranks_by (front_total c.args.direction) (λ place. place))
+    (answers_by _ _ (λ f. Unit {0})
+    (λ f a r f' called same. (
+      ap is_lt (called.met ∙ ap (λ d. front_order d a.0.now a.1.0.now) (sym c.in-Descending.is)),
+      tt,
+    ))
+    _ tt))
+    c.sort_by-in-Descending.ensures.sorted
+
+pub returns-in-Descending-clause-stable : goal.returns-in-Descending-clause-stable
+returns-in-Descending-clause-stable c =
+    c.sort_by-in-Descending.ensures.stable (λ one other. is_lt (front_order c.args.direction one other))
+    (ranks_by (front_total c.args.direction) (λ place. place))
+    (answers_by _ _ (λ f. Unit {0})
+    (λ f a r f' called same. (
+      ap is_lt (called.met ∙ ap (λ d. front_order d a.0.now a.1.0.now) (sym c.in-Descending.is)),
+      tt,
+    ))
+    _ tt)

@@ -1,7 +1,13 @@
--- The places so far, and then those of the rest, are all.
+-- The places so far, and then those of the rest, are all; the keys are bytes.
 use Rattle.std.proofs.Common.{◌≡◌, ◌++◌, drop, map}
+use Rattle.std.specs.List.{AllByRecursion}
+use Rattle.icu_beginnings.specs.KeyBeginnings.{AreBytes}
+use Rattle.keyed_lines.specs.KeyBuffers.{place_pair, view_of}
 use Rattle.keyed_lines.specs.inner.SettledPlaces.{second_place}
 use Rattle.keyed_lines.proofs.settled_places.fill_seconds.Given as goal
 
 abbrev pub invariant-loop-place : goal.invariant-loop-place
-invariant-loop-place l = l.seconds.items ++ map (second_place l.keyed) (drop l.place-index l.places) ≡ map (second_place l.keyed) l.places
+invariant-loop-place l = record {
+  seconds : l.seconds.items ++ map (second_place (view_of l.keyed)) (drop l.place-index l.places) ≡ map (second_place (view_of l.keyed)) l.places;
+  bytes : AllByRecursion (λ p. AreBytes (place_pair (view_of l.keyed) p).0) l.seconds.items;
+}

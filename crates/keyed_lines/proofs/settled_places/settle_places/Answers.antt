@@ -4,6 +4,7 @@ use Rattle.std.proofs.Math.Seq.{take_all}
 use Rattle.std.specs.List.{AllByRecursion}
 use borrow.Rule.Slice.PartMut.{put_mid, same_len_mid}
 use Rattle.keyed_lines.proofs.SettledLemmas.{all_settled, nothing_settled, run_in_place, run_is_right}
+use Rattle.keyed_lines.specs.KeyBuffers.{view_of}
 use Rattle.keyed_lines.specs.declared.line_places.LinePlace.{LinePlace}
 use Rattle.keyed_lines.specs.inner.SettledPlaces.{IsPlaceOfRun, Settles, first_run}
 use Rattle.keyed_lines.proofs.settled_places.settle_places.Goals as goal
@@ -12,12 +13,13 @@ pub settling-init : goal.settling-init
 settling-init c = record {
   len = refl;
   bound = omega arith;
-  left = nothing_settled c.args.keyed.now c.args.order c.args.places.now c.requires.right c.requires.fronts;
+  left = nothing_settled (view_of c.args.keyed.now) c.args.order c.args.places.now c.requires.right c.requires.fronts;
 }
 
 pub settle_run-requires : goal.settle_run-requires
 settle_run-requires c =
-    let k = c.args.keyed.now in
+    let keyed = c.args.keyed.now in
+    let k = view_of keyed in
     let n = c.run_length.result in
     let done = c.settling.done in
     let now = c.settling.places in
@@ -29,7 +31,8 @@ settle_run-requires c =
 
 pub settling-preserved : goal.settling-preserved
 settling-preserved c =
-    let k = c.args.keyed.now in
+    let keyed = c.args.keyed.now in
+    let k = view_of keyed in
     let o = c.args.order in
     let places = c.args.places.now in
     let n = c.run_length.result in
@@ -58,5 +61,5 @@ returns-clause-settles c =
     let now = c.settling.places in
     let done = c.settling.done in
     let none : length (drop done now) ≡ 0 = omega (arith, length-drop done now, c.settling-test.false) in
-    subst (λ (ps : List LinePlace). Settles c.args.keyed.now c.args.order c.args.places.now ps) (take_all done now c.settling-test.false)
-    (all_settled c.args.keyed.now c.args.order c.args.places.now (take done now) (drop done now) none c.settling.invariant.left)
+    subst (λ (ps : List LinePlace). Settles (view_of c.args.keyed.now) c.args.order c.args.places.now ps) (take_all done now c.settling-test.false)
+    (all_settled (view_of c.args.keyed.now) c.args.order c.args.places.now (take done now) (drop done now) none c.settling.invariant.left)

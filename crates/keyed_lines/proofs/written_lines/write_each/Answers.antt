@@ -3,20 +3,20 @@ use Rattle.std.proofs.Common.{◌++◌, ◌+◌, ◌∷◌, [], List, ℕ, arith
 use Rattle.std.proofs.lemmas.List.{at_drop_all}
 use Rattle.keyed_lines.proofs.ChunkLemmas.{advances_front, advances_last, advances_more, advances_stops, advances_then, handed_on, stops_front, stops_more}
 use Rattle.keyed_lines.proofs.WrittenLineLemmas.{each_next, each_text}
-use Rattle.keyed_lines.specs.KeyBuffers.{line_bytes, place_pair}
+use Rattle.keyed_lines.specs.KeyBuffers.{line_bytes, place_pair, view_of}
 use Rattle.keyed_lines.specs.declared.line_places.LinePlace.{LinePlace}
 use Rattle.keyed_lines.specs.inner.Chunks.{Advances, StopsAmid}
 use Rattle.keyed_lines.proofs.written_lines.write_each.Goals as goal
 
 pub returns-in_err-look_ahead : goal.returns-in_err-look_ahead
 returns-in_err-look_ahead g c =
-    let left = each_text c.args.separator c.args.keyed.now (drop c.loop-place.place-index c.args.places.now) in
+    let left = each_text c.args.separator (view_of c.args.keyed.now) (drop c.loop-place.place-index c.args.places.now) in
     handed_on _ c.from_residual.result _ _ _ c.look_ahead.new.chunk.items c.from_residual.ensures.1
     (advances_stops _ _ _ _ _ c.loop-place.invariant (stops_more _ _ c.loop-place.chunk.items left c.in_err-look_ahead.ensures))
 
 pub returns-in_err-write_line : goal.returns-in_err-write_line
 returns-in_err-write_line g c =
-    let k = c.args.keyed.now in
+    let k = view_of c.args.keyed.now in
     let s = c.args.separator in
     let places = c.args.places.now in
     let i = c.loop-place.place-index in
@@ -35,7 +35,7 @@ returns-in_err-write_line g c =
 
 pub loop-place-preserved : goal.loop-place-preserved
 loop-place-preserved g c =
-    let k = c.args.keyed.now in
+    let k = view_of c.args.keyed.now in
     let s = c.args.separator in
     let places = c.args.places.now in
     let i = c.loop-place.place-index in
@@ -56,4 +56,4 @@ loop-place-preserved g c =
 
 pub returns : goal.returns
 returns g c =
-    advances_last _ _ _ _ _ (at_drop_all (each_text c.args.separator c.args.keyed.now) c.args.places.now c.loop-place.place-index (omega arith)) c.loop-place.invariant
+    advances_last _ _ _ _ _ (at_drop_all (each_text c.args.separator (view_of c.args.keyed.now)) c.args.places.now c.loop-place.place-index (omega arith)) c.loop-place.invariant

@@ -2,14 +2,14 @@
 use Rattle.std.proofs.Common.{◌++◌, ◌-◌, ◌∷◌, [], List, ℕ, drop, get_or, length, subst, sym, take, arith}
 use Rattle.keyed_lines.proofs.ChunkLemmas.{handed_on, proceeds_twice, stops_front}
 use Rattle.keyed_lines.proofs.WrittenLineLemmas.{behind_text, first_then}
-use Rattle.keyed_lines.specs.KeyBuffers.{line_bytes, place_pair}
+use Rattle.keyed_lines.specs.KeyBuffers.{line_bytes, place_pair, view_of}
 use Rattle.keyed_lines.specs.declared.line_places.LinePlace.{LinePlace}
 use Rattle.keyed_lines.specs.inner.Chunks.{Advances, Proceeds, StopsAmid}
 use Rattle.keyed_lines.proofs.written_lines.write_firsts.Goals as goal
 
 pub returns-in_err-write_line : goal.returns-in_err-write_line
 returns-in_err-write_line g c =
-    let k = c.args.keyed.now in
+    let k = view_of c.args.keyed.now in
     let s = c.args.separator in
     let places = c.args.places.now in
     let none : LinePlace = record { front = 0; index = 0 } in
@@ -25,7 +25,7 @@ returns-in_err-write_line g c =
 
 pub returns : goal.returns
 returns g c =
-    let k = c.args.keyed.now in
+    let k = view_of c.args.keyed.now in
     let s = c.args.separator in
     let places = c.args.places.now in
     let none : LinePlace = record { front = 0; index = 0 } in

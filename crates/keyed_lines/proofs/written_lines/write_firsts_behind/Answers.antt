@@ -4,14 +4,14 @@ use Rattle.std.proofs.lemmas.List.{at_drop_all}
 use Rattle.keyed_lines.proofs.ChunkLemmas.{advances_front, advances_last, advances_stops, advances_then, handed_on, stops_front}
 use Rattle.keyed_lines.proofs.WrittenLineLemmas.{behind_next, behind_text}
 use Rattle.keyed_lines.specs.FirstLines.{unrepeated}
-use Rattle.keyed_lines.specs.KeyBuffers.{place_pair}
+use Rattle.keyed_lines.specs.KeyBuffers.{place_pair, view_of}
 use Rattle.keyed_lines.specs.declared.line_places.LinePlace.{LinePlace}
 use Rattle.keyed_lines.specs.inner.Chunks.{Advances, StopsAmid}
 use Rattle.keyed_lines.proofs.written_lines.write_firsts_behind.Goals as goal
 
 pub returns-in_err-write_other : goal.returns-in_err-write_other
 returns-in_err-write_other g c =
-    let k = c.args.keyed.now in
+    let k = view_of c.args.keyed.now in
     let s = c.args.separator in
     let places = c.args.places.now in
     let i = c.loop-place.place-index in
@@ -29,7 +29,7 @@ returns-in_err-write_other g c =
 
 pub loop-place-preserved : goal.loop-place-preserved
 loop-place-preserved g c =
-    let k = c.args.keyed.now in
+    let k = view_of c.args.keyed.now in
     let s = c.args.separator in
     let places = c.args.places.now in
     let i = c.loop-place.place-index in
@@ -47,7 +47,7 @@ loop-place-preserved g c =
 
 pub returns : goal.returns
 returns g c =
-    let k = c.args.keyed.now in
+    let k = view_of c.args.keyed.now in
     let s = c.args.separator in
     advances_last _ _ _ _ _ (at_drop_all (behind_text s k (place_pair k c.loop-place.before)) c.args.places.now c.loop-place.place-index (omega arith))
     c.loop-place.invariant

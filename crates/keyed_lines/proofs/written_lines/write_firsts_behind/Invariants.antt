@@ -2,13 +2,13 @@
 use Rattle.std.proofs.Common.{◌++◌, drop, map}
 use Rattle.keyed_lines.specs.FirstLines.{firsts_behind, have_one_key}
 use Rattle.keyed_lines.specs.InputLines.{ended_lines}
-use Rattle.keyed_lines.specs.KeyBuffers.{line_bytes, place_pair, pairs_at}
+use Rattle.keyed_lines.specs.KeyBuffers.{line_bytes, place_pair, pairs_at, view_of}
 use Rattle.keyed_lines.specs.inner.Chunks.{Advances}
 use Rattle.keyed_lines.proofs.written_lines.write_firsts_behind.Given as goal
 
 abbrev pub invariant-loop-place : goal.invariant-loop-place
 invariant-loop-place g l =
     Advances (g.W.Write.contents l.initial.output)
-    (l.initial.chunk.items ++ ended_lines l.separator (map line_bytes (firsts_behind have_one_key (place_pair l.keyed l.initial.before) (pairs_at l.keyed l.places))))
+    (l.initial.chunk.items ++ ended_lines l.separator (map line_bytes (firsts_behind have_one_key (place_pair (view_of l.keyed) l.initial.before) (pairs_at (view_of l.keyed) l.places))))
     (g.W.Write.contents l.output)
-    (l.chunk.items ++ ended_lines l.separator (map line_bytes (firsts_behind have_one_key (place_pair l.keyed l.before) (pairs_at l.keyed (drop l.place-index l.places)))))
+    (l.chunk.items ++ ended_lines l.separator (map line_bytes (firsts_behind have_one_key (place_pair (view_of l.keyed) l.before) (pairs_at (view_of l.keyed) (drop l.place-index l.places)))))
