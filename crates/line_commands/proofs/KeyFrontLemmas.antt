@@ -1,24 +1,14 @@
 -- A key of which the first eight bytes were taken.
-use Rattle.std.proofs.Common.{◌≡◌, ℕ, zero, suc, ◌+◌, ◌*◌, ◌≤◌, ◌⊎◌, inl, inr, List, [], ◌∷◌, ◌++◌, length, take, take_all, refl, sym, ap, ◌∙◌, arith, subst, append_assoc}
+use Rattle.std.proofs.Common.{◌≡◌, ℕ, ◌≤◌, ◌⊎◌, inl, inr, List, [], ◌++◌, length, take, take_all, sym, ap, ◌∙◌, arith, subst, append_assoc}
 use Rattle.std.proofs.lemmas.List.{take-append-le}
 use Rattle.std.specs.Prelude.{Err}
 use Rattle.icu_beginnings.specs.KeyBeginnings.{AreBytes}
-use Rattle.icu_keyed_names.specs.inner.NameEntries.{gathered, prefix_of}
+use Rattle.icu_keyed_names.specs.inner.NameEntries.{prefix_of}
 use Rattle.icu_keys.specs.Writes.{WriteFails}
+use Rattle.keyed_lines.proofs.FrontTellsLemmas.{prefix_front}
 use Rattle.line_commands.specs.declared.line_front.Full.{Full}
 use Rattle.line_commands.specs.declared.line_front.KeyFront.{KeyFront}
 use Rattle.line_commands.specs.inner.KeyFronts.{IsFrontOf, front_bytes, front_effects}
-
--- no more than the first eight count
-gathered_front : (n value : ℕ) (xs : List ℕ) → gathered n value (take n xs) ≡ gathered n value xs
-gathered_front zero value xs = refl
-gathered_front (suc n) value [] = refl
-gathered_front (suc n) value (x ∷ xs) = gathered_front n (value * 256 + x) xs
-
--- the first eight bytes make the number
-pub prefix_front : (key : List ℕ) → prefix_of (take 8 key) ≡ prefix_of key
-unfolding prefix_of
-prefix_front key = gathered_front 8 0 key
 
 module _ (number : ℕ) (key : List ℕ) (x y : KeyFront) (none : front_bytes x ≡ []) (is : number ≡ prefix_of (front_bytes y)) (bytes : AreBytes (front_bytes y)) where
   of_taken : take 8 key ≡ front_bytes y → IsFrontOf number key

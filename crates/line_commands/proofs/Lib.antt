@@ -1,9 +1,5 @@
 pub mod EndLemmas
 pub mod LineNameLemmas
 pub mod KeyFrontLemmas
-pub mod FrontCountLemmas
-pub mod FrontTellsLemmas
-pub mod ShortKeyLemmas
-pub mod OrderAlikeLemmas
 pub mod SortedInputLemmas
 pub mod PrintLemmas

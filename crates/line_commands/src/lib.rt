@@ -1,12 +1,14 @@
 //! What is done with the lines of an input by a collator: they are sorted, judged, and shown with their sort keys.
 #![tactic(auto)]
 
+mod collated_lines;
 pub mod disorder;
-mod front_counts;
 pub mod input;
 mod line_front;
 pub mod line_keys_text;
 pub mod printing;
+mod sort_by;
+mod sort_fronts;
 mod sort_keys;
 pub mod sorted_lines;
 

@@ -14,7 +14,7 @@ ghost use Rattle.line_commands.specs.Printed.{Prints, StopsPrinting};
 ghost use Rattle.line_commands.specs.SortedInputs.{SortsInput};
 
 use crate::line_keys_text::keys_text;
-use crate::sort_keys::keys_for_sort;
+use crate::sort_by::SortBy;
 use collate_commands::key_line::key_line;
 use collate_commands::{ProgramError, sign_line, sort_key, write_text};
 use icu_collator::Collator;
@@ -147,7 +147,7 @@ pub fn print_sorted<W: Write>(
     let collator = collator.as_borrowed();
     collator.has_well_formed_tables();
     let lines = lines_by(alloc, input, request.separator)?;
-    let keys = keys_for_sort(alloc, &collator, lines.as_slice())?;
-    let sorted = OrderedLines::new(alloc, &keys, lines.as_slice(), request)?;
+    let by = SortBy::chosen(alloc, &collator, lines.as_slice(), request)?;
+    let sorted = by.ordered_lines(alloc, &collator, lines.as_slice(), request)?;
     print_lines(sorted, output)
 }

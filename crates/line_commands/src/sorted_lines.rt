@@ -1,16 +1,13 @@
 //! Lines, sorted by a collator.
 
-ghost use Rattle.std.specs.Prelude.{◌≡◌, [], ◌∷◌, ◌++◌, IfOk, OnOk, length, map, true};
+ghost use Rattle.std.specs.Prelude.{◌≡◌, ◌++◌, IfOk, OnOk};
 ghost use Rattle.icu_collator.specs.Collators.{collation_borrowed, collation_kept};
-ghost use Rattle.keyed_lines.specs.KeyBuffers.{keys_cut, keys_in};
-ghost use Rattle.keyed_lines.specs.KeyParts.{ascends_to};
-ghost use Rattle.keyed_lines.specs.ShownLines.{shown_lines};
 ghost use Rattle.line_commands.specs.LineOrders.{key_of_line};
 ghost use Rattle.line_commands.specs.SortedInputs.{SortsInput};
 
-use crate::sort_keys::keys_for_sort;
+use crate::sort_by::SortBy;
 use icu_collator::{Collator, CollatorBorrowed};
-use keyed_lines::{SortRequest, lines_by, text_by_keys};
+use keyed_lines::{SortRequest, lines_by};
 use std::alloc::{AllocError, Global};
 
 /// Writes the sort key of a line, in UTF-8 that may be damaged, behind other bytes.
@@ -49,7 +46,7 @@ pub fn sorted_text(
     let collator = collator.as_borrowed();
     collator.has_well_formed_tables();
     let lines = lines_by(alloc, bytes, request.separator)?;
-    let keys = keys_for_sort(alloc, &collator, lines.as_slice())?;
-    let text = text_by_keys(alloc, &keys, lines.as_slice(), request)?;
+    let by = SortBy::chosen(alloc, &collator, lines.as_slice(), request)?;
+    let text = by.ordered_text(alloc, &collator, lines.as_slice(), request)?;
     Ok(text)
 }

@@ -1,6 +1,5 @@
 -- The first eight bytes of sort keys.
-use Rattle.std.specs.Prelude.{◌≡◌, ℕ, List, ◌++◌, length, map, take, IsOk}
-use Rattle.std.specs.List.{AllByRecursion}
+use Rattle.std.specs.Prelude.{◌≡◌, ℕ, List, ◌++◌, length, take, IsOk}
 use Rattle.icu_beginnings.specs.KeyBeginnings.{AreBytes}
 use Rattle.icu_keyed_names.specs.inner.NameEntries.{prefix_of}
 use Rattle.icu_keys.specs.Sinks.{SinkEffects, TakesBeginning}
@@ -24,8 +23,3 @@ front_effects = record {
 pub record IsFrontOf (front : ℕ) (key : List ℕ) : Type 0 where
   pub number : front ≡ prefix_of key
   pub bytes : AreBytes (take 8 key)
-
--- numbers are what the keys of lines begin with
-pub record HaveFronts (key : List ℕ → List ℕ) (lines : List (List ℕ)) (fronts : List ℕ) : Type 0 where
-  pub numbers : fronts ≡ map (λ line. prefix_of (key line)) lines
-  pub bytes : AllByRecursion (λ line. AreBytes (take 8 (key line))) lines

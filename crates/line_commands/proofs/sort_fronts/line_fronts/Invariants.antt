@@ -1,10 +1,10 @@
 -- The lines that were gone through have their numbers.
 use Rattle.std.proofs.Common.{take}
 use Rattle.icu_collator.specs.Collators.{collation_borrowed}
+use Rattle.keyed_lines.specs.LineFronts.{HaveFronts}
 use Rattle.keyed_lines.specs.ShownLines.{shown_lines}
 use Rattle.line_commands.specs.LineOrders.{key_of_line}
-use Rattle.line_commands.specs.inner.KeyFronts.{HaveFronts}
-use Rattle.line_commands.proofs.sort_keys.line_fronts.Given as goal
+use Rattle.line_commands.proofs.sort_fronts.line_fronts.Given as goal
 
 abbrev pub invariant-loop-line : goal.invariant-loop-line
 invariant-loop-line l = record {
