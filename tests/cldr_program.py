@@ -8,6 +8,7 @@ from cldr_locales import FOLDER, check_locales
 from csv_commands import check_csv
 from line_commands import check_lines
 from shell_jobs import check_shell
+from sorted_lists import check_lists
 from sweeps import REQUESTS, TOP, Run, built, faults_of, losses_missed, run, run_on_streams, says_refusals, sweep, wrapped
 from table_commands import check_tables
 
@@ -459,6 +460,7 @@ def check_collate_cldr(report, room, shim):
     report.say("collate-cldr: other options in the manual page are found", missed, len(others))
     check_locales(report, folder, program)
     check_lines(report, folder, program, LETTERS)
+    check_lists(report, folder, program, LETTERS)
     check_csv(report, folder, program, LETTERS)
     check_shell(report, folder, program)
     check_tables(report, folder, program, LETTERS, shim)
