@@ -16,6 +16,7 @@ use crate::line_comparer::LineComparer;
 use crate::line_order::{Direction, LineOrder, Ties};
 use crate::line_places::{LinePlace, sort_by_fronts};
 use crate::settled_places::{AHEAD, is_tied, run_length};
+use crate::written_lines::total_length;
 use std::alloc::{AllocError, Global};
 use std::cmp::Ordering;
 
@@ -97,11 +98,19 @@ fn settle_short_run<C: LineComparer>(
     )
 }
 
-/// So many lines are sorted by comparisons, each with few others. Of more the keys are written, so that no line is read
-/// again and again.
-const SHORT: usize = 4;
+/// So many lines are sorted by comparisons where they are short, which may read each of them several times.
+const FEW: usize = 4;
 
-/// Sorts places of lines whose keys begin alike by the keys, stably.
+/// How long short lines are, together.
+const SHORT: usize = 512;
+
+/// Whether lines are sorted by comparisons: two lines, which are read once then, or few short ones.
+fn are_compared(keyed: &KeyedLines<'_>, run: &[LinePlace]) -> bool {
+    run.len() <= 2 || (run.len() <= FEW && total_length(keyed, run) <= SHORT)
+}
+
+/// Sorts places of lines whose keys begin alike by the keys, stably: by comparisons, or by keys that are written, each
+/// once, so that no long line is read again and again.
 fn settle_run<C: LineComparer>(
     alloc: Global,
     comparer: &C,
@@ -117,7 +126,7 @@ fn settle_run<C: LineComparer>(
     if run.len() < 2 {
         return Ok(());
     }
-    if run.len() <= SHORT {
+    if are_compared(keyed, run) {
         return settle_short_run(alloc, comparer, keyed, order, run);
     }
     settle_by_keys(alloc, comparer, keyed, order, run)

@@ -32,7 +32,7 @@ pub fn push_line(
 const AHEAD: usize = 64;
 
 /// How many bytes lines have together.
-fn total_length(keyed: &KeyedLines<'_>, places: &[LinePlace]) -> usize {
+pub(crate) fn total_length(keyed: &KeyedLines<'_>, places: &[LinePlace]) -> usize {
     let mut length: usize = 0;
     for place in places {
         length = length.wrapping_add(keyed.line(place.index).len());
