@@ -8,7 +8,7 @@ use icu_options::{
 };
 
 /// The settings that options chose; what none chose is left to the tables.
-#[derive(Debug, Clone, Copy)]
+#[derive(Clone, Copy)]
 pub struct Chosen {
     /// Whether digits count by the value of their number.
     pub numeric: Option<CollationNumericOrdering>,

@@ -14,7 +14,7 @@ use icu_options::{CollatorOptions, CollatorPreferences, Strength};
 use std::alloc::Global;
 
 /// Makes collators by Mini's tables.
-#[derive(Debug, Clone, Copy)]
+#[derive(Clone, Copy)]
 pub(crate) struct MiniSource;
 
 impl CollatorSource for MiniSource {

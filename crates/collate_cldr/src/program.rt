@@ -307,7 +307,7 @@ fn neighbours<R: Files + Env + AllocGlobal, I: Read + Drop, W: Write>(
 }
 
 /// Which streams are terminals.
-#[derive(Debug, Clone, Copy)]
+#[derive(Clone, Copy)]
 pub(crate) struct Terminals {
     /// Standard output: matches are shown in colour there, unless words say otherwise.
     pub(crate) output: bool,

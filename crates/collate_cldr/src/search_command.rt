@@ -67,7 +67,7 @@ fn prefix_of(alloc: Global, file: &str, is_named: bool) -> Result<Vec<u8>, Alloc
 }
 
 /// What a search came to.
-#[derive(Debug, Clone, Copy)]
+#[derive(Clone, Copy)]
 struct Found {
     /// Lines were found.
     some: bool,

@@ -19,7 +19,7 @@ pub enum ProgramError {
 }
 
 /// What a program says of its errors: lines, each with its line feed.
-#[derive(Debug, Clone, Copy)]
+#[derive(Clone, Copy)]
 pub struct Wording {
     /// What commands there are, which is said where the words are none of them.
     pub usage: &'static str,

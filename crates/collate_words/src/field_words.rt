@@ -14,7 +14,7 @@ pub(crate) fn ends_of(word: &str) -> Option<FieldEnds> {
 }
 
 /// Which part of a position comes next.
-#[derive(Debug, Clone, Copy, PartialEq, Eq)]
+#[derive(Clone, Copy, PartialEq, Eq)]
 enum Stage {
     /// The number of a field.
     Field,
@@ -25,7 +25,7 @@ enum Stage {
 }
 
 /// A position, `F[.C][bnr]`: as far as it was read.
-#[derive(Debug, Clone, Copy)]
+#[derive(Clone, Copy)]
 struct KeyPosition {
     stage: Stage,
     field: usize,

@@ -47,7 +47,7 @@ pub fn sort_request_of(matches: &ArgMatches<'_>) -> SortRequest {
 }
 
 /// Whether lines are to be checked in place of being sorted.
-#[derive(Debug, Clone, Copy, PartialEq, Eq)]
+#[derive(Clone, Copy, PartialEq, Eq)]
 pub enum CheckWanted {
     /// They are to be sorted.
     No,

@@ -19,7 +19,7 @@ use std::str::SplitWhitespace;
 
 /// What was counted: pairs of neighbours, pairs out of order by comparison, pairs out of order by keys, and lines that
 /// were passed over since a number is no character's, as that of a lone surrogate.
-#[derive(Debug, Clone, Copy, PartialEq, Eq)]
+#[derive(Clone, Copy, PartialEq, Eq)]
 pub struct Counts {
     /// Pairs of neighbours.
     pub pairs: u64,

@@ -4,7 +4,7 @@ ghost use Rattle.std.specs.Prelude.{◌≡◌};
 ghost use Rattle.csv_records.specs.RecordPlaces.{behind_byte, behind_unquoted, ends_line};
 
 /// What stands before a byte of a record.
-#[derive(Debug, Clone, Copy, PartialEq, Eq)]
+#[derive(Clone, Copy, PartialEq, Eq)]
 pub enum RecordPlace {
     /// Nothing of its field.
     FieldStart,

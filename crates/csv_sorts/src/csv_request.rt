@@ -7,7 +7,7 @@ use keyed_lines::{Direction, Repeats};
 use std::alloc::{AllocError, AllocFailed};
 
 /// How records are sorted.
-#[derive(Debug, Clone, Copy)]
+#[derive(Clone, Copy)]
 pub struct CsvRequest<'a> {
     /// The byte between two fields.
     pub delimiter: u8,

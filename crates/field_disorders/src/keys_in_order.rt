@@ -9,7 +9,7 @@ use keyed_lines::{Direction, LineOrder, Repeats, SortRequest, Ties};
 use std::cmp::Ordering;
 
 /// A line, and its key.
-#[derive(Debug, Clone, Copy)]
+#[derive(Clone, Copy)]
 pub(crate) struct LineWithKey<'a> {
     /// The key.
     pub(crate) key: &'a [u8],

@@ -4,7 +4,7 @@ use keyed_lines::Direction;
 use line_fields::{FieldEnds, FieldKey};
 
 /// By what parts of lines are compared.
-#[derive(Debug, Clone, Copy, PartialEq, Eq)]
+#[derive(Clone, Copy, PartialEq, Eq)]
 pub enum FieldOrder {
     /// By a collator.
     AsText,
@@ -13,7 +13,7 @@ pub enum FieldOrder {
 }
 
 /// A part of a line, and how it is compared.
-#[derive(Debug, Clone, Copy, PartialEq, Eq)]
+#[derive(Clone, Copy, PartialEq, Eq)]
 pub struct FieldSort {
     /// Which part.
     pub part: FieldKey,
@@ -24,7 +24,7 @@ pub struct FieldSort {
 }
 
 /// Parts of a line, the one first that decides first.
-#[derive(Debug, Clone, Copy)]
+#[derive(Clone, Copy)]
 pub struct FieldSorts<'f> {
     /// What ends a field.
     pub ends: FieldEnds,

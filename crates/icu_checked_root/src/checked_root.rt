@@ -34,7 +34,7 @@ const LEAST_WITHOUT_OWN: u32 = 0xFE04_0202;
 
 /// The root of checked tables: the mappings of characters that they have without their tailoring, and the weights of
 /// its elements, level by level.
-#[derive(Debug, Drop)]
+#[derive(Drop)]
 pub struct CheckedRoot<'t> {
     tables: &'t CheckedTables,
     keys: Vec<u64>,

@@ -11,7 +11,7 @@ use icu_entries::CollationElement;
 use icu_tailoring::SymbolicWeight;
 
 /// How many weights of a key count.
-#[derive(Clone, Copy, Debug, PartialEq)]
+#[derive(Clone, Copy, PartialEq)]
 pub(crate) enum KeyLevel {
     /// The primary one.
     Primary,
@@ -22,7 +22,7 @@ pub(crate) enum KeyLevel {
 }
 
 /// The keys that have certain weights on the levels before one.
-#[derive(Clone, Copy, Debug, PartialEq)]
+#[derive(Clone, Copy, PartialEq)]
 pub(crate) struct KeyWindow {
     /// The level.
     pub(crate) level: KeyLevel,

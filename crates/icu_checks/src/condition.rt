@@ -6,7 +6,7 @@ use icu_collation_data::reachable_condition::ReachableCondition;
 use icu_entries::DataErrorKind;
 
 /// A condition on one element that is reachable, beside what other tables say.
-#[derive(Debug, Clone, Copy, PartialEq, Eq)]
+#[derive(Clone, Copy, PartialEq, Eq)]
 pub enum ReachableElementCondition {
     /// Its weights have the widths of their fields, as all that are stored have.
     Width,
@@ -27,7 +27,7 @@ pub enum ReachableElementCondition {
 }
 
 /// A condition on two reachable elements.
-#[derive(Debug, Clone, Copy, PartialEq, Eq)]
+#[derive(Clone, Copy, PartialEq, Eq)]
 pub enum PairCondition {
     /// A tertiary weight alone is greater than one beside a secondary weight.
     TertiaryElementWeights,
@@ -42,7 +42,7 @@ pub enum PairCondition {
 }
 
 /// A condition on what reordering makes of whole lead bytes, and on which of them compress.
-#[derive(Debug, Clone, Copy, PartialEq, Eq)]
+#[derive(Clone, Copy, PartialEq, Eq)]
 pub enum LeadCondition {
     /// Reordering keeps the merge separator.
     Separator,
@@ -59,7 +59,7 @@ pub enum LeadCondition {
 }
 
 /// A condition on the tables of a collator.
-#[derive(Debug, Clone, Copy, PartialEq, Eq)]
+#[derive(Clone, Copy, PartialEq, Eq)]
 pub enum Condition {
     /// There are 79 diacritics, or fewer where they are tailored.
     DiacriticCount,

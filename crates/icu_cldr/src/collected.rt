@@ -22,7 +22,7 @@ use std::collections::BTreeMap;
 const FIRST_DIACRITIC: u32 = 0x300;
 
 /// What the lines said so far: the tables' parts.
-#[derive(Debug, Drop)]
+#[derive(Drop)]
 pub(crate) struct Collected {
     pub(crate) alloc: Global,
     pub(crate) builder: DataBuilder,

@@ -6,7 +6,7 @@ use crate::LeadByte;
 
 /// A bit for each lead byte whose weights are written shorter where they follow one another: among them that of
 /// implicit weights, FE.
-#[derive(Debug, Clone, Copy, PartialEq)]
+#[derive(Clone, Copy, PartialEq)]
 pub(crate) struct CompressibleLeads {
     words: [u16; 16],
     ghost implicit: { has_lead words 0xFE ≡ true },

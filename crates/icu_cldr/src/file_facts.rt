@@ -8,7 +8,7 @@ use crate::reserved::ReservedRange;
 use std::alloc::Global;
 
 /// What a file says of itself.
-#[derive(Debug, Drop)]
+#[derive(Drop)]
 pub struct FileFacts {
     /// The version of the Unicode Collation Algorithm, which is one of Unicode: `14.0.0` of `[UCA version = 14.0.0]`.
     /// Of two such lines the last counts.

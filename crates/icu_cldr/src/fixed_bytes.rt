@@ -50,7 +50,7 @@ const FIXED_NAMES: [FixedName; 11] = [
 ];
 
 /// A byte that a line fixes: `[fixed first implicit byte E0]`.
-#[derive(Debug, Clone, Copy, PartialEq, Eq)]
+#[derive(Clone, Copy, PartialEq, Eq)]
 pub struct FixedByte {
     /// Which one.
     pub name: FixedName,

@@ -13,7 +13,7 @@ use std::str::SplitWhitespace;
 const COMMON_WEIGHT: u16 = 0x0500;
 
 /// Where an element's primary weight comes from.
-#[derive(Debug, Clone, Copy, PartialEq, Eq)]
+#[derive(Clone, Copy, PartialEq, Eq)]
 pub enum Primary {
     /// The line has its bytes, at most four: the first is the highest of the 32 bits. Without bytes it is 0.
     Weight(u32),
@@ -23,7 +23,7 @@ pub enum Primary {
 
 /// An element: `[primary, secondary, tertiary]`, or `[U+X, secondary, tertiary]` with the primary weight of the
 /// ideograph X, where the secondary weight or both may be left out, and are common then.
-#[derive(Debug, Clone, Copy, PartialEq, Eq)]
+#[derive(Clone, Copy, PartialEq, Eq)]
 pub struct FractionalElement {
     /// The primary weight.
     pub primary: Primary,

@@ -14,7 +14,7 @@ use std::alloc::Global;
 use std::io::BufRead;
 
 /// Ideographs that stand before all others, in this order. The others stand in the order of the file's line.
-#[derive(Debug, Drop)]
+#[derive(Drop)]
 pub struct IdeographOrder {
     first: Vec<CharRange>,
 }

@@ -23,7 +23,7 @@ const WEIGHTS_PER_LEAD: u32 = 254 * 254;
 pub(crate) const STEP: u32 = 2;
 
 /// Ideographs that follow one another, and the ordinal of the first one's weight among all weights of three bytes.
-#[derive(Debug, Clone, Copy, PartialEq)]
+#[derive(Clone, Copy, PartialEq)]
 pub(crate) struct WeightedRange {
     pub(crate) range: CharRange,
     pub(crate) ordinal: u32,
@@ -31,7 +31,7 @@ pub(crate) struct WeightedRange {
 
 /// The ideographs in the order of their weights. These have three bytes each, and stand just below the implicit
 /// weights, in as many lead bytes as that takes.
-#[derive(Debug, Drop)]
+#[derive(Drop)]
 pub(crate) struct IdeographWeights {
     ranges: Vec<WeightedRange>,
     /// Of each code the number of the first range that has it, from 1 on, or 0.

@@ -8,7 +8,7 @@ use crate::hexadecimal::character;
 use std::alloc::Global;
 
 /// The characters from one to another.
-#[derive(Debug, Clone, Copy, PartialEq, Eq)]
+#[derive(Clone, Copy, PartialEq, Eq)]
 pub struct CharRange {
     /// The first.
     pub first: char,

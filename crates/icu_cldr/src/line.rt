@@ -23,7 +23,7 @@ const HOMELESS: char = '\u{FDD0}';
 const SAMPLE_DIGIT: char = '4';
 
 /// What is said of a lead byte: `[top_byte 60 Grek Copt COMPRESS ]`.
-#[derive(Debug, Clone, Copy, PartialEq, Eq)]
+#[derive(Clone, Copy, PartialEq, Eq)]
 pub struct LeadByte {
     /// The lead byte.
     pub lead: u8,
@@ -32,7 +32,7 @@ pub struct LeadByte {
 }
 
 /// What a line says.
-#[derive(Debug, Drop)]
+#[derive(Drop)]
 pub enum Line {
     /// Nothing that tables need: the line is empty, a comment, or one of those in brackets that only explain others.
     Nothing,

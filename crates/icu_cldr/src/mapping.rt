@@ -13,7 +13,7 @@ use std::str::SplitWhitespace;
 
 /// What a text comes to: `004C | 00B7; [, FB DB, 05]`. The characters behind the bar are mapped to the elements where
 /// those before the bar, if there are any, stand before them.
-#[derive(Debug, Drop)]
+#[derive(Drop)]
 pub struct Mapping {
     /// The characters before, in the order of the text. Mostly there are none; a line may have two.
     pub prefix: Vec<char>,

@@ -11,7 +11,7 @@ use crate::names::behind_name;
 use std::alloc::{AllocError, Global};
 
 /// What a line says of radicals.
-#[derive(Debug, Drop)]
+#[derive(Drop)]
 pub enum RadicalLine {
     /// Nothing: it is another line.
     Other,
@@ -22,7 +22,7 @@ pub enum RadicalLine {
 }
 
 /// The beginning of a range.
-#[derive(Debug, Clone, Copy)]
+#[derive(Clone, Copy)]
 pub(crate) enum Begun {
     /// None is begun.
     Nothing,

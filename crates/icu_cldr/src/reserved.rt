@@ -17,7 +17,7 @@ pub enum ReservedPlace {
 
 /// A range of primary weights that no text has, from its first one to that of the script or the letters behind it.
 /// There is no other room for scripts that a reordering moves around Latin: `FDD0 FF21; [27 02 02, 05, 05]`.
-#[derive(Debug, Clone, Copy, PartialEq, Eq)]
+#[derive(Clone, Copy, PartialEq, Eq)]
 pub struct ReservedRange {
     /// Which one.
     pub place: ReservedPlace,

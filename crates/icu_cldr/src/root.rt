@@ -15,7 +15,7 @@ use std::alloc::Global;
 use std::io::BufRead;
 
 /// The root collation of CLDR, for every locale and type: without a tailoring and without a reordering.
-#[derive(Debug, Drop)]
+#[derive(Drop)]
 pub struct CldrRoot {
     pub(crate) tables: OwnedTables,
     pub(crate) facts: FileFacts,

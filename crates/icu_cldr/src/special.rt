@@ -18,7 +18,7 @@ use std::alloc::Global;
 const BOUNDARY: char = '\u{FDD1}';
 
 /// Where the groups of variable elements end, as far as lines said it.
-#[derive(Debug, Clone, Copy, PartialEq)]
+#[derive(Clone, Copy, PartialEq)]
 pub(crate) struct GroupEnds {
     space: Option<u16>,
     punctuation: Option<u16>,
@@ -27,7 +27,7 @@ pub(crate) struct GroupEnds {
 }
 
 /// What the lines said so far of special primary weights.
-#[derive(Debug, Clone, Copy, PartialEq)]
+#[derive(Clone, Copy, PartialEq)]
 pub(crate) struct Special {
     ends: GroupEnds,
     numeric_lead: Option<u8>,

@@ -39,7 +39,7 @@ pub struct ContextTable<'d> {
 }
 
 /// A context that was looked up.
-#[derive(Debug, Clone, Copy, PartialEq)]
+#[derive(Clone, Copy, PartialEq)]
 pub struct FoundContext<'d> {
     pub(crate) default: u32,
     pub(crate) mappings: &'d [ContextMapping],
@@ -48,7 +48,7 @@ pub struct FoundContext<'d> {
 }
 
 /// A mapping of a context that was looked up: its characters, and their entry.
-#[derive(Debug, Clone, Copy, PartialEq)]
+#[derive(Clone, Copy, PartialEq)]
 pub struct FoundMapping<'d> {
     /// The characters.
     pub chars: &'d [char],

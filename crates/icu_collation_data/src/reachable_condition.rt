@@ -12,7 +12,7 @@ use crate::violation::{Judge, Ranked};
 use icu_entries::{CollationElement, CollationElement32, DataErrorKind, EntryKind};
 
 /// A condition on an entry that is reachable in a root or a tailoring, in the order in which they are reported.
-#[derive(Debug, Clone, Copy, PartialEq, Eq)]
+#[derive(Clone, Copy, PartialEq, Eq)]
 pub enum ReachableCondition {
     /// What the entry refers to is there.
     Indices,
@@ -112,7 +112,7 @@ pub(crate) fn next_offset_element(
 }
 
 /// The judge of a root or a tailoring alone: the first condition that an entry fails.
-#[derive(Debug, Clone, Copy)]
+#[derive(Clone, Copy)]
 pub struct EntryJudge;
 
 impl Judge for EntryJudge {

@@ -16,7 +16,7 @@ use std::cmp::Ordering;
 
 /// What the first character of a text says of the text: whether it may be the rest of others, and its first primary
 /// weight, where that is known and no variable element has it (0 for the empty text).
-#[derive(Debug, Clone, Copy)]
+#[derive(Clone, Copy)]
 pub(crate) struct FirstFacts {
     pub(crate) is_rest: bool,
     pub(crate) primary: Option<u32>,

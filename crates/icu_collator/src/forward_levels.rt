@@ -21,7 +21,7 @@ use icu_weighting::{Handled, SteadySource};
 use std::cmp::Ordering;
 
 /// A level that is compared forward (UTS #10, "Form Sort Keys").
-#[derive(Debug, Clone, Copy)]
+#[derive(Clone, Copy)]
 pub(crate) enum Level<'d> {
     /// Primary weights, reordered.
     Primary(Option<CollationReordering<'d>>),

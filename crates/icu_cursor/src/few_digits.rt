@@ -6,7 +6,7 @@ ghost use Rattle.std.specs.Prelude.{◌≡◌, ◌≤◌, ◌<◌, ◌++◌, ◌
 const ROOM: usize = 254;
 
 /// The values of the digits of a number, the highest first, as many as `len` says. Those past them have no meaning.
-#[derive(Debug, Clone, Copy)]
+#[derive(Clone, Copy)]
 pub(crate) struct FewDigits {
     pub(crate) digits: [u8; 254],
     pub(crate) len: usize,

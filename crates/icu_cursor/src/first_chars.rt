@@ -7,7 +7,7 @@ use icu_decomposed_text::CountedText;
 use icu_encodings::EncodedText;
 
 /// The first characters of a text, as many as are left, or all where there are fewer. Its units are its characters.
-#[derive(Debug, Clone, Copy)]
+#[derive(Clone, Copy)]
 pub struct FirstChars<T> {
     text: T,
     left: usize,

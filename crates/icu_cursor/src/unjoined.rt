@@ -122,7 +122,7 @@ pub(crate) fn begins_none(context: FoundContext<'_>, d: char) -> bool
 }
 
 /// A character that follows one that begins contractions.
-#[derive(Debug, Clone, Copy)]
+#[derive(Clone, Copy)]
 pub(crate) enum Follower {
     /// One before which the text may be cut.
     Boundary,

@@ -10,7 +10,7 @@ use unicode_normalization::Form;
 use unicode_normalization::char::decomposition;
 
 /// A place in a text whose characters are decomposed one by one, and not put in order.
-#[derive(Clone, Copy, Debug)]
+#[derive(Clone, Copy)]
 pub(crate) struct Parts<T> {
     /// The character that was read last and the index of its next part, where it has one.
     begun: Option<(char, usize)>,

@@ -13,7 +13,7 @@ use unicode_normalization::char::canonical_combining_class;
 
 /// A run of marks, of which those of one class after another are read: one pass over the run for each class. A pass
 /// also finds the class of the next one.
-#[derive(Clone, Copy, Debug)]
+#[derive(Clone, Copy)]
 pub(crate) struct ClassPass<T> {
     /// The place where the run begins.
     pub(crate) run: Parts<T>,

@@ -20,7 +20,7 @@ type ClassSlots<T> = SlotPair<
 >;
 
 /// Of each class of a run of marks the place of the next one that is left, where one is.
-#[derive(Clone, Copy, Debug)]
+#[derive(Clone, Copy)]
 pub(crate) struct ClassPlaces<T> {
     slots: ClassSlots<T>,
 }

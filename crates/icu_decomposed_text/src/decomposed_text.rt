@@ -16,7 +16,7 @@ use std::marker::Model;
 /// A character that isn't a mark is decomposed once, and once more where a mark stands before it. Marks that stand in
 /// canonical order are decomposed twice. Marks of any other run are read class by class: in one pass over the run for
 /// each class that occurs in it, and two more at its beginning.
-#[derive(Debug, Drop)]
+#[derive(Drop)]
 pub struct DecomposedText<T: EncodedText> {
     place: OrderedParts<T>,
 }

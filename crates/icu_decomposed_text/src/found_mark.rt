@@ -11,7 +11,7 @@ use icu_encodings::EncodedText;
 use unicode_normalization::char::canonical_combining_class;
 
 /// A mark of a run, with the places where it stands and behind it.
-#[derive(Clone, Copy, Debug)]
+#[derive(Clone, Copy)]
 pub(crate) struct FoundMark<T> {
     pub(crate) mark: char,
     pub(crate) class: usize,

@@ -12,7 +12,6 @@ use std::alloc::AllocError;
 /// A text in canonical decomposition from which marks are taken while it is read. It never allocates: what is left of a
 /// run of marks is in canonical order, so of each combining class those that come first were taken, and a place for
 /// each class tells which.
-#[derive(Debug)]
 pub struct MatchableText<T: CountedText> {
     taking: Taking<T>,
     ghost places: { IsTaking T.EncodedText.text taking },

@@ -15,7 +15,7 @@ use unicode_normalization::char::canonical_combining_class;
 
 /// A place in a decomposed text. Marks that stand in order are read as they stand; those of any other run class by
 /// class.
-#[derive(Clone, Copy, Debug)]
+#[derive(Clone, Copy)]
 pub(crate) struct OrderedParts<T> {
     /// The place in the text, up to which all was read where no run is read.
     pub(crate) parts: Parts<T>,

@@ -17,7 +17,7 @@ const ALL_CLASSES: usize = 256;
 
 /// What is left of a text: of the run of marks that is read by a place for each class, where one is, and then the rest
 /// of the text.
-#[derive(Clone, Copy, Debug)]
+#[derive(Clone, Copy)]
 pub(crate) struct RunText<T> {
     /// The places from which the marks of each class go on.
     pub(crate) places: ClassPlaces<T>,

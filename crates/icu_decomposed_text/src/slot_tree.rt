@@ -26,13 +26,13 @@ pub(crate) trait Slots<P: Copy>: Copy {
 }
 
 /// One slot.
-#[derive(Clone, Copy, Debug)]
+#[derive(Clone, Copy)]
 pub(crate) struct Slot<P> {
     item: P,
 }
 
 /// Two halves, for slots with even numbers and with odd ones.
-#[derive(Clone, Copy, Debug)]
+#[derive(Clone, Copy)]
 pub(crate) struct SlotPair<X> {
     even: X,
     odd: X,

@@ -18,7 +18,7 @@ use icu_encodings::EncodedText;
 use unicode_normalization::char::canonical_combining_class;
 
 /// A place ahead.
-#[derive(Clone, Copy, Debug)]
+#[derive(Clone, Copy)]
 pub(crate) enum Look<T> {
     /// The marks of the run that have classes below this one were passed over.
     Class(usize),
@@ -29,7 +29,7 @@ pub(crate) enum Look<T> {
 }
 
 /// A text that is still to be read, and a place ahead.
-#[derive(Clone, Copy, Debug)]
+#[derive(Clone, Copy)]
 pub(crate) struct Taking<T> {
     pub(crate) text: RunText<T>,
     pub(crate) look: Look<T>,

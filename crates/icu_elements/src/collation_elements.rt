@@ -16,7 +16,7 @@ use icu_entries::CollationElement;
 use std::alloc::AllocError;
 
 /// How far the reading has come.
-#[derive(Debug, Clone, Copy, PartialEq, Eq)]
+#[derive(Clone, Copy, PartialEq, Eq)]
 enum Progress {
     Reading,
     Refused,

@@ -310,7 +310,7 @@ impl<'a> EncodedText for Latin1Text<'a> {
 }
 
 /// The characters of a text in any encoding. A contract sees it as the list of the characters that are left.
-#[derive(Clone, Debug, Drop)]
+#[derive(Clone, Drop)]
 pub struct Characters<T: EncodedText> {
     rest: T,
 }

@@ -61,7 +61,7 @@ fn split_last_char(units: &[u16]) -> Option<(char, &[u16])>
 }
 
 /// The characters of UTF-16, from both ends. A contract sees it as the list of the characters that are left.
-#[derive(Clone, Debug, Drop)]
+#[derive(Clone, Drop)]
 pub struct Utf16Chars<'a> {
     units: &'a [u16],
 }

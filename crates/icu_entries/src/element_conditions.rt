@@ -6,7 +6,7 @@ ghost use Rattle.icu_entries.specs.ElementConditions.{four_bytes, two_bytes, may
 use crate::element::{COMMON_WEIGHT16, CollationElement, MERGE_SEPARATOR_PRIMARY};
 
 /// A condition on one element.
-#[derive(Debug, Clone, Copy, PartialEq, Eq)]
+#[derive(Clone, Copy, PartialEq, Eq)]
 pub enum ElementCondition {
     /// Its weights are well formed.
     Shape,

@@ -15,7 +15,7 @@ pub const IMPLICIT_CE32: u32 = 0xCF;
 const SPECIAL_CE32_LOW_BYTE: u32 = 0xC0;
 
 /// What an entry is, by its low byte. `Reserved` is every low byte that has no meaning in tables.
-#[derive(Debug, Clone, Copy, PartialEq, Eq)]
+#[derive(Clone, Copy, PartialEq, Eq)]
 pub enum EntryKind {
     /// `pppp ss tt`: one element, with two bytes of primary weight.
     Simple,

@@ -17,7 +17,7 @@ pub const QUATERNARY_MASK: u16 = 0xC0;
 /// What a collation element has beside its primary weight: the secondary weight (16 bits), and a lower half
 /// with case (two highest bits), tertiary weight (under 3F3F) and quaternary bits (7 and 6). Calls
 /// return the fields of the lower half without a shift (UTS #10, "Collation Weights, Elements, and Keys").
-#[derive(Debug, Clone, Copy, PartialEq)]
+#[derive(Clone, Copy, PartialEq)]
 pub struct NonPrimary {
     secondary: u16,
     lower: u16,

@@ -14,7 +14,7 @@ use icu_checks::CheckedTables;
 use std::alloc::{AllocError, Global};
 
 /// What is kept of a character.
-#[derive(Debug, Clone, Copy)]
+#[derive(Clone, Copy)]
 pub enum Kept<'f> {
     /// It decomposes to itself, a text may be cut before it, and it gives the elements of its entry wherever it stands:
     /// so it is with ideographs, and with most letters of most scripts.

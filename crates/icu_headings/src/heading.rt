@@ -2,7 +2,7 @@
 
 /// Where a heading starts: with the names that are not Less at the primary level than a text. A text is bytes in UTF-8
 /// that may be damaged: each maximal ill-formed part counts as one U+FFFD (Unicode Standard, "Unicode Encoding Forms").
-#[derive(Debug, Clone, Copy)]
+#[derive(Clone, Copy)]
 pub enum HeadingStart<'l> {
     /// With a label, as "A".
     Label(&'l [u8]),
@@ -11,7 +11,7 @@ pub enum HeadingStart<'l> {
 }
 
 /// What a name stands under.
-#[derive(Debug, Clone, Copy)]
+#[derive(Clone, Copy)]
 pub enum Heading<'h> {
     /// Less than all starts.
     Underflow,

@@ -7,7 +7,7 @@ ghost use Rattle.std.specs.List.{AllByRecursion};
 use icu_encodings::EncodedText;
 
 /// The characters of a text, each of which is one unit.
-#[derive(Clone, Copy, Debug)]
+#[derive(Clone, Copy)]
 pub struct CharsText<'a>(pub &'a [char]);
 
 /// Each character is a scalar value.

@@ -7,7 +7,7 @@ use std::cmp::Ordering;
 
 /// Where a heading starts among keys. A start that is no label is a limit: what comes from there on up to the next
 /// start has no label.
-#[derive(Debug, Drop)]
+#[derive(Drop)]
 pub struct Start {
     /// The least key under the heading.
     pub key: Vec<u8>,
@@ -28,7 +28,7 @@ impl Start {
 
 /// Between which keys the names under a heading stand: those that are not less than the lower bound, and less than the
 /// upper one. Keys are compared byte by byte, and one that begins another is less.
-#[derive(Debug, Clone, Copy)]
+#[derive(Clone, Copy)]
 pub struct KeyBounds<'k> {
     /// The least key under the heading; no bytes where none is less.
     pub lower: &'k [u8],

@@ -1,7 +1,7 @@
 //! A collation, as its file has it.
 
 /// A collation of a file: `<collation>`.
-#[derive(Debug, Drop)]
+#[derive(Drop)]
 pub struct Collation {
     /// Its type, as `phonebook`: the attribute `type`.
     pub collation_type: String,

@@ -14,7 +14,7 @@ use icu_xml::{Event, XmlError, read_document};
 use std::alloc::{AllocError, Global};
 
 /// What a file of CLDR's `collation/` says.
-#[derive(Debug, Drop)]
+#[derive(Drop)]
 pub struct CollationFile {
     /// The type of its locale where none is asked for, as `pinyin`, if the file names one: `<defaultCollation>`.
     pub default_type: Option<String>,

@@ -3,7 +3,7 @@ ghost use Rattle.std.specs.Prelude.{◌≡◌, Some, None, if◌then◌else◌};
 ghost use Rattle.icu_ldml.specs.CollationPlaces.{is_part_of_identity, place_inside, place_outside, holds_text};
 
 /// How far a file is read: in which element, and behind which ones in it.
-#[derive(Debug, Clone, Copy)]
+#[derive(Clone, Copy)]
 pub(crate) enum CollationPlace {
     /// Outside of the root element.
     Outside,

@@ -46,7 +46,7 @@ pub enum LdmlError {
 }
 
 /// A place that is refused, by how many events there are from it on.
-#[derive(Debug, Clone, Copy)]
+#[derive(Clone, Copy)]
 pub(crate) struct RefusedEvent {
     pub(crate) left: usize,
     pub(crate) reason: LdmlReason,

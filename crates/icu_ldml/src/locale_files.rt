@@ -9,7 +9,7 @@ use crate::collation_file::CollationFile;
 use crate::locale_parents::parent_of;
 
 /// The file of a locale.
-#[derive(Debug, Drop)]
+#[derive(Drop)]
 pub struct LocaleFile {
     /// The locale, as CLDR names the file: `zh_Hant`.
     pub locale: String,
@@ -18,7 +18,7 @@ pub struct LocaleFile {
 }
 
 /// A collation, and the file in which it is.
-#[derive(Debug, Clone, Copy)]
+#[derive(Clone, Copy)]
 pub struct FoundCollation<'f> {
     /// The file.
     pub file: &'f LocaleFile,

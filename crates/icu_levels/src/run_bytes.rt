@@ -7,7 +7,7 @@ ghost use Rattle.icu_levels.specs.RunNumbers.{secondary_run_bytes, tertiary_run_
 ///
 /// A run is written as a middle byte for each full `count`, and one last byte: from `low` upward before a lesser
 /// weight or the end, from `high` downward before a greater weight. The numbers are those of ICU's keys.
-#[derive(Clone, Copy, Debug, Drop, PartialEq)]
+#[derive(Clone, Copy, Drop, PartialEq)]
 pub struct RunBytes {
     /// The common weight of the level. The one of the quaternary level is above each primary.
     pub common: u64,

@@ -15,7 +15,7 @@ use crate::tag_settings::{TagSettings, UnknownType, settings_of};
 use std::alloc::{AllocError, Global};
 
 /// A language tag: its subtags.
-#[derive(Debug, Drop)]
+#[derive(Drop)]
 pub struct LanguageTag {
     /// The subtags, in the order of the text.
     pub subtags: Vec<Subtag>,

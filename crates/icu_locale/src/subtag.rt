@@ -1,7 +1,7 @@
 //! The subtags of a language tag.
 
 /// What a subtag says (UTS #35 part 1, "Unicode Language and Locale Identifiers").
-#[derive(Debug, Clone, Copy, PartialEq, Eq)]
+#[derive(Clone, Copy, PartialEq, Eq)]
 pub enum SubtagKind {
     /// A language, such as `de`; `und` where there is none. It stands first.
     Language,
@@ -30,7 +30,7 @@ pub enum SubtagKind {
 }
 
 /// A subtag.
-#[derive(Debug, Drop)]
+#[derive(Drop)]
 pub struct Subtag {
     /// What it says.
     pub kind: SubtagKind,

@@ -13,7 +13,7 @@ use icu_options::{
 use thiserror::Error;
 
 /// What the keywords of a tag set (UTS #35 part 5, "Setting Options").
-#[derive(Debug, Clone, Copy)]
+#[derive(Clone, Copy)]
 pub struct TagSettings {
     /// Strength (`ks`), alternate handling (`ka`), the last variable group (`kv`) and the case level (`kc`).
     pub options: CollatorOptions,

@@ -7,7 +7,7 @@ use icu_locale::LanguageTag;
 use std::alloc::{AllocError, Global};
 
 /// The collation that a language tag names: a locale and a type, as CLDR's files name them.
-#[derive(Debug, Drop)]
+#[derive(Drop)]
 pub struct CollationName {
     /// The locale, by the name of its file: `zh_Hant`, and `root` where the tag is `und`.
     pub locale: String,

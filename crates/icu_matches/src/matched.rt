@@ -15,7 +15,7 @@ use icu_entries::{CollationElement32, EntryKind};
 use std::alloc::{AllocError, Global};
 
 /// What an entry matched: the entry that it came to, and the characters that it consumed after its first.
-#[derive(Debug, Drop)]
+#[derive(Drop)]
 pub struct Matched {
     /// The entry that the match came to, which refers to the lists of the same table.
     pub ce32: CollationElement32,

@@ -22,7 +22,7 @@ use std::alloc::{AllocError, Global};
 
 /// The tables of Mini, a small collation for tests, or of a variant of it. It owns them and returns each in the form in
 /// which a collator takes it. The fields are public, so that a test may damage a table.
-#[derive(Debug, Drop)]
+#[derive(Drop)]
 pub struct Mini {
     /// The root.
     pub root: DataVectors,

@@ -4,7 +4,7 @@ use icu_entries::DataErrorKind;
 use icu_provider::CollationReordering;
 
 /// A reordering of scripts in vectors of its own. The fields are public, so that a test may damage it.
-#[derive(Debug, Drop)]
+#[derive(Drop)]
 pub struct ReorderingData {
     /// The weights from here on stay.
     pub min_high_no_reorder: u32,

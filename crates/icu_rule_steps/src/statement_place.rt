@@ -1,7 +1,7 @@
 //! Where a statement stands.
 
 /// Where a statement of rules stands, as `icu_rules` counts places.
-#[derive(Debug, Clone, Copy, PartialEq, Eq)]
+#[derive(Clone, Copy, PartialEq, Eq)]
 pub struct StatementPlace {
     /// The number of characters before the statement, in its rules.
     pub place: usize,

@@ -25,7 +25,7 @@ use icu_tailoring_numbers::TailoringNumbers;
 use std::alloc::Global;
 
 /// A table of conjoining jamo, and the root to whose lists its entries refer.
-#[derive(Debug, Drop)]
+#[derive(Drop)]
 pub(crate) struct OwnJamo {
     root: OwnedData,
     jamo: OwnedJamo,

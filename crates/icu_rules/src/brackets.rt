@@ -96,7 +96,7 @@ fn read_words(alloc: Global, text: &[char]) -> Result<(Vec<&[char]>, &[char]), A
 }
 
 /// What stands in brackets.
-#[derive(Debug, Drop)]
+#[derive(Drop)]
 pub enum Bracket<'t> {
     /// Words.
     Words(Vec<&'t [char]>),

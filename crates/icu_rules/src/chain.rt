@@ -8,7 +8,7 @@ use crate::statement::Statement;
 use icu_options::Strength;
 
 /// What stands before a statement (UTS #35 part 5, "Collation Tailorings").
-#[derive(Debug, Clone, Copy, PartialEq, Eq)]
+#[derive(Clone, Copy, PartialEq, Eq)]
 pub enum Chain {
     /// Nothing that a relation may follow.
     Outside,

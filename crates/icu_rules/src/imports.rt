@@ -51,7 +51,7 @@ fn error_led_by(error: RulesError, led: usize) -> RulesError {
 }
 
 /// An import: its place, and the place of the import that led to it.
-#[derive(Debug, Clone, Copy)]
+#[derive(Clone, Copy)]
 struct ImportPlace {
     place: usize,
     import: Option<usize>,

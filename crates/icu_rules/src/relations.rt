@@ -18,7 +18,7 @@ use std::alloc::Global;
 use unicode_normalization::char::canonical_combining_class;
 
 /// The sign of a relation.
-#[derive(Debug, Clone, Copy, PartialEq, Eq)]
+#[derive(Clone, Copy, PartialEq, Eq)]
 pub struct Sign {
     /// Its strength.
     pub strength: Strength,

@@ -16,7 +16,7 @@ use icu_options::Strength;
 use std::alloc::Global;
 
 /// What a bracket behind `&` says.
-#[derive(Debug, Clone, Copy)]
+#[derive(Clone, Copy)]
 pub enum Said {
     /// `[before n]`.
     Before(Strength),

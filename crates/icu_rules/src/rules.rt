@@ -2,7 +2,7 @@
 use crate::statement::Statement;
 
 /// A statement and where it stands.
-#[derive(Debug, Drop)]
+#[derive(Drop)]
 pub struct PlacedStatement {
     /// The number of characters of its rules before its first one.
     pub place: usize,
@@ -13,7 +13,7 @@ pub struct PlacedStatement {
 }
 
 /// A list of rules.
-#[derive(Debug, Drop)]
+#[derive(Drop)]
 pub struct Rules {
     /// What they say, in turn.
     pub statements: Vec<PlacedStatement>,

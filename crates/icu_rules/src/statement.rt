@@ -6,7 +6,7 @@ use icu_options::{
 };
 
 /// The characters from one to another.
-#[derive(Debug, Clone, Copy, PartialEq, Eq)]
+#[derive(Clone, Copy, PartialEq, Eq)]
 pub struct CharacterRange {
     /// The first.
     pub first: char,
@@ -16,7 +16,7 @@ pub struct CharacterRange {
 
 /// A position that is named by what stands there in the root, as in `&[last regular]` (UTS #35 part 5, "Collation
 /// Tailorings").
-#[derive(Debug, Clone, Copy, PartialEq, Eq)]
+#[derive(Clone, Copy, PartialEq, Eq)]
 pub enum LogicalPosition {
     /// `[first tertiary ignorable]`.
     FirstTertiaryIgnorable,
@@ -49,7 +49,7 @@ pub enum LogicalPosition {
 }
 
 /// What a reset goes to.
-#[derive(Debug, Drop)]
+#[derive(Drop)]
 pub enum Anchor {
     /// A string of at least one character.
     String(Vec<char>),
@@ -59,7 +59,7 @@ pub enum Anchor {
 
 /// `& [before n] anchor`: the relations that follow tailor strings after the anchor, or before it (UTS #35 part 5,
 /// "Collation Tailorings").
-#[derive(Debug, Drop)]
+#[derive(Drop)]
 pub struct Reset {
     /// The level of `[before n]`, where there is one: the primary, the secondary or the tertiary one.
     pub before: Option<Strength>,
@@ -69,7 +69,7 @@ pub struct Reset {
 
 /// `< prefix | string / extension`: the string differs from the one before it by so much (UTS #35 part 5, "Collation
 /// Tailorings" and "Context Before").
-#[derive(Debug, Drop)]
+#[derive(Drop)]
 pub struct Relation {
     /// The level of the first difference: `<`, `<<` or `;`, `<<<` or `,`, `<<<<`. `Identical`, for `=`, is none.
     pub strength: Strength,
@@ -83,7 +83,7 @@ pub struct Relation {
 
 /// `<* a-d x`: a relation of this strength for each character of the ranges, in turn (UTS #35 part 5, "Collation
 /// Tailorings"). No character of them decomposes or is a combining mark.
-#[derive(Debug, Drop)]
+#[derive(Drop)]
 pub struct StarredRelation {
     /// The strength of each relation.
     pub strength: Strength,
@@ -92,7 +92,7 @@ pub struct StarredRelation {
 }
 
 /// A setting in brackets (UTS #35 part 5, "Setting Options").
-#[derive(Debug, Drop)]
+#[derive(Drop)]
 pub enum RuleSetting {
     /// `[strength 1]` to `[strength 4]`, and `[strength I]`.
     Strength(Strength),
@@ -125,7 +125,7 @@ pub enum RuleSetting {
 }
 
 /// What rules say at one place.
-#[derive(Debug, Drop)]
+#[derive(Drop)]
 pub enum Statement {
     /// Where the next relation goes.
     Reset(Reset),

@@ -6,7 +6,7 @@ use icu_provider::CollationSpecialPrimaries;
 use std::alloc::{AllocError, Global};
 
 /// A group, and the lead byte that its first weight gets.
-#[derive(Debug, Clone, Copy)]
+#[derive(Clone, Copy)]
 pub(crate) struct PlacedSpan {
     span: ScriptSpan,
     lead: u32,

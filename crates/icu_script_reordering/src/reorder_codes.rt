@@ -10,7 +10,7 @@ use ucd_script::Script;
 use ucd_sets::{Set, by_value};
 
 /// A group of characters that are no letters.
-#[derive(Debug, Clone, Copy, PartialEq, Eq)]
+#[derive(Clone, Copy, PartialEq, Eq)]
 pub enum SpecialGroup {
     /// Spaces: `space`.
     Space,
@@ -25,7 +25,7 @@ pub enum SpecialGroup {
 }
 
 /// What a code of `[reorder ..]` names.
-#[derive(Debug, Clone, Copy, PartialEq, Eq)]
+#[derive(Clone, Copy, PartialEq, Eq)]
 pub enum ReorderCode {
     /// All scripts that no code names: `others`, or `Zzzz`.
     Others,

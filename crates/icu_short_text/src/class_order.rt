@@ -62,7 +62,7 @@ fn push_of_class(text: &mut LongText, mark: char, class: u8, own: u8) -> bool
 }
 
 /// What a pass over a run of marks came to.
-#[derive(Debug, Clone, Copy)]
+#[derive(Clone, Copy)]
 pub(crate) struct PassEnd {
     /// How many marks the run has.
     pub(crate) count: usize,

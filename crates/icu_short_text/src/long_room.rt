@@ -6,7 +6,7 @@ ghost use Rattle.icu_short_text.specs.inner.LongRooms.{long_between};
 use crate::char_room::move_to_front;
 
 /// Room for 1,024 characters.
-#[derive(Debug, Clone, Copy)]
+#[derive(Clone, Copy)]
 pub(crate) struct LongRoom {
     pub(crate) chars: [char; 1024],
 }

@@ -17,7 +17,7 @@ const LONG_ROOM: usize = 1024;
 
 /// A text in canonical decomposition of at most 1,024 characters, which is read from its front. It stands in an array:
 /// those before `next` were read, and those from `end` on have no meaning.
-#[derive(Debug, Clone, Copy)]
+#[derive(Clone, Copy)]
 pub struct LongText {
     pub(crate) room: LongRoom,
     pub(crate) next: usize,

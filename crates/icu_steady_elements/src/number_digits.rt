@@ -8,7 +8,7 @@ const ROOM: usize = 254;
 
 /// The values of the digits of one number, the highest first and without zeros at the front, as many as `len` says.
 /// Those past them have no meaning.
-#[derive(Debug, Clone, Copy)]
+#[derive(Clone, Copy)]
 pub(crate) struct NumberDigits {
     pub(crate) digits: [u8; 254],
     pub(crate) len: usize,

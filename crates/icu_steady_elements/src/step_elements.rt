@@ -30,7 +30,7 @@ pub(crate) struct StepElements<'d> {
 }
 
 /// What came of taking the next step of a text.
-#[derive(Debug, Clone, Copy)]
+#[derive(Clone, Copy)]
 pub(crate) enum StepTaken {
     /// No character was left.
     AtEnd,

@@ -15,7 +15,7 @@ use icu_entries::{CollationElement32, EntryKind};
 use icu_matches::after_prefix;
 
 /// What an entry matched: the entry that it came to, and the characters that it consumed after its first.
-#[derive(Debug, Clone, Copy)]
+#[derive(Clone, Copy)]
 pub struct SteadyMatch<'d> {
     /// The entry that the match came to, which refers to the lists of the same table.
     pub ce32: CollationElement32,

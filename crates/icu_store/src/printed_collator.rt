@@ -16,7 +16,7 @@ use icu_options::{CollatorOptions, CollatorPreferences};
 use std::alloc::Global;
 
 /// A collator, and the fingerprint of its tables and settings.
-#[derive(Debug, Drop)]
+#[derive(Drop)]
 pub struct PrintedCollator {
     pub(crate) collator: Collator,
     pub(crate) print: [u8; 32],

@@ -40,7 +40,7 @@ pub(crate) fn key_of(
 
 /// Names with payloads in a database, in the order of a collator, those that compare equal as they came in. A name is
 /// bytes in UTF-8 that may be damaged. Each call is handed the connection, as the statements of `sqlite` are.
-#[derive(Debug, Drop)]
+#[derive(Drop)]
 pub struct StoredIndex<'c> {
     pub(crate) alloc: Global,
     pub(crate) collator: CollatorBorrowed<'c>,

@@ -11,7 +11,7 @@ ghost use Rattle.icu_stored_names.specs.StoredNames.{IsFirstOf, IsRowOfFingerpri
 use sqlite::{Alter, Error, Row, Transaction, params};
 
 /// What the keys of a database were made by.
-#[derive(Debug, Drop)]
+#[derive(Drop)]
 pub struct KeptFingerprint {
     /// The fingerprint.
     pub fingerprint: Vec<u8>,

@@ -7,7 +7,7 @@ use sqlite::{Error, Row};
 
 /// A name with its payload, and the number that it got when it came in: of names with equal keys the one with the
 /// lesser number came first.
-#[derive(Debug, Drop)]
+#[derive(Drop)]
 pub struct StoredName {
     /// The number.
     pub id: i64,

@@ -17,7 +17,7 @@ pub struct CharacterMapping<E> {
 pub type SymbolicMapping = CharacterMapping<SymbolicElement>;
 
 /// A character that rules touched, with its mappings.
-#[derive(Debug, Clone, Copy)]
+#[derive(Clone, Copy)]
 pub struct TouchedCharacter<'m> {
     /// The character.
     pub character: char,

@@ -61,7 +61,7 @@ struct ReorderingParts<'b> {
 }
 
 /// The limit, the lead bytes and the ranges of a reordering.
-#[derive(Debug, Drop)]
+#[derive(Drop)]
 pub(crate) struct ReorderingLists {
     pub(crate) limit: u32,
     pub(crate) leads: Vec<u8>,

@@ -26,7 +26,7 @@ use std::alloc::Global;
 
 /// The tables of a file, checked together, and what they were made from. It is a `CollationProvider`, which returns
 /// them for every locale and type.
-#[derive(Debug, Drop)]
+#[derive(Drop)]
 pub struct TableFile {
     texts: FileTexts,
     tables: CheckedTables,

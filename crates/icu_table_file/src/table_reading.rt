@@ -32,7 +32,7 @@ struct FileParts<'b> {
 }
 
 /// What the tables of a file were made from.
-#[derive(Debug, Drop)]
+#[derive(Drop)]
 pub(crate) struct FileTexts {
     pub(crate) tag: String,
     pub(crate) cldr: String,
@@ -40,7 +40,7 @@ pub(crate) struct FileTexts {
 }
 
 /// The tables of a file, not checked.
-#[derive(Debug, Drop)]
+#[derive(Drop)]
 pub(crate) struct TableVectors {
     pub(crate) root: DataVectors,
     pub(crate) tailoring: Option<DataVectors>,

@@ -14,7 +14,7 @@ use icu_table_parts::{push_part, with_frame};
 use std::alloc::{AllocError, Global};
 
 /// What tables were made from: texts that a file keeps beside them.
-#[derive(Debug, Clone, Copy)]
+#[derive(Clone, Copy)]
 pub struct Origin<'o> {
     /// The tag of the locale whose collation it is, with keywords that set settings, as `de-u-co-phonebk-ks-level1`;
     /// empty for the root (UTS #35 part 5, "Setting Options").

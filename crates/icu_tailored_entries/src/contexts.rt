@@ -22,7 +22,7 @@ use std::alloc::Global;
 use std::collections::BTreeMap;
 
 /// What the mappings of a character become entries by.
-#[derive(Debug, Clone, Copy)]
+#[derive(Clone, Copy)]
 pub(crate) struct EntrySources<'n> {
     /// The numbers of tailored weights.
     pub numbers: &'n TailoringNumbers,

@@ -30,7 +30,7 @@ use std::alloc::{AllocError, Global};
 use ucd_perl::digit_ranges;
 
 /// A table of conjoining jamo, and the root to whose lists its entries refer.
-#[derive(Debug, Drop)]
+#[derive(Drop)]
 pub struct JamoVectors {
     /// The root.
     pub root: DataVectors,

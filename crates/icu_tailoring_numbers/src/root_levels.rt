@@ -3,7 +3,7 @@ use icu_provider::CollationSpecialPrimaries;
 
 /// The weights of a root by levels, for tailored ones that may not be written as a beginning of one of them, or one of
 /// them as a beginning of theirs (UTS #10, "Large Weight Values").
-#[derive(Debug, Clone, Copy)]
+#[derive(Clone, Copy)]
 pub struct RootLevels<'r> {
     /// Which lead bytes of primary weights are compressible.
     pub special: CollationSpecialPrimaries<'r>,

@@ -7,7 +7,7 @@ use icu_weight_numbers::SiblingRun;
 use std::alloc::{AllocError, Global};
 
 /// A number for each tailored weight.
-#[derive(Debug, Drop)]
+#[derive(Drop)]
 pub struct TailoringNumbers {
     // those of tailored weights, in the order in which these were made
     numbers: Vec<u32>,

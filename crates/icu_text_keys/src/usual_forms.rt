@@ -7,7 +7,7 @@ use icu_levels::forms::{CaseForm, KeyForm, QuaternaryForm, SecondaryForm, Tertia
 
 /// A form that keys mostly have, but for the identical level (UTS #35 part 5, "Setting Options"). Where there are
 /// secondaries, they stand from the front.
-#[derive(Clone, Copy, Debug, PartialEq, Eq)]
+#[derive(Clone, Copy, PartialEq, Eq)]
 pub(crate) enum UsualForm {
     /// Primaries alone.
     Primary,

@@ -29,7 +29,7 @@ impl WrittenForm for KeyForm {
 }
 
 /// Primaries alone, and the identical level where it is asked for.
-#[derive(Clone, Copy, Debug)]
+#[derive(Clone, Copy)]
 pub(crate) struct PrimaryKey {
     pub(crate) identical: bool,
 }
@@ -44,7 +44,7 @@ impl WrittenForm for PrimaryKey {
 }
 
 /// Primaries and secondaries, and the identical level where it is asked for.
-#[derive(Clone, Copy, Debug)]
+#[derive(Clone, Copy)]
 pub(crate) struct SecondaryKey {
     pub(crate) identical: bool,
 }
@@ -59,7 +59,7 @@ impl WrittenForm for SecondaryKey {
 }
 
 /// Three levels, tertiaries without case bits, and the identical level where it is asked for.
-#[derive(Clone, Copy, Debug)]
+#[derive(Clone, Copy)]
 pub(crate) struct TertiaryKey {
     pub(crate) identical: bool,
 }
@@ -74,7 +74,7 @@ impl WrittenForm for TertiaryKey {
 }
 
 /// Three levels, lower case first, and the identical level where it is asked for.
-#[derive(Clone, Copy, Debug)]
+#[derive(Clone, Copy)]
 pub(crate) struct LowerFirstKey {
     pub(crate) identical: bool,
 }
@@ -89,7 +89,7 @@ impl WrittenForm for LowerFirstKey {
 }
 
 /// Three levels, upper case first, and the identical level where it is asked for.
-#[derive(Clone, Copy, Debug)]
+#[derive(Clone, Copy)]
 pub(crate) struct UpperFirstKey {
     pub(crate) identical: bool,
 }
@@ -104,7 +104,7 @@ impl WrittenForm for UpperFirstKey {
 }
 
 /// Four levels, where variable elements may be shifted, and the identical level where it is asked for.
-#[derive(Clone, Copy, Debug)]
+#[derive(Clone, Copy)]
 pub(crate) struct QuaternaryKey {
     pub(crate) identical: bool,
 }
@@ -119,7 +119,7 @@ impl WrittenForm for QuaternaryKey {
 }
 
 /// Four levels, where no element is shifted, and the identical level where it is asked for.
-#[derive(Clone, Copy, Debug)]
+#[derive(Clone, Copy)]
 pub(crate) struct UnshiftedKey {
     pub(crate) identical: bool,
 }
@@ -134,7 +134,7 @@ impl WrittenForm for UnshiftedKey {
 }
 
 /// Three levels and a case level, lower case first, and the identical level where it is asked for.
-#[derive(Clone, Copy, Debug)]
+#[derive(Clone, Copy)]
 pub(crate) struct CaseLevelKey {
     pub(crate) identical: bool,
 }

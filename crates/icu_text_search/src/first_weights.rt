@@ -15,7 +15,7 @@ use icu_indexed_text::CharsText;
 use std::alloc::{AllocError, Global};
 
 /// By which primary weights elements are surely variable, or surely aren't.
-#[derive(Debug, Clone, Copy)]
+#[derive(Clone, Copy)]
 pub(crate) struct KnownVariables {
     /// No element with a primary weight from this one on is variable, if it is known.
     pub(crate) sure: Option<u32>,

@@ -3,7 +3,7 @@
 ghost use Rattle.std.specs.Prelude.{◌≤◌};
 
 /// The bytes that may stand at one place of a weight: from the least to the greatest.
-#[derive(Debug, Clone, Copy, PartialEq)]
+#[derive(Clone, Copy, PartialEq)]
 pub struct ByteRange {
     /// The least of them.
     pub least: u8,
@@ -13,7 +13,7 @@ pub struct ByteRange {
 
 /// Which weights may be put in a gap: how many bytes they have, and what may stand at their second place. At the other
 /// places 02 and all above may stand, since 00 and 01 part the levels of a sort key.
-#[derive(Debug, Clone, Copy, PartialEq)]
+#[derive(Clone, Copy, PartialEq)]
 pub struct WeightForm {
     /// The number of bytes of the shortest weights, 1 at least.
     pub shortest: usize,

@@ -9,7 +9,7 @@ use crate::least_above::least_above;
 use std::alloc::{AllocError, Global};
 
 /// A gap between two weights, and which weights may be put there.
-#[derive(Debug, Clone, Copy, PartialEq)]
+#[derive(Clone, Copy, PartialEq)]
 pub struct WeightGap {
     /// The weight below all that are put there.
     pub low: u32,

@@ -3,7 +3,7 @@ ghost use Rattle.std.specs.Prelude.{◌≡◌};
 ghost use Rattle.icu_weight_numbers.specs.LevelGaps.{greatest_second};
 
 /// A level whose weights have two bytes.
-#[derive(Debug, Clone, Copy, PartialEq, Eq)]
+#[derive(Clone, Copy, PartialEq, Eq)]
 pub enum GapLevel {
     /// That of secondary weights.
     Secondary,

@@ -1,7 +1,7 @@
 //! Weights for gaps.
 
 /// Weights for each of several gaps, or the first gap without room for its weights.
-#[derive(Debug, Drop)]
+#[derive(Drop)]
 pub enum GapNumbers {
     /// For each gap its weights, ascending.
     Filled(Vec<Vec<u32>>),

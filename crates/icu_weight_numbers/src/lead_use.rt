@@ -4,7 +4,7 @@ ghost use Rattle.icu_weight_numbers.specs.LevelGaps.{AreLevelWeights};
 ghost use Rattle.icu_weight_numbers.specs.inner.LeadUses.{use_of, IsUsedBy};
 
 /// What a lead byte of the weights of a level is used for.
-#[derive(Debug, Clone, Copy, PartialEq)]
+#[derive(Clone, Copy, PartialEq)]
 pub(crate) enum LeadUse {
     /// No weight of the root has it. It may be a weight.
     Free,

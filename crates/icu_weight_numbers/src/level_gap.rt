@@ -8,7 +8,7 @@ use crate::lead_use::LeadUse;
 use std::alloc::{AllocError, Global};
 
 /// A gap between two weights of a level other than the primary one, and how many weights it is to have.
-#[derive(Debug, Clone, Copy, PartialEq)]
+#[derive(Clone, Copy, PartialEq)]
 pub struct LevelGap {
     /// A number below all of its weights.
     pub low: u32,

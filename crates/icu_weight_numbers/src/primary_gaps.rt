@@ -8,7 +8,7 @@ use icu_weight_gaps::{WeightGap, weights_between};
 use std::alloc::{AllocError, Global};
 
 /// A gap between two primary weights, and how many weights it is to have.
-#[derive(Debug, Clone, Copy, PartialEq)]
+#[derive(Clone, Copy, PartialEq)]
 pub struct PrimaryGap {
     /// The gap, and how weights in it are written.
     pub gap: WeightGap,

@@ -8,7 +8,7 @@ use icu_tailoring::SymbolicWeight;
 use std::alloc::{AllocError, Global};
 
 /// A weight of the root among siblings, and the tailored ones directly behind it.
-#[derive(Debug, Clone, Copy)]
+#[derive(Clone, Copy)]
 pub struct SiblingRun<'t> {
     /// Whether the elements have no weight of the level before.
     pub alone: bool,

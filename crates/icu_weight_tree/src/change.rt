@@ -3,7 +3,7 @@
 use icu_tailoring::SymbolicWeight;
 
 /// A change of siblings.
-#[derive(Clone, Copy, Debug)]
+#[derive(Clone, Copy)]
 pub(crate) enum Change {
     /// A weight of the root is put in its place.
     PutRooted(u32),

@@ -24,7 +24,7 @@ use std::ops::Bound;
 
 /// Weights below the same ones, ascending, of which none stands twice. Each is linked to the one before it and the one
 /// behind it, so another one is put in without a search, whatever their number.
-#[derive(Debug, Drop)]
+#[derive(Drop)]
 pub(crate) struct LinkedWeights {
     links: LinkMap,
 }

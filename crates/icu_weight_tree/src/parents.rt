@@ -6,7 +6,7 @@ use icu_tailoring::SymbolicWeight;
 
 /// The weights of the levels before a level, of which there are three at most. Those of a level ascend together, the
 /// primary level first.
-#[derive(Clone, Copy, Debug, PartialEq, Eq, PartialOrd, Ord)]
+#[derive(Clone, Copy, PartialEq, Eq, PartialOrd, Ord)]
 pub enum Parents {
     /// None: primary weights stand below it.
     Nothing,

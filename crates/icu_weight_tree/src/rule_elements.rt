@@ -8,7 +8,7 @@ use std::alloc::{AllocError, Global};
 
 /// The elements of the last reset or relation, and the tree of weights. A call that returns an error may leave part of
 /// its work; the value is then only to be dropped.
-#[derive(Debug, Drop)]
+#[derive(Drop)]
 pub struct RuleElements {
     elements: Vec<SymbolicElement>,
     tree: WeightTreeBuilder,

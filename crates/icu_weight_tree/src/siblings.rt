@@ -17,7 +17,7 @@ use icu_tailoring::SymbolicWeight;
 use std::alloc::{AllocError, Global};
 
 /// Weights below the same ones, ascending.
-#[derive(Debug, Drop)]
+#[derive(Drop)]
 pub(crate) enum Siblings {
     /// Few ones, or such as can't be linked: one stands twice, or those of the root don't ascend. Rules make no such
     /// ones.

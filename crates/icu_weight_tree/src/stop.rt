@@ -7,7 +7,7 @@ ghost use Rattle.icu_weight_tree.specs.declared.stop.Stop.TheVariants as stops;
 use icu_tailoring::SymbolicWeight;
 
 /// A place of a linked list: that of a weight, or its end, which is behind the last weight and before the first.
-#[derive(Clone, Copy, Debug, PartialEq, Eq, PartialOrd, Ord)]
+#[derive(Clone, Copy, PartialEq, Eq, PartialOrd, Ord)]
 pub(crate) enum Stop {
     /// Behind the last weight, and before the first.
     End,

@@ -9,7 +9,7 @@ use std::alloc::{AllocError, Global};
 
 /// The order of weights while rules are read: below the weights of the levels before stand weights of the next level,
 /// ascending. A call that returns an error may leave part of its work; the tree is then only to be dropped.
-#[derive(Debug, Drop)]
+#[derive(Drop)]
 pub struct WeightTreeBuilder {
     alloc: Global,
     lists: Lists,

@@ -40,7 +40,7 @@ pub(crate) fn reorder_by(reordering: Option<CollationReordering<'_>>, primary: u
 }
 
 /// Two weights of which the first is written as a beginning of the second.
-#[derive(Debug, Clone, Copy, PartialEq)]
+#[derive(Clone, Copy, PartialEq)]
 pub struct Overlap {
     /// The weight that begins the other.
     pub first: u32,

@@ -12,7 +12,7 @@ use crate::xml_error::{Fault, Reason, refused};
 use std::alloc::Global;
 
 /// A piece of an element's content.
-#[derive(Debug, Drop)]
+#[derive(Drop)]
 pub(crate) enum ContentPiece<'t> {
     /// The start of an element.
     Opening(StartTag<'t>),

@@ -1,7 +1,7 @@
 //! What a document says.
 
 /// An attribute of a tag.
-#[derive(Debug, Drop)]
+#[derive(Drop)]
 pub struct Attribute<'t> {
     /// Its name, as the text has it.
     pub name: &'t str,
@@ -10,7 +10,7 @@ pub struct Attribute<'t> {
 }
 
 /// The start of an element.
-#[derive(Debug, Drop)]
+#[derive(Drop)]
 pub struct StartTag<'t> {
     /// The element's name, as the text has it.
     pub name: &'t str,
@@ -19,7 +19,7 @@ pub struct StartTag<'t> {
 }
 
 /// What a part of a document says.
-#[derive(Debug, Drop)]
+#[derive(Drop)]
 pub enum Event<'t> {
     /// An element starts.
     Start(StartTag<'t>),

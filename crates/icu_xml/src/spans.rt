@@ -4,7 +4,7 @@ ghost use Rattle.icu_xml.specs.SpelledParts.{IsCutBefore, IsCutAround, LacksText
 ghost use Rattle.icu_xml.specs.XmlCharacters.{is_of, is_space, is_name_start, is_name_byte, EachIs};
 
 /// A class of characters of ASCII.
-#[derive(Debug, Clone, Copy)]
+#[derive(Clone, Copy)]
 pub(crate) enum Class {
     /// White space.
     Space,

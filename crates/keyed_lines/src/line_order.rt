@@ -1,7 +1,7 @@
 //! The order of lines with sort keys.
 
 /// Which of two lines comes first.
-#[derive(Debug, Clone, Copy, PartialEq, Eq)]
+#[derive(Clone, Copy, PartialEq, Eq)]
 pub enum Direction {
     /// The lesser one.
     Ascending,
@@ -10,7 +10,7 @@ pub enum Direction {
 }
 
 /// How lines with one key stand.
-#[derive(Debug, Clone, Copy, PartialEq, Eq)]
+#[derive(Clone, Copy, PartialEq, Eq)]
 pub enum Ties {
     /// As they came.
     AsTheyCame,
@@ -19,7 +19,7 @@ pub enum Ties {
 }
 
 /// An order of lines.
-#[derive(Debug, Clone, Copy, PartialEq, Eq)]
+#[derive(Clone, Copy, PartialEq, Eq)]
 pub struct LineOrder {
     /// Which of two lines comes first.
     pub direction: Direction,

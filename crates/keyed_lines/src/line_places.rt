@@ -12,7 +12,7 @@ use std::alloc::AllocError;
 use std::cmp::Ordering;
 
 /// Where a line stands among lines with keys, and the number that its key begins with.
-#[derive(Debug, Clone, Copy)]
+#[derive(Clone, Copy)]
 pub(crate) struct LinePlace {
     pub(crate) front: u64,
     pub(crate) index: usize,

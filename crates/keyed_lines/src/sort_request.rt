@@ -3,7 +3,7 @@
 use crate::line_order::LineOrder;
 
 /// Which lines are printed of those that compare equal.
-#[derive(Debug, Clone, Copy, PartialEq, Eq)]
+#[derive(Clone, Copy, PartialEq, Eq)]
 pub enum Repeats {
     /// Each.
     All,
@@ -12,7 +12,7 @@ pub enum Repeats {
 }
 
 /// How lines are sorted.
-#[derive(Debug, Clone, Copy, PartialEq, Eq)]
+#[derive(Clone, Copy, PartialEq, Eq)]
 pub struct SortRequest {
     /// Their order.
     pub order: LineOrder,

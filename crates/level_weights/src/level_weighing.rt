@@ -7,7 +7,7 @@ use icu_provider::CollationReordering;
 use icu_weighting::VariableWeighting;
 
 /// How a level weighs elements.
-#[derive(Debug, Clone, Copy)]
+#[derive(Clone, Copy)]
 pub struct LevelWeighing<'t> {
     /// Which level.
     pub level: OrderLevel,

@@ -1,7 +1,7 @@
 //! Which part of a line is a key (POSIX, "sort", option -k).
 
 /// What ends a field.
-#[derive(Debug, Clone, Copy, PartialEq, Eq)]
+#[derive(Clone, Copy, PartialEq, Eq)]
 pub enum FieldEnds {
     /// This byte, which belongs to no field: a character of ASCII.
     AtByte(u8),
@@ -10,7 +10,7 @@ pub enum FieldEnds {
 }
 
 /// A place of a line.
-#[derive(Debug, Clone, Copy, PartialEq, Eq)]
+#[derive(Clone, Copy, PartialEq, Eq)]
 pub struct KeyPlace {
     /// So many fields stand before it.
     pub fields: usize,
@@ -21,7 +21,7 @@ pub struct KeyPlace {
 }
 
 /// Where a key ends.
-#[derive(Debug, Clone, Copy, PartialEq, Eq)]
+#[derive(Clone, Copy, PartialEq, Eq)]
 pub enum KeyStop {
     /// Where the line does.
     LineEnd,
@@ -32,7 +32,7 @@ pub enum KeyStop {
 }
 
 /// Which part of a line is a key.
-#[derive(Debug, Clone, Copy, PartialEq, Eq)]
+#[derive(Clone, Copy, PartialEq, Eq)]
 pub struct FieldKey {
     /// Where it begins.
     pub start: KeyPlace,

@@ -3,7 +3,7 @@
 use icu_text_search::Boundary;
 
 /// Which lines are wanted.
-#[derive(Debug, Clone, Copy, PartialEq, Eq)]
+#[derive(Clone, Copy, PartialEq, Eq)]
 pub enum Wanted {
     /// Those that hold a match.
     WithMatch,
@@ -12,7 +12,7 @@ pub enum Wanted {
 }
 
 /// What is printed of a line that is wanted.
-#[derive(Debug, Clone, Copy, PartialEq, Eq)]
+#[derive(Clone, Copy, PartialEq, Eq)]
 pub enum Shown {
     /// The line, as it came.
     Line,
@@ -25,7 +25,7 @@ pub enum Shown {
 }
 
 /// Which lines are asked for, and how they are printed.
-#[derive(Debug, Clone, Copy)]
+#[derive(Clone, Copy)]
 pub struct SearchRequest<'a> {
     /// Which lines are wanted.
     pub wanted: Wanted,

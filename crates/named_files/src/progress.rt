@@ -11,7 +11,7 @@ const LONG: u64 = 16_000_000;
 const MEGABYTE: u64 = 1_000_000;
 
 /// How far a run has come: it is said each second, where that is asked for, on a line that is written anew.
-#[derive(Debug, Clone, Copy)]
+#[derive(Clone, Copy)]
 pub struct RunProgress {
     /// When the run began, where it is to be said.
     start: Option<Instant>,

@@ -15,7 +15,7 @@ use icu_weight_tree::RootWeights;
 use std::alloc::{AllocError, Global};
 
 /// The small root.
-#[derive(Debug, Drop)]
+#[derive(Drop)]
 pub struct LetterRoot;
 
 /// The primary weights, with those that begin groups, which are of no text.

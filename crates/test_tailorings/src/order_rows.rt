@@ -117,7 +117,7 @@ const CONTEXTS: [(&str, &str); 17] = [
 ];
 
 /// How two texts differ.
-#[derive(Debug, Clone, Copy, PartialEq)]
+#[derive(Clone, Copy, PartialEq)]
 enum Difference {
     /// At a level, from 1 on.
     At(usize),
