@@ -8,6 +8,7 @@ import os
 import re
 
 import crates
+import rattle_tests
 
 DRIVER = "test_driver"
 # What says that a call may fail so, in the type that it returns.
@@ -23,8 +24,9 @@ CALL = re.compile(
     r"^impl\b(?P<impl>[^{]*)\{|^(?P<indent> *)pub (?:const )?fn (?P<name>\w+)(?P<head>.*?)(?:\n *(?:requires|ensures)\b|\{\n)",
     re.M | re.S)
 METHOD = re.compile(r"(?:<[^(]*>)?\(\s*(?:&(?:'\w+ )?)?(?:mut )?self\b")
-# How the driver comes to a value of a type that it doesn't name.
-VALUES = {"CollatorBorrowed": "as_borrowed"}
+# How the driver, and the tests in tests/rattle, come to a value of a type that they don't name.
+VALUES = {"CollatorBorrowed": "as_borrowed", "Mappings": "mappings", "OverlappingMatches": "find_overlapping_iter",
+          "WeightTreeBuilder": "tree"}
 # Programs, and crates of tests: what the driver asks about are libraries.
 OTHERS = {"cldr_collators", "collate", "collate_cldr", "collate_commands", "collate_index", "collate_words", "compiled_tables",
           "counted_neighbours", "named_files", "sort_names", "test_contracts", DRIVER}
@@ -51,15 +53,15 @@ LEFT_OUT = {
     ("icu_collator", "Collator::try_from_tables"): PROGRAM,
     ("icu_collator", "Collator::with_options"): RATTLE,
     ("icu_headings", "Headings::new"): RATTLE,
-    ("icu_headings", "Headings::number_of"): RATTLE,
+    ("icu_headings", "Headings::number_of"): WITHIN_RATTLE,
     ("icu_headings", "Headings::of"): RATTLE,
     ("icu_held_relations", "relation_holds"): RATTLE,
     ("icu_index", "NameIndex::beginning_with"): RATTLE,
     ("icu_index_labels", "read_index_labels"): INDEXES,
     ("icu_key_bounds", "lower_bound_key"): RATTLE,
     ("icu_key_bounds", "upper_bound_key"): RATTLE,
-    ("icu_keyed_names", "KeyedNames::beginning_with"): RATTLE,
-    ("icu_keyed_starts", "KeyedStarts::insert"): RATTLE,
+    ("icu_keyed_names", "KeyedNames::beginning_with"): WITHIN_RATTLE,
+    ("icu_keyed_starts", "KeyedStarts::insert"): WITHIN_RATTLE,
     ("icu_ldml", "CollationFile::parse"): RATTLE,
     ("icu_locale", "LanguageTag::collation_type"): RATTLE,
     ("icu_locale", "LanguageTag::locale"): RATTLE,
@@ -72,25 +74,25 @@ LEFT_OUT = {
     ("icu_locale_rules", "with_backward"): PROGRAM,
     ("icu_locale_rules", "with_reordering"): PROGRAM,
     ("icu_indexed_text", "IndexedText::from_str"): PROGRAM,
-    ("icu_indexed_text", "IndexedText::new"): RATTLE,
-    ("icu_indexed_text", "IndexedText::part"): RATTLE,
-    ("icu_indexed_text", "grapheme_bounds"): RATTLE,
-    ("icu_indexed_text", "offset_marks"): RATTLE,
-    ("icu_indexed_text", "utf8_copy"): RATTLE,
-    ("icu_indexed_text", "word_bounds"): RATTLE,
+    ("icu_indexed_text", "IndexedText::new"): WITHIN_RATTLE,
+    ("icu_indexed_text", "IndexedText::part"): WITHIN_RATTLE,
+    ("icu_indexed_text", "grapheme_bounds"): WITHIN_RATTLE,
+    ("icu_indexed_text", "offset_marks"): WITHIN_RATTLE,
+    ("icu_indexed_text", "utf8_copy"): WITHIN_RATTLE,
+    ("icu_indexed_text", "word_bounds"): WITHIN_RATTLE,
     ("icu_store", "PrintedCollator::from_checked_tables"): INDEXES,
     ("icu_store", "written_settings"): INDEXES,
     ("icu_stored_lines", "push_name"): INDEXES,
-    ("icu_rule_steps", "SymbolicTailoring::maker_of"): RATTLE,
+    ("icu_rule_steps", "SymbolicTailoring::maker_of"): WITHIN_RATTLE,
     ("icu_rule_steps", "SymbolicTailoring::of_rules"): RATTLE,
-    ("icu_rule_steps", "SymbolicTailoring::of_statements"): RATTLE,
-    ("icu_rule_tables", "Tailoring::from_rules"): RATTLE,
+    ("icu_rule_steps", "SymbolicTailoring::of_statements"): WITHIN_RATTLE,
+    ("icu_rule_tables", "Tailoring::from_rules"): WITHIN_RATTLE,
     ("icu_rule_tables", "Tailoring::from_text"): RATTLE,
     ("icu_rules", "Rules::parse"): RATTLE,
     ("icu_rules", "Rules::resolve"): RATTLE,
     ("icu_small_tables", "checked_small_tables"): RATTLE,
-    ("icu_script_reordering", "script_order"): RATTLE,
-    ("icu_script_reordering", "script_reordering"): RATTLE,
+    ("icu_script_reordering", "script_order"): WITHIN_RATTLE,
+    ("icu_script_reordering", "script_reordering"): WITHIN_RATTLE,
     ("icu_search", "FoundSpans::next"): PROGRAM,
     ("icu_search", "first_least"): PROGRAM,
     ("icu_searcher", "PlaceReader::next"): PROGRAM,
@@ -130,26 +132,26 @@ LEFT_OUT = {
     ("text_explanations", "explanation"): PROGRAM,
     ("text_explanations", "part_with"): PROGRAM,
     ("text_explanations", "push_characters"): PROGRAM,
-    ("icu_symbolic_mappings", "Mappings::has_root_context"): RATTLE,
-    ("icu_symbolic_mappings", "Mappings::mapping_step"): RATTLE,
-    ("icu_symbolic_mappings", "Mappings::suppression_step"): RATTLE,
+    ("icu_symbolic_mappings", "Mappings::has_root_context"): WITHIN_RATTLE,
+    ("icu_symbolic_mappings", "Mappings::mapping_step"): WITHIN_RATTLE,
+    ("icu_symbolic_mappings", "Mappings::suppression_step"): WITHIN_RATTLE,
     ("icu_symbolic_mappings", "Mappings::symbolic_elements"): RATTLE,
-    ("icu_symbolic_mappings", "Mappings::touched_characters"): RATTLE,
-    ("icu_symbolic_mappings", "Mappings::untouched"): RATTLE,
-    ("icu_symbolic_mappings", "cased_elements"): RATTLE,
-    ("icu_symbolic_mappings", "mappings_behind"): RATTLE,
+    ("icu_symbolic_mappings", "Mappings::touched_characters"): WITHIN_RATTLE,
+    ("icu_symbolic_mappings", "Mappings::untouched"): WITHIN_RATTLE,
+    ("icu_symbolic_mappings", "cased_elements"): WITHIN_RATTLE,
+    ("icu_symbolic_mappings", "mappings_behind"): WITHIN_RATTLE,
     ("icu_table_file", "TableFile::read"): RATTLE,
     ("icu_table_file", "write"): RATTLE,
-    ("icu_table_parts", "chars_as_bytes"): RATTLE,
-    ("icu_table_parts", "chars_from_bytes"): RATTLE,
-    ("icu_table_parts", "parts_of"): RATTLE,
-    ("icu_table_parts", "push_part"): RATTLE,
-    ("icu_table_parts", "u16s_as_bytes"): RATTLE,
-    ("icu_table_parts", "u16s_from_bytes"): RATTLE,
-    ("icu_table_parts", "u32s_as_bytes"): RATTLE,
-    ("icu_table_parts", "u32s_from_bytes"): RATTLE,
-    ("icu_table_parts", "u64s_as_bytes"): RATTLE,
-    ("icu_table_parts", "u64s_from_bytes"): RATTLE,
+    ("icu_table_parts", "chars_as_bytes"): WITHIN_RATTLE,
+    ("icu_table_parts", "chars_from_bytes"): WITHIN_RATTLE,
+    ("icu_table_parts", "parts_of"): WITHIN_RATTLE,
+    ("icu_table_parts", "push_part"): WITHIN_RATTLE,
+    ("icu_table_parts", "u16s_as_bytes"): WITHIN_RATTLE,
+    ("icu_table_parts", "u16s_from_bytes"): WITHIN_RATTLE,
+    ("icu_table_parts", "u32s_as_bytes"): WITHIN_RATTLE,
+    ("icu_table_parts", "u32s_from_bytes"): WITHIN_RATTLE,
+    ("icu_table_parts", "u64s_as_bytes"): WITHIN_RATTLE,
+    ("icu_table_parts", "u64s_from_bytes"): WITHIN_RATTLE,
     ("icu_table_parts", "with_frame"): RATTLE,
     ("icu_tailored_entries", "tailored_data"): RATTLE,
     ("icu_tailored_entries", "tailored_diacritics"): RATTLE,
@@ -188,16 +190,16 @@ LEFT_OUT = {
     ("icu_text_search", "Searcher::read_latin1"): RATTLE,
     ("icu_text_search", "Searcher::read_utf16"): RATTLE,
     ("icu_text_search", "Searcher::read_utf8"): RATTLE,
-    ("icu_weight_tree", "RuleElements::differ_at"): RATTLE,
-    ("icu_weight_tree", "RuleElements::differ_by"): RATTLE,
-    ("icu_weight_tree", "RuleElements::go_before_at"): RATTLE,
-    ("icu_weight_tree", "RuleElements::go_before_by"): RATTLE,
-    ("icu_weight_tree", "WeightTreeBuilder::begun_parents"): RATTLE,
-    ("icu_weight_tree", "WeightTreeBuilder::put_before"): RATTLE,
-    ("icu_weight_tree", "WeightTreeBuilder::put_new_weight"): RATTLE,
-    ("icu_weight_tree", "WeightTreeBuilder::put_weights"): RATTLE,
+    ("icu_weight_tree", "RuleElements::differ_at"): WITHIN_RATTLE,
+    ("icu_weight_tree", "RuleElements::differ_by"): WITHIN_RATTLE,
+    ("icu_weight_tree", "RuleElements::go_before_at"): WITHIN_RATTLE,
+    ("icu_weight_tree", "RuleElements::go_before_by"): WITHIN_RATTLE,
+    ("icu_weight_tree", "WeightTreeBuilder::begun_parents"): WITHIN_RATTLE,
+    ("icu_weight_tree", "WeightTreeBuilder::put_before"): WITHIN_RATTLE,
+    ("icu_weight_tree", "WeightTreeBuilder::put_new_weight"): WITHIN_RATTLE,
+    ("icu_weight_tree", "WeightTreeBuilder::put_weights"): WITHIN_RATTLE,
     ("icu_weight_tree", "WeightTreeBuilder::siblings"): RATTLE,
-    ("icu_weight_tree", "WeightTreeBuilder::siblings_below"): RATTLE,
+    ("icu_weight_tree", "WeightTreeBuilder::siblings_below"): WITHIN_RATTLE,
     ("icu_xml", "read_document"): RATTLE,
     ("icu_weights", "first_overlap"): CHECK,
     ("icu_weights", "first_common_overlap"): CHECK,
@@ -319,10 +321,22 @@ def unknown_errors(texts):
     return sorted({it for text in texts for it in ERROR.findall(text)} - FAILURES - WITHIN)
 
 
+def without_names(text):
+    """Sources without comments, and without what they declare."""
+    return re.sub(r"//[^\n]*|\bfn \w+", "", text)
+
+
+def calls_untested(text):
+    """The calls that are left to the tests in tests/rattle, and that their sources don't make."""
+    text = without_names(text)
+    left = {key for key, reason in LEFT_OUT.items() if reason == RATTLE}
+    return [f"tests/rattle doesn't make {'::'.join(it.key)}" for it in calls() if it.key in left and not it.is_made(text)]
+
+
 def wrong_calls(asked, below):
     """The calls that sources of a driver over these crates neither make nor leave out with a reason, and reasons for such as aren't
     left out."""
-    asked = re.sub(r"//[^\n]*|\bfn \w+", "", asked)
+    asked = without_names(asked)
     missing = {it.key for it in calls() if it.crate not in below or not it.is_made(asked)}
     found = [f"the driver doesn't make {'::'.join(it)}" for it in sorted(missing - set(LEFT_OUT))]
     return found + [f"is no call that the driver leaves out: {'::'.join(it)}" for it in sorted(set(LEFT_OUT) - missing)]
@@ -330,6 +344,8 @@ def wrong_calls(asked, below):
 
 # Names that are taken from the driver's sources, each of which has to be missed.
 LOST = ["write_sort_key_to", "equal_to", "try_new_unstable", "load_tables", "as_borrowed"]
+# Names that are taken from the sources of tests/rattle, each of which has to be missed.
+LOST_TESTS = ["find_utf16", "relation_holds", "siblings"]
 # Crates that have to be missed where the driver's line doesn't name them.
 LOST_CRATES = ["icu_collator", "icu_index"]
 
@@ -338,6 +354,7 @@ def faults_missed(asked, below):
     """The calls that are taken from the driver, and the errors, that are not found."""
     found = [f"not found: {it}" for it in LOST if not wrong_calls(re.sub(rf"\b{it}\b", "", asked), below)]
     found += [f"not found: no {it} below" for it in LOST_CRATES if not wrong_calls(asked, below - {it})]
+    found += [f"not found: {it}" for it in LOST_TESTS if not calls_untested(re.sub(rf"\b{it}\b", "", rattle_tests.text()))]
     return found + ["not found: an error"] * (unknown_errors(["pub enum Lost<E> {\n    Other(E),\n    NoMemory,\n}\n"]) != ["Lost"])
 
 
@@ -346,5 +363,7 @@ def check_calls(report):
     asked, below = "\n".join(sources(DRIVER)), set(listed[DRIVER].deps)
     wrong = wrong_calls(asked, below)
     wrong += [f"is no known error of memory: {it}" for it in unknown_errors(text for crate in libraries() for text in sources(crate))]
-    report.say("the driver makes each call that allocates", wrong, len(calls()))
-    report.say("a call that the driver doesn't make is found", faults_missed(asked, below), len(LOST) + len(LOST_CRATES) + 1)
+    wrong += calls_untested(rattle_tests.text())
+    report.say("the driver, or a test in Rattle, makes each call that allocates", wrong, len(calls()))
+    planted = len(LOST) + len(LOST_TESTS) + len(LOST_CRATES) + 1
+    report.say("a call that neither of them makes is found", faults_missed(asked, below), planted)
