@@ -8,6 +8,7 @@ import os
 import re
 
 import crates
+import rattle_tests
 
 DRIVER = "test_driver"
 # What says that a call may fail so, in the type that it returns.
@@ -23,24 +24,20 @@ CALL = re.compile(
     r"^impl\b(?P<impl>[^{]*)\{|^(?P<indent> *)pub (?:const )?fn (?P<name>\w+)(?P<head>.*?)(?:\n *(?:requires|ensures)\b|\{\n)",
     re.M | re.S)
 METHOD = re.compile(r"(?:<[^(]*>)?\(\s*(?:&(?:'\w+ )?)?(?:mut )?self\b")
-# How the driver comes to a value of a type that it doesn't name.
-VALUES = {"CollatorBorrowed": "as_borrowed"}
+# How the driver, and the tests in tests/rattle, come to a value of a type that they don't name.
+VALUES = {"CollatorBorrowed": "as_borrowed", "Mappings": "mappings", "OverlappingMatches": "find_overlapping_iter",
+          "WeightTreeBuilder": "tree"}
 # Programs, and crates of tests: what the driver asks about are libraries.
 OTHERS = {"cldr_collators", "collate", "collate_cldr", "collate_commands", "collate_index", "collate_words", "compiled_tables",
-          "counted_neighbours", "named_files", "sort_names", "test_checked_root", "test_contracts", "test_lists", "test_readers",
-          "test_rule_steps", "test_table_files", "test_tailorings", "test_text_search", "test_types", DRIVER}
+          "counted_neighbours", "named_files", "sort_names", "test_contracts", DRIVER}
 KEY, CHECK, FILE, READ, LINE, INDEX = "`key`", "`check`", "`root`", "`next` and `whole`", "`line`", "`names`"
-# Calls to which no question comes: each request of this program, or of this crate, is refused or tested by itself; some are run by
-# the tests of their own crates alone, without a refusal.
-PROGRAM, TYPES, TESTS = "the program `collate-cldr`", "`test_types`", "the crate's own tests, where no allocation is refused"
-READERS, RULES = "`test_readers`, where no allocation is refused", "`test_rule_steps`, where no allocation is refused"
-ROOTS = "`test_checked_root`, where no allocation is refused"
-TAILORINGS = "`test_tailorings`, where no allocation is refused"
-LISTS = "`test_lists`, where no allocation is refused"
-FILES = "`test_table_files`, where no allocation is refused"
+# Calls to which no question comes: each request of this program is refused by itself, and some are made by tests in Rattle alone,
+# without a refusal.
+PROGRAM = "the program `collate-cldr`"
 INDEXES = "the program `collate-index`, whose writes are stopped in turn"
 NAMES = "the program `sort_names`, each of whose requests is refused"
-SEARCHES = "`test_text_search`, where no allocation is refused"
+RATTLE = "the tests in tests/rattle, where no allocation is refused"
+WITHIN_RATTLE = "another call of the tests in tests/rattle, where no allocation is refused"
 # Calls that nothing makes: one on which no program stands yet (a look at the step that comes), and one that hands tables which come
 # one by one to `from_set`.
 NOTHING = "nothing"
@@ -49,27 +46,27 @@ NOTHING = "nothing"
 LEFT_OUT = {
     ("icu_collation_data", "collect_weights"): CHECK,
     ("icu_collation_data", "collect_weights_from"): CHECK,
-    ("icu_checked_root", "CheckedRoot::new"): ROOTS,
+    ("icu_checked_root", "CheckedRoot::new"): RATTLE,
     ("icu_checks", "CheckedTables::from_owned"): PROGRAM,
     ("icu_checks", "CheckedTables::new"): NOTHING,
-    ("icu_collator", "Collator::from_checked_tables"): TYPES,
+    ("icu_collator", "Collator::from_checked_tables"): RATTLE,
     ("icu_collator", "Collator::try_from_tables"): PROGRAM,
-    ("icu_collator", "Collator::with_options"): TYPES,
-    ("icu_headings", "Headings::new"): LISTS,
-    ("icu_headings", "Headings::number_of"): LISTS,
-    ("icu_headings", "Headings::of"): LISTS,
-    ("icu_held_relations", "relation_holds"): TAILORINGS,
-    ("icu_index", "NameIndex::beginning_with"): LISTS,
+    ("icu_collator", "Collator::with_options"): RATTLE,
+    ("icu_headings", "Headings::new"): RATTLE,
+    ("icu_headings", "Headings::number_of"): WITHIN_RATTLE,
+    ("icu_headings", "Headings::of"): RATTLE,
+    ("icu_held_relations", "relation_holds"): RATTLE,
+    ("icu_index", "NameIndex::beginning_with"): RATTLE,
     ("icu_index_labels", "read_index_labels"): INDEXES,
-    ("icu_key_bounds", "lower_bound_key"): LISTS,
-    ("icu_key_bounds", "upper_bound_key"): LISTS,
-    ("icu_keyed_names", "KeyedNames::beginning_with"): LISTS,
-    ("icu_keyed_starts", "KeyedStarts::insert"): LISTS,
-    ("icu_ldml", "CollationFile::parse"): READERS,
-    ("icu_locale", "LanguageTag::collation_type"): READERS,
-    ("icu_locale", "LanguageTag::locale"): READERS,
-    ("icu_locale", "LanguageTag::parse"): READERS,
-    ("icu_locale", "LanguageTag::written"): READERS,
+    ("icu_key_bounds", "lower_bound_key"): RATTLE,
+    ("icu_key_bounds", "upper_bound_key"): RATTLE,
+    ("icu_keyed_names", "KeyedNames::beginning_with"): WITHIN_RATTLE,
+    ("icu_keyed_starts", "KeyedStarts::insert"): WITHIN_RATTLE,
+    ("icu_ldml", "CollationFile::parse"): RATTLE,
+    ("icu_locale", "LanguageTag::collation_type"): RATTLE,
+    ("icu_locale", "LanguageTag::locale"): RATTLE,
+    ("icu_locale", "LanguageTag::parse"): RATTLE,
+    ("icu_locale", "LanguageTag::written"): RATTLE,
     ("icu_locale", "in_case_of"): PROGRAM,
     ("icu_locale_rules", "CollationName::of_tag"): PROGRAM,
     ("icu_locale_rules", "import_tags"): PROGRAM,
@@ -77,29 +74,29 @@ LEFT_OUT = {
     ("icu_locale_rules", "with_backward"): PROGRAM,
     ("icu_locale_rules", "with_reordering"): PROGRAM,
     ("icu_indexed_text", "IndexedText::from_str"): PROGRAM,
-    ("icu_indexed_text", "IndexedText::new"): SEARCHES,
-    ("icu_indexed_text", "IndexedText::part"): SEARCHES,
-    ("icu_indexed_text", "grapheme_bounds"): SEARCHES,
-    ("icu_indexed_text", "offset_marks"): SEARCHES,
-    ("icu_indexed_text", "utf8_copy"): SEARCHES,
-    ("icu_indexed_text", "word_bounds"): SEARCHES,
+    ("icu_indexed_text", "IndexedText::new"): WITHIN_RATTLE,
+    ("icu_indexed_text", "IndexedText::part"): WITHIN_RATTLE,
+    ("icu_indexed_text", "grapheme_bounds"): WITHIN_RATTLE,
+    ("icu_indexed_text", "offset_marks"): WITHIN_RATTLE,
+    ("icu_indexed_text", "utf8_copy"): WITHIN_RATTLE,
+    ("icu_indexed_text", "word_bounds"): WITHIN_RATTLE,
     ("icu_store", "PrintedCollator::from_checked_tables"): INDEXES,
     ("icu_store", "written_settings"): INDEXES,
     ("icu_stored_lines", "push_name"): INDEXES,
-    ("icu_rule_steps", "SymbolicTailoring::maker_of"): TAILORINGS,
-    ("icu_rule_steps", "SymbolicTailoring::of_rules"): RULES,
-    ("icu_rule_steps", "SymbolicTailoring::of_statements"): TAILORINGS,
-    ("icu_rule_tables", "Tailoring::from_rules"): TAILORINGS,
-    ("icu_rule_tables", "Tailoring::from_text"): TAILORINGS,
-    ("icu_rules", "Rules::parse"): READERS,
-    ("icu_rules", "Rules::resolve"): READERS,
-    ("icu_small_tables", "checked_small_tables"): TYPES,
-    ("icu_script_reordering", "script_order"): TAILORINGS,
-    ("icu_script_reordering", "script_reordering"): TAILORINGS,
+    ("icu_rule_steps", "SymbolicTailoring::maker_of"): WITHIN_RATTLE,
+    ("icu_rule_steps", "SymbolicTailoring::of_rules"): RATTLE,
+    ("icu_rule_steps", "SymbolicTailoring::of_statements"): WITHIN_RATTLE,
+    ("icu_rule_tables", "Tailoring::from_rules"): WITHIN_RATTLE,
+    ("icu_rule_tables", "Tailoring::from_text"): RATTLE,
+    ("icu_rules", "Rules::parse"): RATTLE,
+    ("icu_rules", "Rules::resolve"): RATTLE,
+    ("icu_small_tables", "checked_small_tables"): RATTLE,
+    ("icu_script_reordering", "script_order"): WITHIN_RATTLE,
+    ("icu_script_reordering", "script_reordering"): WITHIN_RATTLE,
     ("icu_search", "FoundSpans::next"): PROGRAM,
     ("icu_search", "first_least"): PROGRAM,
     ("icu_searcher", "PlaceReader::next"): PROGRAM,
-    ("icu_searcher", "place_marks"): SEARCHES,
+    ("icu_searcher", "place_marks"): RATTLE,
     ("icu_sort", "stable_order"): NAMES,
     ("keyed_lines", "LineKeys::push"): PROGRAM,
     ("keyed_lines", "OrderedLines::by_fronts"): PROGRAM,
@@ -135,75 +132,75 @@ LEFT_OUT = {
     ("text_explanations", "explanation"): PROGRAM,
     ("text_explanations", "part_with"): PROGRAM,
     ("text_explanations", "push_characters"): PROGRAM,
-    ("icu_symbolic_mappings", "Mappings::has_root_context"): TAILORINGS,
-    ("icu_symbolic_mappings", "Mappings::mapping_step"): RULES,
-    ("icu_symbolic_mappings", "Mappings::suppression_step"): RULES,
-    ("icu_symbolic_mappings", "Mappings::symbolic_elements"): RULES,
-    ("icu_symbolic_mappings", "Mappings::touched_characters"): TAILORINGS,
-    ("icu_symbolic_mappings", "Mappings::untouched"): TAILORINGS,
-    ("icu_symbolic_mappings", "cased_elements"): RULES,
-    ("icu_symbolic_mappings", "mappings_behind"): TAILORINGS,
-    ("icu_table_file", "TableFile::read"): FILES,
-    ("icu_table_file", "write"): FILES,
-    ("icu_table_parts", "chars_as_bytes"): FILES,
-    ("icu_table_parts", "chars_from_bytes"): FILES,
-    ("icu_table_parts", "parts_of"): FILES,
-    ("icu_table_parts", "push_part"): FILES,
-    ("icu_table_parts", "u16s_as_bytes"): FILES,
-    ("icu_table_parts", "u16s_from_bytes"): FILES,
-    ("icu_table_parts", "u32s_as_bytes"): FILES,
-    ("icu_table_parts", "u32s_from_bytes"): FILES,
-    ("icu_table_parts", "u64s_as_bytes"): FILES,
-    ("icu_table_parts", "u64s_from_bytes"): FILES,
-    ("icu_table_parts", "with_frame"): FILES,
-    ("icu_tailored_entries", "tailored_data"): TAILORINGS,
-    ("icu_tailored_entries", "tailored_diacritics"): TAILORINGS,
+    ("icu_symbolic_mappings", "Mappings::has_root_context"): WITHIN_RATTLE,
+    ("icu_symbolic_mappings", "Mappings::mapping_step"): WITHIN_RATTLE,
+    ("icu_symbolic_mappings", "Mappings::suppression_step"): WITHIN_RATTLE,
+    ("icu_symbolic_mappings", "Mappings::symbolic_elements"): RATTLE,
+    ("icu_symbolic_mappings", "Mappings::touched_characters"): WITHIN_RATTLE,
+    ("icu_symbolic_mappings", "Mappings::untouched"): WITHIN_RATTLE,
+    ("icu_symbolic_mappings", "cased_elements"): WITHIN_RATTLE,
+    ("icu_symbolic_mappings", "mappings_behind"): WITHIN_RATTLE,
+    ("icu_table_file", "TableFile::read"): RATTLE,
+    ("icu_table_file", "write"): RATTLE,
+    ("icu_table_parts", "chars_as_bytes"): WITHIN_RATTLE,
+    ("icu_table_parts", "chars_from_bytes"): WITHIN_RATTLE,
+    ("icu_table_parts", "parts_of"): WITHIN_RATTLE,
+    ("icu_table_parts", "push_part"): WITHIN_RATTLE,
+    ("icu_table_parts", "u16s_as_bytes"): WITHIN_RATTLE,
+    ("icu_table_parts", "u16s_from_bytes"): WITHIN_RATTLE,
+    ("icu_table_parts", "u32s_as_bytes"): WITHIN_RATTLE,
+    ("icu_table_parts", "u32s_from_bytes"): WITHIN_RATTLE,
+    ("icu_table_parts", "u64s_as_bytes"): WITHIN_RATTLE,
+    ("icu_table_parts", "u64s_from_bytes"): WITHIN_RATTLE,
+    ("icu_table_parts", "with_frame"): RATTLE,
+    ("icu_tailored_entries", "tailored_data"): RATTLE,
+    ("icu_tailored_entries", "tailored_diacritics"): RATTLE,
     ("icu_tailored_entries", "tailored_jamo"): PROGRAM,
-    ("icu_tailoring_numbers", "TailoringNumbers::of_tree"): TAILORINGS,
+    ("icu_tailoring_numbers", "TailoringNumbers::of_tree"): RATTLE,
     ("icu_text_search", "FoundMatches::next"): PROGRAM,
-    ("icu_text_search", "OverlappingMatches::next"): SEARCHES,
-    ("icu_text_search", "SearchedText::find"): SEARCHES,
-    ("icu_text_search", "SearchedText::find_at"): SEARCHES,
-    ("icu_text_search", "SearchedText::prefix_match"): SEARCHES,
-    ("icu_text_search", "SearchedText::within"): SEARCHES,
-    ("icu_text_search", "Searcher::find"): SEARCHES,
-    ("icu_text_search", "Searcher::find_latin1"): SEARCHES,
-    ("icu_text_search", "Searcher::find_utf16"): SEARCHES,
-    ("icu_text_search", "Searcher::find_utf8"): SEARCHES,
-    ("icu_text_search", "Searcher::is_match"): SEARCHES,
-    ("icu_text_search", "Searcher::is_match_latin1"): SEARCHES,
-    ("icu_text_search", "Searcher::is_match_utf16"): SEARCHES,
-    ("icu_text_search", "Searcher::is_match_utf8"): SEARCHES,
+    ("icu_text_search", "OverlappingMatches::next"): RATTLE,
+    ("icu_text_search", "SearchedText::find"): RATTLE,
+    ("icu_text_search", "SearchedText::find_at"): RATTLE,
+    ("icu_text_search", "SearchedText::prefix_match"): RATTLE,
+    ("icu_text_search", "SearchedText::within"): RATTLE,
+    ("icu_text_search", "Searcher::find"): RATTLE,
+    ("icu_text_search", "Searcher::find_latin1"): RATTLE,
+    ("icu_text_search", "Searcher::find_utf16"): RATTLE,
+    ("icu_text_search", "Searcher::find_utf8"): RATTLE,
+    ("icu_text_search", "Searcher::is_match"): RATTLE,
+    ("icu_text_search", "Searcher::is_match_latin1"): RATTLE,
+    ("icu_text_search", "Searcher::is_match_utf16"): RATTLE,
+    ("icu_text_search", "Searcher::is_match_utf8"): RATTLE,
     ("icu_text_search", "Searcher::new"): PROGRAM,
-    ("icu_text_search", "Searcher::new_latin1"): SEARCHES,
-    ("icu_text_search", "Searcher::new_utf16"): SEARCHES,
-    ("icu_text_search", "Searcher::new_utf8"): SEARCHES,
-    ("icu_text_search", "Searcher::prefix_match"): SEARCHES,
-    ("icu_text_search", "Searcher::prefix_match_latin1"): SEARCHES,
-    ("icu_text_search", "Searcher::prefix_match_utf16"): SEARCHES,
-    ("icu_text_search", "Searcher::prefix_match_utf8"): SEARCHES,
+    ("icu_text_search", "Searcher::new_latin1"): RATTLE,
+    ("icu_text_search", "Searcher::new_utf16"): RATTLE,
+    ("icu_text_search", "Searcher::new_utf8"): RATTLE,
+    ("icu_text_search", "Searcher::prefix_match"): RATTLE,
+    ("icu_text_search", "Searcher::prefix_match_latin1"): RATTLE,
+    ("icu_text_search", "Searcher::prefix_match_utf16"): RATTLE,
+    ("icu_text_search", "Searcher::prefix_match_utf8"): RATTLE,
     ("icu_text_search", "Searcher::read"): PROGRAM,
-    ("icu_weight_gaps", "weights_between"): RULES,
-    ("icu_weight_numbers", "number_level"): RULES,
-    ("icu_weight_numbers", "number_primaries"): RULES,
-    ("icu_weight_numbers", "number_runs"): RULES,
-    ("icu_weight_numbers", "primary_gaps_of_runs"): RULES,
-    ("icu_weight_numbers", "sibling_runs"): RULES,
+    ("icu_weight_gaps", "weights_between"): RATTLE,
+    ("icu_weight_numbers", "number_level"): RATTLE,
+    ("icu_weight_numbers", "number_primaries"): RATTLE,
+    ("icu_weight_numbers", "number_runs"): RATTLE,
+    ("icu_weight_numbers", "primary_gaps_of_runs"): RATTLE,
+    ("icu_weight_numbers", "sibling_runs"): RATTLE,
     ("icu_text_search", "Searcher::read_by"): PROGRAM,
-    ("icu_text_search", "Searcher::read_latin1"): SEARCHES,
-    ("icu_text_search", "Searcher::read_utf16"): SEARCHES,
-    ("icu_text_search", "Searcher::read_utf8"): SEARCHES,
-    ("icu_weight_tree", "RuleElements::differ_at"): RULES,
-    ("icu_weight_tree", "RuleElements::differ_by"): RULES,
-    ("icu_weight_tree", "RuleElements::go_before_at"): RULES,
-    ("icu_weight_tree", "RuleElements::go_before_by"): RULES,
-    ("icu_weight_tree", "WeightTreeBuilder::begun_parents"): TAILORINGS,
-    ("icu_weight_tree", "WeightTreeBuilder::put_before"): RULES,
-    ("icu_weight_tree", "WeightTreeBuilder::put_new_weight"): RULES,
-    ("icu_weight_tree", "WeightTreeBuilder::put_weights"): RULES,
-    ("icu_weight_tree", "WeightTreeBuilder::siblings"): RULES,
-    ("icu_weight_tree", "WeightTreeBuilder::siblings_below"): TAILORINGS,
-    ("icu_xml", "read_document"): READERS,
+    ("icu_text_search", "Searcher::read_latin1"): RATTLE,
+    ("icu_text_search", "Searcher::read_utf16"): RATTLE,
+    ("icu_text_search", "Searcher::read_utf8"): RATTLE,
+    ("icu_weight_tree", "RuleElements::differ_at"): WITHIN_RATTLE,
+    ("icu_weight_tree", "RuleElements::differ_by"): WITHIN_RATTLE,
+    ("icu_weight_tree", "RuleElements::go_before_at"): WITHIN_RATTLE,
+    ("icu_weight_tree", "RuleElements::go_before_by"): WITHIN_RATTLE,
+    ("icu_weight_tree", "WeightTreeBuilder::begun_parents"): WITHIN_RATTLE,
+    ("icu_weight_tree", "WeightTreeBuilder::put_before"): WITHIN_RATTLE,
+    ("icu_weight_tree", "WeightTreeBuilder::put_new_weight"): WITHIN_RATTLE,
+    ("icu_weight_tree", "WeightTreeBuilder::put_weights"): WITHIN_RATTLE,
+    ("icu_weight_tree", "WeightTreeBuilder::siblings"): RATTLE,
+    ("icu_weight_tree", "WeightTreeBuilder::siblings_below"): WITHIN_RATTLE,
+    ("icu_xml", "read_document"): RATTLE,
     ("icu_weights", "first_overlap"): CHECK,
     ("icu_weights", "first_common_overlap"): CHECK,
     ("icu_weights", "WeightSet::others"): CHECK,
@@ -324,10 +321,22 @@ def unknown_errors(texts):
     return sorted({it for text in texts for it in ERROR.findall(text)} - FAILURES - WITHIN)
 
 
+def without_names(text):
+    """Sources without comments, and without what they declare."""
+    return re.sub(r"//[^\n]*|\bfn \w+", "", text)
+
+
+def calls_untested(text):
+    """The calls that are left to the tests in tests/rattle, and that their sources don't make."""
+    text = without_names(text)
+    left = {key for key, reason in LEFT_OUT.items() if reason == RATTLE}
+    return [f"tests/rattle doesn't make {'::'.join(it.key)}" for it in calls() if it.key in left and not it.is_made(text)]
+
+
 def wrong_calls(asked, below):
     """The calls that sources of a driver over these crates neither make nor leave out with a reason, and reasons for such as aren't
     left out."""
-    asked = re.sub(r"//[^\n]*|\bfn \w+", "", asked)
+    asked = without_names(asked)
     missing = {it.key for it in calls() if it.crate not in below or not it.is_made(asked)}
     found = [f"the driver doesn't make {'::'.join(it)}" for it in sorted(missing - set(LEFT_OUT))]
     return found + [f"is no call that the driver leaves out: {'::'.join(it)}" for it in sorted(set(LEFT_OUT) - missing)]
@@ -335,6 +344,8 @@ def wrong_calls(asked, below):
 
 # Names that are taken from the driver's sources, each of which has to be missed.
 LOST = ["write_sort_key_to", "equal_to", "try_new_unstable", "load_tables", "as_borrowed"]
+# Names that are taken from the sources of tests/rattle, each of which has to be missed.
+LOST_TESTS = ["find_utf16", "relation_holds", "siblings"]
 # Crates that have to be missed where the driver's line doesn't name them.
 LOST_CRATES = ["icu_collator", "icu_index"]
 
@@ -343,6 +354,7 @@ def faults_missed(asked, below):
     """The calls that are taken from the driver, and the errors, that are not found."""
     found = [f"not found: {it}" for it in LOST if not wrong_calls(re.sub(rf"\b{it}\b", "", asked), below)]
     found += [f"not found: no {it} below" for it in LOST_CRATES if not wrong_calls(asked, below - {it})]
+    found += [f"not found: {it}" for it in LOST_TESTS if not calls_untested(re.sub(rf"\b{it}\b", "", rattle_tests.text()))]
     return found + ["not found: an error"] * (unknown_errors(["pub enum Lost<E> {\n    Other(E),\n    NoMemory,\n}\n"]) != ["Lost"])
 
 
@@ -351,5 +363,7 @@ def check_calls(report):
     asked, below = "\n".join(sources(DRIVER)), set(listed[DRIVER].deps)
     wrong = wrong_calls(asked, below)
     wrong += [f"is no known error of memory: {it}" for it in unknown_errors(text for crate in libraries() for text in sources(crate))]
-    report.say("the driver makes each call that allocates", wrong, len(calls()))
-    report.say("a call that the driver doesn't make is found", faults_missed(asked, below), len(LOST) + len(LOST_CRATES) + 1)
+    wrong += calls_untested(rattle_tests.text())
+    report.say("the driver, or a test in Rattle, makes each call that allocates", wrong, len(calls()))
+    planted = len(LOST) + len(LOST_TESTS) + len(LOST_CRATES) + 1
+    report.say("a call that neither of them makes is found", faults_missed(asked, below), planted)

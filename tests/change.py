@@ -17,6 +17,7 @@ import crates  # noqa: E402
 import gate  # noqa: E402
 import programs  # noqa: E402
 import proving  # noqa: E402
+import rattle_tests  # noqa: E402
 
 LOG = os.path.join(crates.TOP, "out", "change.log")
 DRIVER = "test_driver"
@@ -124,8 +125,9 @@ def try_edits(steps, listed, names, unproved):
 
 
 def run_programs(steps, affected, unproved):
-    """Runs the rows and refused memory by the driver, where it stands on one of the crates, and what is looked at of `collate`,
-    `collate-cldr` and `sort_names`, where they do. Hostile input is left to the gate, which takes minutes for it."""
+    """Runs the rows and refused memory by the driver, where it stands on one of the crates, what is looked at of `collate`,
+    `collate-cldr` and `sort_names`, where they do, and the tests in Rattle, if they name one of the crates. Hostile input is left to
+    the gate, which takes minutes for it."""
     built = [it for it in affected if it not in unproved]
     with tempfile.TemporaryDirectory(prefix="collate-tests-") as room:
         shim = programs.compiled(room, "refuse", "-shared", "-fPIC")
@@ -138,6 +140,8 @@ def run_programs(steps, affected, unproved):
             steps.also("collate-cldr", programs.check_collate_cldr, room, shim)
         if "sort_names" in built:
             steps.also("sort_names", programs.check_sort_names, shim)
+        if set(built) & set(rattle_tests.libraries()):
+            steps.also("tests in Rattle", rattle_tests.check_rattle_tests)
 
 
 def main(names):

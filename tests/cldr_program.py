@@ -7,6 +7,7 @@ import re
 from cldr_locales import FOLDER, check_locales
 from csv_commands import check_csv
 from line_commands import check_lines
+from refused_files import check_refused_files
 from shell_jobs import check_shell
 from sorted_lists import check_lists
 from sweeps import REQUESTS, TOP, Run, built, faults_of, losses_missed, run, run_on_streams, says_refusals, sweep, wrapped
@@ -459,6 +460,7 @@ def check_collate_cldr(report, room, shim):
     missed = [f"not found: {new} for {old} in the manual page" for old, new in others if not wrong_manual(program, page.replace(old, new, 1))]
     report.say("collate-cldr: other options in the manual page are found", missed, len(others))
     check_locales(report, folder, program)
+    check_refused_files(report, folder, program)
     check_lines(report, folder, program, LETTERS)
     check_lists(report, folder, program, LETTERS)
     check_csv(report, folder, program, LETTERS)

@@ -1,7 +1,8 @@
 #!/usr/bin/env python3
 """Runs the built programs and looks at what proofs do not speak of: the rows that the driver answers (rows.py), hostile input
-(hostile.py), refused memory (refusals.py), an index whose program is stopped at each write (index_program.py), and of `collate` and `collate-cldr`
-the status that each ends with, what goes to which stream, and what becomes of a request that the system refuses.
+(hostile.py), refused memory (refusals.py), an index whose program is stopped at each write (index_program.py), and of `collate` and
+`collate-cldr` the status that each ends with, what goes to which stream, and what becomes of a request that the system refuses. It
+also runs the tests in Rattle (rattle_tests.py), which it compiles itself.
 
 usage: tests/programs.py      after `rt ci`, which builds the programs (bin/test does both)
 
@@ -24,6 +25,7 @@ from index_program import check_collate_index
 from long_orders import check_long_orders
 from long_sorts import check_long_sorts
 from names_program import check_sort_names
+from rattle_tests import check_rattle_tests
 from reads import check_reads
 from refusals import check_refusals, driver_is_right, other_answers_missed
 from rows import check_rows
@@ -347,6 +349,7 @@ def check_all(report, room):
     report.also("collate-index", check_collate_index, room, built("collate_index"), compiled(room, "stop", "-shared", "-fPIC"))
     report.also("sort_names", check_sort_names, shim)
     report.also("calls", check_calls)
+    report.also("tests in Rattle", check_rattle_tests)
     report.also("rows", check_rows, drivers())
     report.also("long texts", check_long_orders, drivers()[0])
     report.also("settings", check_settings, drivers()[0])

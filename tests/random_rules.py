@@ -22,6 +22,7 @@ import subprocess
 import sys
 import tempfile
 
+import rattle_tests
 from rule_differences import decomposed, has_weakened, name_of
 
 HERE = os.path.dirname(os.path.realpath(__file__))
@@ -156,7 +157,7 @@ def copied(folder):
                 shutil.copytree(source, target)
     with open(os.path.join(TOP, "crates.txt"), encoding="utf-8") as it:
         listed = it.read()
-    libraries = next(line.partition(":")[2] for line in listed.splitlines() if line.startswith("test_tailorings:"))
+    libraries = " ".join(rattle_tests.libraries())
     with open(os.path.join(folder, "crates.txt"), "w", encoding="utf-8") as it:
         it.write(f"{listed}\n{NAME}: anyhow icu_cldr icu_keys {libraries}\n")
     shutil.copy(os.path.join(TOP, "HANDLES"), folder)
