@@ -15,8 +15,8 @@ import time
 sys.path.insert(0, os.path.dirname(os.path.realpath(__file__)))
 import crates  # noqa: E402
 
-# What the gate took from nothing at the commit 05fed7b8, in minutes of processor and of wall on four processors, and the yardstick
-# on that machine with nothing else, in seconds of both. By the yardstick, `rt selftest`, unlike machines are compared.
+# What the gate took from nothing at the commit 05fed7b8, in minutes of processor and of wall on four processors, and what the
+# yardstick took on that machine with nothing else, in seconds of both. By the yardstick, `rt selftest`, machines are compared.
 BASE = {"processor": 436, "wall": 155, "processors": 4}
 BASE_YARDSTICK = (105.0, 40.5)
 # What it may take of that: now, and for the life of the project.
@@ -29,7 +29,8 @@ TICKS = os.sysconf("SC_CLK_TCK")
 # Whether /proc lists the processes that one has started; some systems don't.
 LISTS_CHILDREN = os.path.exists(f"/proc/self/task/{os.getpid()}/children")
 LAST = os.path.join(crates.TOP, "out", "costs.txt")
-# The costs of runs on a quiet machine, which bin/costs --keep writes, with a row for each crate that crates.txt lists, and the dearest functions (bin/costs --functions --keep).
+# The costs of runs on a quiet machine, which bin/costs --keep writes, with a row for each crate that crates.txt lists, and the
+# dearest functions (bin/costs --functions --keep).
 KEPT = os.path.join(crates.TOP, "tests", "costs.txt")
 FUNCTIONS = os.path.join(crates.TOP, "tests", "functions.txt")
 # A crate that takes this much longer than it did, in seconds and as a share, has risen.
@@ -162,8 +163,8 @@ class Sampler(threading.Thread):
 
 
 class Costs:
-    """Seconds of processor time by crate and kind of work, and of the whole run, with the time that passed; what the yardstick took,
-    in seconds of processor and of wall; and the crates that the run proved, and took from no earlier run."""
+    """Seconds of processor time by crate and kind of work, and of the whole run, with the time that passed; what the yardstick
+    took, in seconds of processor and of wall; and the crates that the run proved, and took from no earlier run."""
 
     def __init__(self):
         self.by, self.whole, self.passed, self.processors = {}, 0.0, 0.0, crates.processors()
@@ -313,7 +314,8 @@ def beside_yardstick(costs):
         return "yardstick: `rt selftest` was not timed, so what the run cost is compared with nothing"
     seconds, wall = costs.yardstick
     each, base = costs.whole / 60 / seconds, BASE["processor"] / BASE_YARDSTICK[0]
-    said = f"yardstick: `rt selftest` took {seconds:.0f} s of processor time in {wall:.0f} s; the run took {each:.2f} minutes for each second of it"
+    said = f"yardstick: `rt selftest` took {seconds:.0f} s of processor time in {wall:.0f} s"
+    said += f"; the run took {each:.2f} minutes for each second of it"
     if not costs.is_from_nothing():
         return f"{said}; not every crate was proved in it, so that is not compared with the budget"
     said += f", {each / base:.2f} of what the commit 05fed7b8 took ({base:.2f})"

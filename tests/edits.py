@@ -1,7 +1,7 @@
 """The edits that put wrong bodies into crates, and the record of what each came to when it was last tried (tests/wrong.txt).
 
-An edit is a file crates/NAME/must-fail/*.edit, which the gate tries, or crates/NAME/wrong/*.edit, which `bin/wrong` tries. A row of
-the record has the crate, the edit, a sum and what the edit came to. The sum is over the edit, the files that it edits, and the
+An edit is a file crates/NAME/must-fail/*.edit, which the gate tries, or crates/NAME/wrong/*.edit, which `bin/wrong` tries. A row
+of the record has the crate, the edit, a sum and what the edit came to. The sum is over the edit, the files that it edits, and the
 clauses and definitions of its crate, without comments, layout, imports and the modules that names are reached by. So an edit
 that is moved or renamed with all of that keeps its sum and its row. An edit is stale if no row with its sum says `refused`."""
 import functools
@@ -16,8 +16,8 @@ import crates  # noqa: E402
 RECORD = os.path.join(crates.TOP, "tests", "wrong.txt")
 FOLDERS = ("must-fail", "wrong")
 REFUSED, UNTRIED = "refused", "untried"
-# What `rt must-fail` and `rt ci` say of an edit, and the word that the record has for it: it was refused, only since a proof names
-# what is gone, only by a limit of the prover, or not at all; it can't be applied or read; nothing is known of it.
+# What `rt must-fail` and `rt ci` say of an edit, and the word that the record has for it: it is refused only since a proof names
+# what is gone, only by a limit of the prover, as it must be, or not at all; it can't be applied or read; nothing is known of it.
 WORDS = [("refused, as it must be (only because", "by-names"), ("refused, as it must be (only by a limit", "by-a-limit"),
          ("refused, as it must be", REFUSED), ("NOT REFUSED", "proved"), ("BAD EDIT", "bad"), ("NOT TRIED", UNTRIED)]
 SAID = re.compile(r"^(?:rt: )?must-fail ([^/\s]+)/(\S+): (.*)")
@@ -28,7 +28,7 @@ IMPORTS = {".rt": re.compile(r"(?m)^\s*(?:pub(?:\([^)]*\))? )?(?:(?:ghost )?use 
            ".antt": re.compile(r"(?m)^\s*(?:pub )?(?:use|mod)\b[^{\n]*(?:\{[^}]*\})?")}
 # The modules before a name; types that end so as well tell one name from another.
 PATH = re.compile(r"\bRattle\.(?:\w+\.)+|(?:\b(?!(?:[iu](?:\d+|size)|f\d+|char|str|bool)\b)[a-z_]\w*::)+(?=\w)")
-HEAD = "# Each edit that the prover must refuse: crate, edit, a sum of what its result rests on, and what it came to when it was tried."
+HEAD = "# Edits that the prover must refuse: crate, edit, a sum of what its result rests on, and what it came to (bin/wrong)."
 
 
 class Edit:

