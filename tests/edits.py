@@ -4,6 +4,7 @@ An edit is a file crates/NAME/must-fail/*.edit, which the gate tries, or crates/
 of the record has the crate, the edit, a sum and what the edit came to. The sum is over the edit, the files that it edits, and the
 clauses and definitions of its crate, without comments, layout, imports and the modules that names are reached by. So an edit
 that is moved or renamed with all of that keeps its sum and its row. An edit is stale if no row with its sum says `refused`."""
+import fcntl
 import functools
 import hashlib
 import os
@@ -117,7 +118,17 @@ def read():
 
 def keep(results):
     """Puts what some edits came to into the record: by their names, the sum of each when it was tried and the word for it. A try
-    that says nothing leaves a row with its sum as it is, and rows of edits that are gone are left out."""
+    that says nothing leaves a row with its sum as it is, and rows of edits that are gone are left out. Several runs of bin/wrong
+    may do so side by side."""
+    turn = os.open(os.path.dirname(RECORD), os.O_RDONLY)
+    try:
+        fcntl.flock(turn, fcntl.LOCK_EX)
+        write(results)
+    finally:
+        os.close(turn)
+
+
+def write(results):
     rows = read()
     known = {total: (total, word) for total, word in rows.values()}
     lines = [HEAD]
