@@ -14,6 +14,7 @@ import time
 
 sys.path.insert(0, os.path.dirname(os.path.realpath(__file__)))
 import crates  # noqa: E402
+import edits  # noqa: E402
 import gate  # noqa: E402
 import programs  # noqa: E402
 import proving  # noqa: E402
@@ -114,14 +115,14 @@ def check_layout(steps, listed, names):
 
 def try_edits(steps, listed, names, unproved):
     for name in names:
-        edits = listed[name].edits()
-        if not edits or name in unproved:
+        count = listed[name].edits()
+        if not count or name in unproved:
             continue
         _, said = ran(["rt", "must-fail", name], crates.TOP)
         lines = [it[4:] for it in said.splitlines() if it.startswith("rt: must-fail ")]
         faults = [it for it in lines if ": refused, as it must be" not in it]
-        faults += [f"{edits} edits, and {len(lines)} tried"] * (len(lines) != edits)
-        steps.say(f"the {edits} edits of {name} are refused", faults)
+        faults += [f"{count} edits, and {len(lines)} tried"] * (len(lines) != count)
+        steps.say(f"the {count} edits of {name} are refused", faults)
 
 
 def run_programs(steps, affected, unproved):
@@ -161,6 +162,9 @@ def main(names):
     check_layout(steps, listed, names)
     unproved = prove(steps, listed, names)
     try_edits(steps, listed, names, unproved)
+    stale = edits.stale([it for name in names for it in edits.of_crate(listed[name], ("wrong",))])
+    if stale:
+        steps.tell(f"{len(stale)} edits beside the gate are stale: bin/wrong --stale {' '.join(names)} lists them")
     steps.also("the programs", run_programs, crates.above(listed, names), unproved)
     return steps.end()
 

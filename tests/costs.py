@@ -7,6 +7,7 @@ comes of it."""
 import os
 import re
 import resource
+import subprocess
 import sys
 import threading
 import time
@@ -14,16 +15,22 @@ import time
 sys.path.insert(0, os.path.dirname(os.path.realpath(__file__)))
 import crates  # noqa: E402
 
-# What the gate may take, in minutes on two processors: for what stood in November 2026, and in all.
-STANDING, GREATEST = 65, 100
+# What the gate took from nothing at the commit 05fed7b8, in minutes of processor and of wall on four processors, and what the
+# yardstick took on that machine with nothing else, in seconds of both. By the yardstick, `rt selftest`, machines are compared.
+BASE = {"processor": 436, "wall": 155, "processors": 4}
+BASE_YARDSTICK = (105.0, 40.5)
+# What it may take of that: now, and for the life of the project.
+NOW, LATER = 0.60, 0.70
 KINDS = ["proof", "tests", "edits", "compilers", "runs"]
 # What no crate is charged with: `rt` and the gate's own programs, tests/programs.py, the comparisons of documents.
 OTHER = "others"
+PROGRAMS = "tests/programs.py"
 TICKS = os.sysconf("SC_CLK_TCK")
 # Whether /proc lists the processes that one has started; some systems don't.
 LISTS_CHILDREN = os.path.exists(f"/proc/self/task/{os.getpid()}/children")
 LAST = os.path.join(crates.TOP, "out", "costs.txt")
-# The costs of a run on a quiet machine, which bin/costs --keep writes, and the dearest functions (bin/costs --functions --keep).
+# The costs of runs on a quiet machine, which bin/costs --keep writes, with a row for each crate that crates.txt lists, and the
+# dearest functions (bin/costs --functions --keep).
 KEPT = os.path.join(crates.TOP, "tests", "costs.txt")
 FUNCTIONS = os.path.join(crates.TOP, "tests", "functions.txt")
 # A crate that takes this much longer than it did, in seconds and as a share, has risen.
@@ -156,15 +163,18 @@ class Sampler(threading.Thread):
 
 
 class Costs:
-    """Seconds of processor time by crate and kind of work, and of the whole run, with the time that passed."""
+    """Seconds of processor time by crate and kind of work, and of the whole run, with the time that passed; what the yardstick
+    took, in seconds of processor and of wall; and the crates that the run proved, and took from no earlier run."""
 
     def __init__(self):
         self.by, self.whole, self.passed, self.processors = {}, 0.0, 0.0, crates.processors()
+        self.yardstick, self.proved = None, []
 
     def copy(self):
         made = Costs()
         made.by = {name: dict(kinds) for name, kinds in self.by.items()}
         made.whole, made.passed, made.processors = self.whole, self.passed, self.processors
+        made.yardstick, made.proved = self.yardstick, [*self.proved]
         return made
 
     def add(self, work, seconds):
@@ -179,12 +189,18 @@ class Costs:
     def of_kind(self, kind):
         return sum(it.get(kind, 0.0) for it in self.by.values())
 
+    def is_from_nothing(self):
+        """Whether the run proved each crate that crates.txt lists."""
+        return self.whole > 0 and crates.listed().keys() <= {*self.proved}
+
     def write(self, file):
         lines = ["# Seconds of processor time that a run of the gate took, by crate and kind of work."]
         lines.append(" ".join(["crate", *KINDS]))
         for name in sorted(self.by):
             lines.append(" ".join([name, *(f"{self.of(name, kind):.1f}" for kind in KINDS)]))
         lines.append(f"whole {self.whole:.1f} passed {self.passed:.1f} processors {self.processors}")
+        lines += [f"yardstick {self.yardstick[0]:.1f} passed {self.yardstick[1]:.1f}"] if self.yardstick else []
+        lines += [f"proved {' '.join(self.proved)}"] if self.proved else []
         with open(f"{file}.new", "w", encoding="utf-8") as it:
             it.write("\n".join(lines) + "\n")
         os.replace(f"{file}.new", file)
@@ -200,9 +216,36 @@ def read(file):
     for words in (line.split() for line in lines if not line.startswith(("#", "crate "))):
         if words[0] == "whole":
             found.whole, found.passed, found.processors = float(words[1]), float(words[3]), int(words[5])
+        elif words[0] == "yardstick":
+            found.yardstick = float(words[1]), float(words[3])
+        elif words[0] == "proved":
+            found.proved = words[1:]
         else:
             found.by[words[0]] = {kind: float(it) for kind, it in zip(KINDS, words[1:])}
     return found
+
+
+def merged(kept, taken):
+    """The kept costs after another run of the gate. A crate that the run proved gets its new row; any other keeps the old one, in
+    seconds of the machine that the old rows are of. Rows of crates that crates.txt doesn't list are left out."""
+    made, is_new = taken.copy(), taken.is_from_nothing()
+    if not is_new and kept:
+        made.whole, made.passed, made.processors = kept.whole, kept.passed, kept.processors
+        made.yardstick = kept.yardstick or taken.yardstick
+    speed = kept.yardstick[0] / taken.yardstick[0] if not is_new and kept and kept.yardstick and taken.yardstick else 1.0
+    made.by, made.proved = {}, []
+    for name in [*crates.listed(), PROGRAMS, OTHER]:
+        if name in taken.by and (is_new or name in taken.proved or name == PROGRAMS):
+            made.by[name] = {kind: seconds * speed for kind, seconds in taken.by[name].items()}
+        elif kept and name in kept.by:
+            made.by[name] = kept.by[name]
+    return made
+
+
+def lacking():
+    """The crates that crates.txt lists and that have no row in tests/costs.txt."""
+    kept = read(KEPT)
+    return [it for it in crates.listed() if not kept or kept.of(it) <= 0]
 
 
 def of_children():
@@ -211,21 +254,40 @@ def of_children():
     return used.ru_utime + used.ru_stime
 
 
+def of_yardstick():
+    """What the yardstick takes, in seconds of processor and of wall, or None where it doesn't pass. It proves, builds and runs an
+    example of the toolchain, so it knows nothing of this repository."""
+    environment = {name: it for name, it in os.environ.items() if name != "RT_JOBS"}
+    how = {"stdin": subprocess.DEVNULL, "stdout": subprocess.DEVNULL, "stderr": subprocess.DEVNULL, "env": environment}
+    before, began = of_children(), time.monotonic()
+    passes = not subprocess.run(["rt", "selftest"], **how).returncode
+    return (of_children() - before, time.monotonic() - began) if passes else None
+
+
 def dearest(costs, most=8):
-    """A line for each of the dearest crates of a run, and for each that costs much more than it did."""
-    kept = read(KEPT)
+    """A line for each of the dearest crates of a run."""
     names = sorted((it for it in costs.by if it != OTHER and costs.of(it) >= 0.5), key=costs.of, reverse=True)
-    for at, name in enumerate(names):
-        was = kept.of(name) * ratio(costs, kept) if kept else 0
-        has_risen = was and costs.of(name) > max(BY * was, was + RISEN)
-        if at < most or has_risen:
-            parts = ", ".join(f"{kind} {costs.of(name, kind):.0f}" for kind in KINDS if costs.of(name, kind) >= 0.5)
-            rise = f"; {was:.0f} s were to be expected by tests/costs.txt" if has_risen else ""
-            yield f"{name:16} {costs.of(name):5.0f} s ({parts}){rise}"
+    for name in names[:most]:
+        parts = ", ".join(f"{kind} {costs.of(name, kind):.0f}" for kind in KINDS if costs.of(name, kind) >= 0.5)
+        yield f"{name:16} {costs.of(name):5.0f} s ({parts})"
+
+
+def risen(costs):
+    """The crates that cost much more than they did, with what was to be expected, in one line."""
+    kept = read(KEPT)
+    by = ratio(costs, kept) if kept else 1.0
+    found = [(costs.of(it), by * kept.of(it), it) for it in costs.by if kept and it != OTHER and kept.of(it) > 0]
+    found = [it for it in sorted(found, reverse=True) if it[0] > max(BY * it[1], it[1] + RISEN)]
+    names = ", ".join(f"{name} {now:.0f} s where {was:.0f} were to be expected" for now, was, name in found)
+    rows = f"; with no row there: {', '.join(lacking())}" if lacking() else ""
+    return f"risen beside tests/costs.txt: {names or 'none'}{rows}"
 
 
 def ratio(costs, kept):
-    """How much longer this machine takes than that of the kept costs, by the crates that both have: the one in the middle."""
+    """How much longer this machine takes than that of the kept costs: by the yardstick or, where one has none, by the crates that
+    both have, the one in the middle."""
+    if costs.yardstick and kept.yardstick:
+        return costs.yardstick[0] / kept.yardstick[0]
     each = sorted(costs.of(it) / kept.of(it) for it in costs.by if kept.of(it) > 1 and costs.of(it) > 1 and it != OTHER)
     return each[len(each) // 2] if each else 1.0
 
@@ -240,10 +302,25 @@ def dearest_functions(most=10):
 
 
 def total(costs):
-    """What a whole run took, beside what it may take."""
-    minutes, on_two = costs.whole / 60, costs.whole / 120
+    """What a whole run took, in one line."""
     kinds = ", ".join(f"{kind} {costs.of_kind(kind) / 60:.1f}" for kind in KINDS)
     passed = f"{costs.passed / 60:.0f} minutes on {costs.processors} processors"
-    said = f"{minutes:.0f} minutes of processor time ({kinds}) in {passed}"
-    room = f"it may take {STANDING} minutes on two processors for what stood in November 2026, and {GREATEST} in all"
-    return f"cost: {said}; {on_two:.0f} minutes on two processors where none is idle: {room}"
+    return f"cost: {costs.whole / 60:.0f} minutes of processor time ({kinds}) in {passed}"
+
+
+def beside_yardstick(costs):
+    """What a whole run took beside the yardstick, and beside what it may take, in one line."""
+    if not costs.yardstick:
+        return "yardstick: `rt selftest` was not timed, so what the run cost is compared with nothing"
+    seconds, wall = costs.yardstick
+    each, base = costs.whole / 60 / seconds, BASE["processor"] / BASE_YARDSTICK[0]
+    said = f"yardstick: `rt selftest` took {seconds:.0f} s of processor time in {wall:.0f} s"
+    said += f"; the run took {each:.2f} minutes for each second of it"
+    if not costs.is_from_nothing():
+        return f"{said}; not every crate was proved in it, so that is not compared with the budget"
+    said += f", {each / base:.2f} of what the commit 05fed7b8 took ({base:.2f})"
+    if costs.processors == BASE["processors"]:
+        passed = costs.passed / 60 / wall * BASE_YARDSTICK[1] / BASE["wall"]
+        said += f", and {passed:.2f} of its wall on {costs.processors} processors"
+    over = ": IT TAKES MORE" if each / base > LATER else ""
+    return f"{said}; it may take {NOW:.2f} now, and {LATER:.2f} with all that comes later{over}"

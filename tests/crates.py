@@ -43,6 +43,17 @@ class Crate:
         return len([*self.files(folder, ".edit")])
 
 
+def clause_end(lines, at):
+    """The index of the line that ends the clause or the ghost item that begins at this one: with its braces, or by a semicolon."""
+    opened, depth = False, 0
+    for end in range(at, len(lines)):
+        code = re.sub(r'"[^"]*"', "", lines[end])
+        opened, depth = opened or "{" in code, depth + code.count("{") - code.count("}")
+        if depth <= 0 and (opened or code.rstrip().endswith(";")):
+            return end
+    return len(lines) - 1
+
+
 def read(path):
     with open(path, encoding="utf-8", errors="replace") as it:
         return it.read()
