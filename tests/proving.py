@@ -1,240 +1,190 @@
-"""Proves and builds crates of the repository, and those below them, over the work that earlier checks kept.
+"""Proves crates of the repository, and those below them, by `rt ci` on a copy whose crates.txt has these alone.
 
-Each is proved once, as `rt lib` and `rt run` do it, and not at all where nothing changed since. Crates of which none stands on
-the other are proved side by side, and the one with the longest chain of crates above it has a process for each processor. It takes
-the toolchain's own module, rtlib.py, by which `rt` knows a crate, since each call of `rt` waits for those that work on a crate
-below."""
-import concurrent.futures
-import importlib.util
+What passes is kept by the toolchain on this machine: a run after one that was broken off goes on from there, and so do the gate and
+runs for other crates. Edits that must be refused are tried where they are asked for; the sums of what is kept don't read them."""
+import contextlib
 import os
+import queue
 import re
-import signal
+import shutil
+import subprocess
 import sys
+import tempfile
 import threading
 import time
 
 sys.path.insert(0, os.path.dirname(os.path.realpath(__file__)))
-import costs  # noqa: E402
 import crates  # noqa: E402
+import expected  # noqa: E402
 
-# Memory in bytes: of a crate's first process, and of each that works with it.
-FIRST, EACH = 1_800_000_000, 900_000_000
-# What a process that shares a crate with others does of what it would do alone, and what a second of the gate's log is here: what
-# is kept for later costs more than the statements that the gate writes. So it was in a run from nothing on two processors.
-SHARED, SHARE = 0.3, 1.35
-# So often a line says what is under way, and so long what was read of the sources is taken to be as it was, in seconds.
-BEAT, FRESH = 30, 3
+# Memory in bytes that a crate's proof takes.
+EACH = 1_800_000_000
+# So often a line says how much is left, and so soon after the last crate that is kept, in seconds.
+BEAT, FIRST = 30, 3
 # A line that says why a crate isn't proved.
 FAULT = re.compile(
-    r"\S+:\d+:\d+: error|error|fn .*: (not proved|no proof|could not tell)|rattle: |logic=not-proved|rt: .*(refused|killed)"
+    r"\S+:\d+:\d+: error|error|fn .*: (not proved|no proof|could not tell)|rattle: |logic=not-proved|rt: .*(refused|killed|run rt fmt)"
 )
+KEPT = re.compile(r"rt: (\w+) is kept: ")
+VERDICT = re.compile(r"rt: (\w+)(: its tests are)? (proved|NOT PROVED)\b(.*)")
+COUNTS = re.compile(r"(\d+) passed, (\d+) failed")
+# What of a program that the copy's run leaves is put beside the sources: as LLVM and as Rattle's own compiler built it.
+BUILDS = ("", ".by-rattle")
 
 
-def toolchain():
-    """The module by which `rt` knows crates; an ImportError where this toolchain has another."""
-    path = os.path.join(crates.kit() or "", "bin", "rtlib.py")
-    if not os.path.isfile(path):
-        raise ImportError("the toolchain's rtlib.py is not there")
-    spec = importlib.util.spec_from_file_location("rtlib", path)
-    made = importlib.util.module_from_spec(spec)
-    sys.dont_write_bytecode = True
-    spec.loader.exec_module(made)
-    missing = [it for it in ("below", "is_built", "build_rlib", "compile", "call", "stamp") if not hasattr(made.Crate, it)]
-    if missing or not hasattr(made, "lock"):
-        raise ImportError("the toolchain's rtlib.py is another one")
-    keep_answers(made.Crate)
-    return made
+def jobs():
+    """How many crates are proved side by side: one on each processor, where memory holds them, or as RT_JOBS says."""
+    said = os.environ.get("RT_JOBS", "")
+    if said.isdigit() and int(said):
+        return int(said)
+    lines = dict(line.split(":", 1) for line in crates.read("/proc/meminfo").splitlines())
+    return max(1, min(crates.processors(), 1024 * int(lines["MemAvailable"].split()[0]) // EACH))
 
 
-def keep_answers(crate):
-    """Keeps what the toolchain's class of crates says of the sources and of the crates below one."""
-    crate.stamp, crate.below = kept_for_a_while(crate.stamp), kept(crate.below)
+def copy_repository(folder, listed, names, with_edits):
+    """Copies these crates and their lines of crates.txt; the edits of those that are named last alone."""
+    os.mkdir(os.path.join(folder, ".git"))
+    shutil.copy(os.path.join(crates.TOP, "HANDLES"), folder)
+    with open(os.path.join(folder, "crates.txt"), "w", encoding="utf-8") as it:
+        for line in crates.read(os.path.join(crates.TOP, "crates.txt")).splitlines():
+            words = line.partition("#")[0].partition(":")[0].split()
+            if words and words[0] in names:
+                it.write(f"{line}\n")
+    for name in names:
+        home, left_out = listed[name].folder, {"out", "wrong"} | ({"must-fail"} if name not in with_edits else set())
+        to = os.path.join(folder, "crates", name)
+        shutil.copytree(home, to, symlinks=True, ignore=lambda at, _, home=home, it=left_out: it if at == home else ())
 
 
-def kept(below):
-    """The crates below a crate, which asks those that it stands on for theirs, by each way that leads to them."""
-    known = {}
-
-    def once(crate):
-        if crate.folder not in known:
-            known[crate.folder] = below(crate)
-        return [*known[crate.folder]]
-
-    return once
-
-
-def kept_for_a_while(stamp):
-    """A crate's sum of its sources and of those below it, which asks for the sum of each crate below many times."""
-    known = {}
-
-    def fresh(crate):
-        now = time.monotonic()
-        at, found = known.get(crate.folder, (0.0, None))
-        if found is None or now - at > FRESH:
-            found = stamp(crate)
-            known[crate.folder] = now, found
-        return found
-
-    return fresh
+@contextlib.contextmanager
+def started(words, folder, lanes):
+    """Starts a command in a session of its own, gives what it says, and ends it however this process ends."""
+    how = {"cwd": folder, "stdin": subprocess.DEVNULL, "stdout": subprocess.PIPE, "stderr": subprocess.STDOUT, "errors": "replace"}
+    with subprocess.Popen(words, start_new_session=True, text=True, env={**os.environ, "RT_JOBS": str(lanes)}, **how) as ran:
+        try:
+            yield ran
+        finally:
+            # All that `rt` has started ends with it.
+            ran.kill()
 
 
-def free_memory():
-    said = dict(line.split(":", 1) for line in crates.read("/proc/meminfo").splitlines())
-    return 1024 * int(said["MemAvailable"].split()[0])
-
-
-class Work:
-    """The seconds that each crate takes with one process: by the costs that are kept or, without those, by its lines."""
-
-    def __init__(self, listed):
-        self.listed, self.kept, self.known = listed, costs.read(costs.KEPT), {}
-
-    def of(self, name):
-        if name not in self.known:
-            self.known[name] = self.worked_out(name)
-        return self.known[name]
-
-    def worked_out(self, name):
-        known = self.kept.of(name, "proof") + self.kept.of(name, "compilers") / 2 if self.kept else 0
-        if known:
-            return SHARE * known
-        code, specs, proofs = (self.listed[name].lines(it) for it in crates.PARTS)
-        return 8 + 0.045 * code + 0.005 * (specs + proofs)
-
-    def chains(self, left):
-        """The longest chain of crates that wait for each other, from each of these up."""
-        above, found = {it: [] for it in left}, {}
-        for name in left:
-            for it in above.keys() & self.listed[name].deps:
-                above[it].append(name)
-
-        def chain(name):
-            if name not in found:
-                found[name] = self.of(name) + max(map(chain, above[name]), default=0)
-            return found[name]
-
-        return {it: chain(it) for it in left}
-
-    def expected(self, left, processors):
-        """The seconds that these crates take: no less than the chain with all processors, nor than all with none idle."""
-        longest = max(self.chains(left).values(), default=0)
-        return max(longest / (1 + SHARED * (min(processors, 4) - 1)), sum(map(self.of, left)) / processors / 0.9)
-
-
-class Said:
-    """Takes what is said of a crate, line by line: all goes to the log, and why it isn't proved is kept."""
-
-    def __init__(self, name, log):
-        self.name, self.log, self.rest, self.faults = name, log, "", []
-
-    def write(self, text):
-        *lines, self.rest = (self.rest + text).split("\n")
-        for line in lines:
-            self.log.write(f"{self.name}: {line}\n")
-            if FAULT.match(line):
-                self.faults.append(line)
-
-    def flush(self):
-        self.log.flush()
+def feed(stream, lines):
+    for line in stream:
+        lines.put(line.rstrip("\n"))
+    lines.put(None)
 
 
 class Run:
     """A run that proves these crates and those below them. `say` is called with each line that says how far it is."""
 
-    def __init__(self, names, log, say):
-        self.rtlib, self.log, self.say = toolchain(), log, say
-        self.rtlib.guarded()
-        # Else Python would wait at Ctrl-C for what its threads have started; so all of it ends with this process.
-        signal.signal(signal.SIGINT, signal.SIG_DFL)
-        self.listed, self.printing, self.said = crates.listed(), threading.Lock(), time.monotonic()
-        self.processors, self.work, known = crates.processors(), Work(self.listed), {}
-        self.crates = {}
-        for name in names:
-            top = known.get(self.listed[name].folder) or self.rtlib.Crate(self.listed[name].folder, crates.TOP, known)
-            known[self.listed[name].folder] = top
-            self.crates.update({it.name: it for it in [*top.below(), top]})
-        self.left = [name for name, it in self.crates.items() if not self.is_built(it)]
-
-    def is_built(self, crate):
-        program = f"{crate.folder}/out/{crate.name}"
-        if not crate.is_program:
-            return crate.is_built()
-        return self.rtlib.text_of(f"{program}.stamp") == crate.stamp() + self.rtlib.sum_of(program)
-
-    def tell(self, text):
-        with self.printing:
-            self.said = time.monotonic()
-            self.say(text)
+    def __init__(self, names, log, say, edits=()):
+        self.listed, self.log, self.say, self.edits = crates.listed(), log, say, edits
+        self.names = [*dict.fromkeys(it for name in names for it in [*crates.below(self.listed, name), name])]
+        self.functions = {it: self.listed[it].functions() for it in self.names}
+        self.lanes = jobs()
+        self.clock = expected.Clock(expected.Work(self.listed), self.names, self.lanes)
+        self.faults, self.block, self.last, self.counts = {}, None, [], None
+        self.said, self.is_told = time.monotonic(), False
 
     def announcement(self):
-        functions = sum(self.listed[it].functions() for it in self.left)
-        if not self.left:
-            return f"nothing changed since all {len(self.crates)} crates were proved"
-        minutes = self.work.expected(self.left, self.processors) / 60
-        how_long = f"about {minutes:.0f} minutes" if minutes > 1.5 else "about a minute"
-        what = f"{len(self.left)} of {len(self.crates)} crates are to be proved, with {functions} functions"
-        return f"{what}: {how_long} on {self.processors} processors, where nothing else works"
+        how_long = expected.about(self.clock.seconds_left(time.monotonic()))
+        what = f"{sum(self.functions.values())} functions in {len(self.names)} crates"
+        return f"{what}: {how_long} on {self.lanes} processors with no other work, less where earlier runs here proved some"
 
-    def jobs(self, name, running):
-        """How many processes a crate gets: one for each processor where it has the longest chain of all, and else one."""
-        chains = self.work.chains(self.left)
-        own = chains.pop(name)
-        if chains and running and own < max(chains.values()):
-            return 1
-        room = free_memory() - FIRST * (1 + len(running)) / 2
-        return max(1, min(self.processors, 4, 1 + int(max(room, 0) / EACH)))
+    def tell(self, what):
+        """Says what has ended, or is under way, and how much is left."""
+        self.said, self.is_told = time.monotonic(), True
+        done = sum(it for name, it in self.functions.items() if name not in self.clock.left)
+        left = expected.about(self.clock.seconds_left(self.said)) if self.clock.left else "the programs run"
+        self.say(f"{what}: {done} of {sum(self.functions.values())} functions, {left}{' left' if self.clock.left else ''}")
 
-    def build(self, name, jobs):
-        """Proves and builds a crate, and returns why it isn't, in lines."""
-        crate = self.crates[name]
-        crate.out, flags = Said(name, self.log), ["--jobs", str(jobs)]
-        os.makedirs(os.path.join(crate.folder, "out"), exist_ok=True)
-        status = self.compile(crate, flags) if crate.is_program else crate.build_rlib(flags, anew=False)
-        return (crate.out.faults or [f"status {status}; see the log"]) if status else []
+    def look(self, folder):
+        """Notes which crates have begun: `rt ci` then makes the folder of what it builds."""
+        now = time.monotonic()
+        for name in self.clock.left:
+            if os.path.isdir(os.path.join(folder, "crates", name, "out")):
+                self.clock.start(name, now)
 
-    def compile(self, crate, flags):
-        kit, program, stamp = crates.kit(), f"out/{crate.name}", crate.stamp()
-        linked = ["--target", "x86_64-unknown-linux-gnu", "--toolchain", f"{kit}/toolchain", "-o", program, f"{program}.o"]
-        status = crate.compile(flags, f"{program}.o")
-        status = status or crate.call(f"{kit}/bin/rattle-link", *linked, f"{kit}/c/libos_c.a", f"{kit}/c/liblibc_c.a")
-        if not status and stamp == crate.stamp():
-            with open(f"{crate.folder}/{program}.stamp", "w", encoding="utf-8") as it:
-                it.write(stamp + self.rtlib.sum_of(f"{crate.folder}/{program}"))
-        return status
+    def under_way(self):
+        return f"under way: {', '.join(sorted(it for it in self.clock.left if it in self.clock.began))}"
 
-    def start(self, pool, running, failed):
-        """Starts the crates whose turn it is, those with the longest chain first, where processors and memory are free."""
-        waiting = [it for it in self.left if it not in running.values()]
-        lacking = {it for it in waiting if set(crates.below(self.listed, it)) & {*self.left, *failed}}
-        chains = self.work.chains(self.left)
-        ready = sorted((it for it in waiting if it not in lacking), key=lambda it: -chains[it])
-        for name in ready[: self.processors - len(running)]:
-            if running and free_memory() < FIRST:
-                return
-            running[pool.submit(self.build, name, self.jobs(name, running))] = name
+    def wait(self):
+        if not self.is_told and time.monotonic() - self.said >= FIRST:
+            self.tell("begun" if self.clock.left == self.names else "proved by earlier runs")
+        elif time.monotonic() - self.said >= BEAT:
+            self.tell(self.under_way())
+
+    def take(self, line):
+        self.log.write(f"{line}\n")
+        kept, verdict = KEPT.match(line), VERDICT.match(line)
+        if kept:
+            self.clock.end(kept[1], time.monotonic(), True)
+        elif COUNTS.match(line):
+            self.counts = [int(it) for it in COUNTS.match(line).groups()]
+        elif line.startswith("== "):
+            self.block = []
+        elif verdict and verdict[1] in self.functions:
+            self.end(verdict[1], bool(verdict[2]), verdict[3] == "proved", verdict[4])
+        elif self.block is not None:
+            self.block.append(line)
+        else:
+            self.last.append(line)
+
+    def end(self, name, is_of_tests, is_proved, why):
+        faults = [it for it in self.block or [] if FAULT.match(it)]
+        self.block = None
+        if not is_proved:
+            self.faults.setdefault(name, []).extend(faults or [why.strip(": ") or "see the log"])
+        if not is_of_tests and name in self.clock.left:
+            self.clock.end(name, time.monotonic(), False)
+            self.tell(f"{name} is {'proved' if is_proved else 'NOT PROVED'}")
 
     def prove(self):
-        """Proves all that is left, and returns by its name why a crate isn't proved, in lines."""
-        failed, running, held = {}, {}, self.rtlib.lock([*self.crates.values()])
-        with concurrent.futures.ThreadPoolExecutor(self.processors) as pool:
-            self.start(pool, running, failed)
-            while running:
-                ended, _ = concurrent.futures.wait(running, BEAT, concurrent.futures.FIRST_COMPLETED)
-                for it in ended:
-                    self.end(running.pop(it), it.result(), failed)
-                self.start(pool, running, failed)
-                if time.monotonic() - self.said >= BEAT:
-                    self.tell(f"under way: {', '.join(sorted(running.values()))}")
-        for it in held:
-            os.close(it)
-        for name in self.left:
-            lacking = [it for it in crates.below(self.listed, name) if it in failed]
-            failed[name] = [f"not tried, since {', '.join(lacking)} is not proved"]
-        return failed
+        """Proves all, puts the programs of these crates beside their sources, and returns by the name of a crate why it isn't proved,
+        or its program or an edit of it is not as it should be, in lines."""
+        begun = time.time()
+        # Of a run that was killed `rt` removes the folder of this name.
+        with tempfile.TemporaryDirectory(prefix=f"rt-copy-{os.getpid()}-") as room:
+            folder = os.path.join(room, "repository")
+            os.mkdir(folder)
+            copy_repository(folder, self.listed, {*self.names}, self.edits)
+            status = self.follow(folder)
+            if self.counts is None or (status and not self.faults and not self.failed_later()):
+                self.faults["rt ci"] = self.last[-8:] or [f"it ended with status {status}"]
+            for name in self.names:
+                if self.listed[name].is_program and name not in self.faults and self.counts:
+                    self.place(name, os.path.join(folder, "crates", name, "out"), begun)
+        return self.faults
 
-    def end(self, name, faults, failed):
-        self.left.remove(name)
-        if faults:
-            failed[name] = faults
-        what = "NOT PROVED" if faults else "proved and built" if self.listed[name].is_program else "proved"
-        self.tell(f"{name} is {what} ({len(self.crates) - len(self.left)} of {len(self.crates)} crates)")
+    def follow(self, folder):
+        lines = queue.Queue()
+        with started(["rt", "ci"], folder, self.lanes) as ran:
+            threading.Thread(target=feed, args=(ran.stdout, lines), daemon=True).start()
+            while True:
+                self.look(folder)
+                try:
+                    line = lines.get(timeout=1)
+                except queue.Empty:
+                    self.wait()
+                    continue
+                if line is None:
+                    return ran.wait()
+                self.take(line)
+
+    def failed_later(self):
+        """Takes what went wrong with programs, tests and edits of crates that are proved, and returns how much that is."""
+        named = [it.partition(": ")[2] for it in self.last if it.startswith("rt: FAILED: ")]
+        for name in re.findall(r"\w+(?=/| \()", " ".join(named)):
+            lines = [it[4:] for it in self.last if re.match(rf"rt: (must-fail )?{name}\b", it)]
+            self.faults[name] = [it for it in lines if "as it must be" not in it] or ["see the log"]
+        return len(self.faults)
+
+    def place(self, name, built, begun):
+        """Puts a program beside its sources, as old as the copy that it was proved from: a source that has changed since is newer."""
+        for ending in BUILDS:
+            source, to = (os.path.join(it, name + ending) for it in (built, os.path.join(self.listed[name].folder, "out")))
+            if os.path.isfile(source):
+                os.makedirs(os.path.dirname(to), exist_ok=True)
+                shutil.copy(source, f"{to}.new")
+                os.utime(f"{to}.new", (begun, begun))
+                os.replace(f"{to}.new", to)
