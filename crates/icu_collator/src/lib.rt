@@ -52,7 +52,7 @@ pub mod comparison {
 
 /// Where the tables of collators come from, the check that they pass, and what builds them.
 pub mod provider {
-    pub use icu_checks::CheckedTables;
+    pub use icu_well_formed::CheckedTables;
     pub use icu_collation_data::{
         CodePointTable, CollationData, Context, ContextMapping, ContextTable,
     };

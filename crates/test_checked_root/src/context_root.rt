@@ -1,9 +1,10 @@
 //! A root with contractions, prefixes, an expansion, ideographs and a tertiary weight alone, in Mini's other tables.
-use icu_checks::CheckedTables;
+use icu_checks::checked_set;
 use icu_entries::{CollationElement, CollationElement32, DataError};
 use icu_mini::mini::Mini;
 use icu_provider::load_tables;
 use icu_table_builder::{DataBuilder, DataVectors};
+use icu_well_formed::CheckedTables;
 use std::alloc::{AllocError, Global};
 
 /// Letters that stand alone, with the two bytes of their primary weights.
@@ -82,5 +83,5 @@ pub(crate) fn with_contexts(alloc: Global) -> Result<Mini, AllocError> {
 pub(crate) fn checked(alloc: Global, mini: &Mini) -> Result<CheckedTables, DataError> {
     let provider = mini.provider();
     let set = load_tables(&provider, "", None)?;
-    CheckedTables::from_set(alloc, set)
+    checked_set(alloc, set)
 }

@@ -1,11 +1,11 @@
 //! What rules say over Mini, and over a root with contexts: orders of weights, and elements of texts.
 use crate::context_root::{checked, with_contexts};
 use icu_checked_root::CheckedRoot;
-use icu_checks::CheckedTables;
 use icu_mini::mini::Mini;
 use icu_rule_steps::{SymbolicTailoring, TailoringError, TailoringErrorKind};
 use icu_rules::Rules;
 use icu_tailoring::SymbolicWeight::{self, Rooted, Tailored};
+use icu_well_formed::CheckedTables;
 use std::alloc::Global;
 use std::process::Abort;
 use std::test::Fail;

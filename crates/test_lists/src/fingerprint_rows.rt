@@ -1,12 +1,13 @@
 //! Fingerprints of Mini and its variants, with one setting or one table changed at a time.
 
-use icu_checks::CheckedTables;
+use icu_checks::checked_set;
 use icu_collator::CollatorPreferences;
 use icu_collator::options::{AlternateHandling, CaseLevel, CollatorOptions, MaxVariable, Strength};
 use icu_collator::preferences::{CollationCaseFirst, CollationNumericOrdering};
 use icu_fingerprint::fingerprint;
 use icu_mini::mini::Mini;
 use icu_provider::load_tables;
+use icu_well_formed::CheckedTables;
 use std::alloc::Global;
 use std::process::Abort;
 use std::test::Fail;
@@ -15,7 +16,7 @@ use std::test::Fail;
 fn checked(alloc: Global, mini: &Mini) -> Result<CheckedTables, Fail> {
     let provider = mini.provider();
     let set = load_tables(&provider, "", None)?;
-    let tables = CheckedTables::from_set(alloc, set)?;
+    let tables = checked_set(alloc, set)?;
     Ok(tables)
 }
 

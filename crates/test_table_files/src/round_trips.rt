@@ -1,12 +1,13 @@
 //! Files of the tables of Mini and its variants.
 
-use icu_checks::CheckedTables;
+use icu_checks::checked_set;
 use icu_fingerprint::fingerprint;
 use icu_mini::mini::Mini;
 use icu_options::{CollatorOptions, CollatorPreferences};
 use icu_provider::load_tables;
 use icu_table_file::{Origin, TableFile, TableFileError, write};
 use icu_table_parts::{FrameError, with_frame, without_frame};
+use icu_well_formed::CheckedTables;
 use std::alloc::Global;
 use std::test::Fail;
 
@@ -21,7 +22,7 @@ const ORIGIN: Origin<'static> = Origin {
 fn checked(alloc: Global, mini: &Mini) -> Result<CheckedTables, Fail> {
     let provider = mini.provider();
     let set = load_tables(&provider, "", None)?;
-    let tables = CheckedTables::from_set(alloc, set)?;
+    let tables = checked_set(alloc, set)?;
     Ok(tables)
 }
 

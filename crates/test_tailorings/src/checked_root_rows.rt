@@ -1,7 +1,7 @@
 //! Orders by a text of rules over the root of checked tables, and texts that are refused.
 use crate::order_rows::check_row;
 use icu_checked_root::CheckedRoot;
-use icu_checks::CheckedTables;
+use icu_checks::checked_set;
 use icu_collator::Collator;
 use icu_collator::options::{CollatorOptions, CollatorPreferences};
 use icu_mini::mini::Mini;
@@ -9,6 +9,7 @@ use icu_provider::load_tables;
 use icu_rule_steps::TailoringErrorKind;
 use icu_rule_tables::{RuleRefusal, RuleTablesError, Tailoring};
 use icu_rules::RulesErrorKind;
+use icu_well_formed::CheckedTables;
 use std::alloc::Global;
 use std::test::Fail;
 
@@ -47,7 +48,7 @@ pub(crate) fn checked_mini(alloc: Global) -> Result<CheckedTables, Fail> {
     let mini = Mini::new(alloc)?;
     let provider = mini.provider();
     let set = load_tables(&provider, "", None)?;
-    Ok(CheckedTables::from_set(alloc, set)?)
+    Ok(checked_set(alloc, set)?)
 }
 
 /// A collator by a text of rules.

@@ -2,7 +2,7 @@
 use crate::checked_root_rows::{collator_by_text, refused};
 use crate::order_rows::check_row;
 use icu_checked_root::CheckedRoot;
-use icu_checks::CheckedTables;
+use icu_checks::checked_set;
 use icu_entries::CollationElement32;
 use icu_provider::{
     CollationDiacritics, CollationJamo, CollationMetadata, CollationSpecialPrimaries, TableSet,
@@ -10,6 +10,7 @@ use icu_provider::{
 use icu_rule_tables::{RuleRefusal, Tailoring};
 use icu_script_reordering::ReorderingError;
 use icu_table_builder::{DataBuilder, OwnedData};
+use icu_well_formed::CheckedTables;
 use std::alloc::Global;
 use std::test::Fail;
 
@@ -90,7 +91,7 @@ fn grouped_tables(alloc: Global) -> Result<CheckedTables, Fail> {
         reordering: None,
         diacritics: CollationDiacritics::new(&DIACRITICS)?,
     };
-    Ok(CheckedTables::from_set(alloc, set)?)
+    Ok(checked_set(alloc, set)?)
 }
 
 #[test]

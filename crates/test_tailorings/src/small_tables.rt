@@ -1,5 +1,5 @@
 //! The tables of a small root, and collators by rules over it.
-use icu_checks::CheckedTables;
+use icu_checks::checked_set;
 use icu_collator::Collator;
 use icu_collator::options::{CollatorOptions, CollatorPreferences};
 use icu_entries::CollationElement32;
@@ -111,7 +111,7 @@ pub(crate) fn collator_by(alloc: Global, root: &OwnedData, text: &str) -> Result
         reordering: None,
         diacritics: CollationDiacritics::new(diacritics.as_slice())?,
     };
-    let tables = CheckedTables::from_set(alloc, set)?;
+    let tables = checked_set(alloc, set)?;
     Ok(Collator::from_checked_tables(
         alloc,
         tables,
