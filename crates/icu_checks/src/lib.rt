@@ -3,8 +3,8 @@
 #![tactic(auto)]
 
 mod check;
-pub mod checked;
+pub mod checked_tables;
 mod condition_group;
 mod violation;
 
-pub use checked::{checked_owned, checked_parts, checked_set};
+pub use checked_tables::{checked_owned, checked_parts, checked_set};

@@ -15,7 +15,7 @@ use Rattle.icu_well_formed.specs.ElementConditions.{is_tertiary_element}
 abbrev pub BeginsNot : (ℕ → List ℕ) → ℕ → ℕ → Type 0
 BeginsNot spell v w = v ≢ 0 → w ≢ 0 → v ≢ w → IsBeginning (spell v) (spell w) → ⊥
 
--- one of two weights is written as a beginning of the other
+-- one of two weights of four bytes is written as a beginning of the other
 abbrev pub AreOverlapping : ℕ → ℕ → Type 0
 AreOverlapping v w = IsBeginning (weight_bytes 4 v) (weight_bytes 4 w) ⊎ IsBeginning (weight_bytes 4 w) (weight_bytes 4 v)
 

@@ -3,7 +3,7 @@ use Rattle.std.proofs.Common.{subst}
 use Rattle.icu_provider.specs.OwnedTables.{owned_tables}
 use Rattle.icu_well_formed.specs.WellFormedTables.{IsTrueError}
 use Rattle.icu_checks.proofs.WellFormedLemmas.{error_not_well_formed}
-use Rattle.icu_checks.proofs.checked.checked_owned.Goals as goal
+use Rattle.icu_checks.proofs.checked_tables.checked_owned.Goals as goal
 
 pub returns-in-Err-clause-exact : goal.returns-in-Err-clause-exact
 returns-in-Err-clause-exact c =
