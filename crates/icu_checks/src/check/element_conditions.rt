@@ -57,7 +57,8 @@ fn primary_meets(tables: TableSet<'_>, condition: ReachableElementCondition, pri
         ReachableElementCondition::MiddleLead => {
             !is_middle(lead) || is_middle(lead_byte(tables.reorder(primary)))
         }
-        ReachableElementCondition::ImplicitLength => lead != IMPLICIT_LEAD || has_low_bytes(primary),
+        ReachableElementCondition::ImplicitLength => lead != IMPLICIT_LEAD
+            || has_low_bytes(primary),
         ReachableElementCondition::NumericLead => lead != tables.special.numeric_primary(),
         ReachableElementCondition::SharedLead => {
             is_apart(tables, IMPLICIT_LEAD, primary)

@@ -262,8 +262,16 @@ impl<'d> TablesJudge<'d> {
             → first_condition_failed (tables_in self.now.tables) element ≡ None }
     {
         element_meets(self.tables, ReachableElementCondition::Width, element)
-            && element_meets(self.tables, ReachableElementCondition::BackwardLead, element)
-            && element_meets(self.tables, ReachableElementCondition::TertiaryElement, element)
+            && element_meets(
+                self.tables,
+                ReachableElementCondition::BackwardLead,
+                element,
+            )
+            && element_meets(
+                self.tables,
+                ReachableElementCondition::TertiaryElement,
+                element,
+            )
             && self.passes_primary(element.primary())
     }
 
