@@ -39,7 +39,7 @@ NAMES = "the program `sort_names`, each of whose requests is refused"
 RATTLE = "the tests in tests/rattle, where no allocation is refused"
 WITHIN_RATTLE = "another call of the tests in tests/rattle, where no allocation is refused"
 # Calls that nothing makes: one on which no program stands yet (a look at the step that comes), and one that hands tables which come
-# one by one to `from_set`.
+# one by one to `checked_set`.
 NOTHING = "nothing"
 # The crate and the name of a call, behind its type where it has one, and the question of the driver that comes to it, or what else
 # makes it.
@@ -47,8 +47,8 @@ LEFT_OUT = {
     ("icu_collation_data", "collect_weights"): CHECK,
     ("icu_collation_data", "collect_weights_from"): CHECK,
     ("icu_checked_root", "CheckedRoot::new"): RATTLE,
-    ("icu_checks", "CheckedTables::from_owned"): PROGRAM,
-    ("icu_checks", "CheckedTables::new"): NOTHING,
+    ("icu_checks", "checked_owned"): PROGRAM,
+    ("icu_checks", "checked_parts"): NOTHING,
     ("icu_collator", "Collator::from_checked_tables"): RATTLE,
     ("icu_collator", "Collator::try_from_tables"): PROGRAM,
     ("icu_collator", "Collator::with_options"): RATTLE,

@@ -1,7 +1,7 @@
 //! The tables of a file, and collators by them.
 ghost use Rattle.std.specs.Prelude.{IfOk, IfErr};
 ghost use Rattle.icu_cldr.specs.Roots.{IsRoot, root_tables};
-ghost use Rattle.icu_checks.specs.WellFormedTables.{IsWellFormedTables};
+ghost use Rattle.icu_well_formed.specs.WellFormedTables.{IsWellFormedTables};
 ghost use Rattle.icu_collator.specs.Collators.{collation_kept, tables_kept};
 ghost use Rattle.collate_commands.specs.CollatorErrors.{IsCollatorError};
 ghost use Rattle.cldr_collators.specs.RootCollators.{ComparesAs};

@@ -2,9 +2,9 @@
 ghost use Rattle.std.specs.Prelude.{◌≡◌, IfOk};
 ghost use Rattle.icu_cldr.specs.Roots.{root_tables};
 ghost use Rattle.icu_rule_tables.specs.Tailorings.{SaysRules};
-ghost use Rattle.icu_checks.specs.WellFormedTables.{IsWellFormedTables};
+ghost use Rattle.icu_well_formed.specs.WellFormedTables.{IsWellFormedTables};
 ghost use Rattle.icu_collator.specs.Collators.{tables_kept};
-ghost use Rattle.icu_checks.specs.Checked.{checked_tables};
+ghost use Rattle.icu_well_formed.specs.Checked.{checked_tables};
 ghost use Rattle.cldr_collators.specs.RuledCollators.{ComparesByRules, ComparesByTables};
 
 use crate::asked_locale::refused_locale;
@@ -13,12 +13,13 @@ use crate::choice::Chosen;
 use crate::file_source::error_of;
 use collate_commands::ProgramError;
 use icu_checked_root::CheckedRoot;
-use icu_checks::CheckedTables;
+use icu_checks::checked_owned;
 use icu_cldr::CldrRoot;
 use icu_collator::Collator;
 use icu_entries::{DataError, DataErrorKind};
 use icu_options::Strength;
 use icu_rule_tables::{RuleRefusal, RuleTablesError, Tailoring};
+use icu_well_formed::CheckedTables;
 use named_files::refused_by;
 use std::alloc::Global;
 use std::fmt::Display;
@@ -134,7 +135,7 @@ pub fn checked_root_tables(
 ) -> Result<CheckedTables, ProgramError>
     ensures { IfOk result (λ tables. checked_tables tables ≡ root_tables root) }
 {
-    match CheckedTables::from_owned(alloc, root.into_tables()) {
+    match checked_owned(alloc, root.into_tables()) {
         Ok(tables) => Ok(tables),
         Err(error) => Err(error_of(alloc, file, error)),
     }

@@ -4,7 +4,7 @@ use Rattle.icu_entries.specs.declared.error.DataErrorKind.{DataErrorKind}
 use Rattle.icu_entries.specs.declared.error.DataErrorKind.TheVariants.{NoMemory}
 use Rattle.icu_options.specs.declared.settings.Strength.{Strength}
 use Rattle.icu_provider.specs.CollatorTables.{CollatorTables}
-use Rattle.icu_checks.specs.WellFormedTables.{IsWellFormedTables}
+use Rattle.icu_well_formed.specs.WellFormedTables.{IsWellFormedTables}
 use Rattle.icu_provider.specs.LoadedTables.{loaded_tables}
 use Rattle.icu_provider.specs.Requests.{Request}
 use Rattle.icu_mini.specs.declared.mini.Mini.{Mini}

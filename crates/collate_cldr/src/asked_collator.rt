@@ -1,7 +1,7 @@
 //! The collator that words ask for.
 
 ghost use Rattle.std.specs.Prelude.{IfOk};
-ghost use Rattle.icu_checks.specs.WellFormedTables.{IsWellFormedTables};
+ghost use Rattle.icu_well_formed.specs.WellFormedTables.{IsWellFormedTables};
 ghost use Rattle.icu_collator.specs.Collators.{tables_kept};
 
 use clap::ArgMatches;

@@ -1,6 +1,6 @@
 //! The answer to a command, by a collator.
 ghost use Rattle.std.specs.Prelude.{◌≡◌, ℕ, List, IfOk, IfErr, ◌++◌, ◌∷◌, [], chars, map};
-ghost use Rattle.icu_checks.specs.WellFormedTables.{IsWellFormedTables};
+ghost use Rattle.icu_well_formed.specs.WellFormedTables.{IsWellFormedTables};
 ghost use Rattle.icu_collator.specs.Collators.{collation_kept, tables_kept};
 ghost use Rattle.icu_index.specs.Listings.{listing_of, name_order};
 ghost use Rattle.icu_index.specs.NameIndexes.{index_collation, listing};

@@ -1,6 +1,6 @@
 //! Where the collators of a program come from.
 ghost use Rattle.std.specs.Prelude.{IfOk, IfErr, ℕ, List};
-ghost use Rattle.icu_checks.specs.WellFormedTables.{IsWellFormedTables};
+ghost use Rattle.icu_well_formed.specs.WellFormedTables.{IsWellFormedTables};
 ghost use Rattle.icu_collator.specs.Collators.{collation_kept, tables_kept};
 ghost use Rattle.icu_options.specs.declared.settings.Strength.{Strength};
 ghost use Rattle.icu_text_order.specs.Collations.{Collation};

@@ -3,7 +3,7 @@ use Rattle.std.specs.Prelude.{◌≡◌, ℕ, List, [], ◌⊎◌, None, Ok}
 use Rattle.icu_provider.specs.CollatorTables.{CollatorTables}
 use Rattle.icu_provider.specs.LoadedTables.{loaded_tables}
 use Rattle.icu_provider.specs.TableSets.{loads_of}
-use Rattle.icu_checks.specs.WellFormedTables.{IsWellFormedTables}
+use Rattle.icu_well_formed.specs.WellFormedTables.{IsWellFormedTables}
 use Rattle.icu_checked_root.specs.declared.checked_root.CheckedRoot.{CheckedRoot}
 use Rattle.icu_checked_root.specs.CheckedRoots.{IsRootOf}
 use Rattle.icu_checked_root.specs.StoredRoots.{stored_root}

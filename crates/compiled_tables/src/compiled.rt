@@ -1,7 +1,7 @@
 //! The tables that are asked for, as a file.
 
 ghost use Rattle.std.specs.Prelude.{◌≡◌, IfOk};
-ghost use Rattle.icu_checks.specs.Checked.{checked_tables};
+ghost use Rattle.icu_well_formed.specs.Checked.{checked_tables};
 ghost use Rattle.icu_table_file.specs.FileContents.{FileContents};
 ghost use Rattle.icu_table_file.specs.Origins.{contents_of};
 ghost use Rattle.compiled_tables.specs.WrittenFiles.{AreByRules, AreOfTailoring, AreWithRules, IsWrittenFile};
@@ -12,11 +12,12 @@ use cldr_collators::tailored_collator::{checked_root_tables, refused_by_check, t
 use cldr_collators::{LocaleRules, read_file, rules_of};
 use collate_commands::ProgramError;
 use icu_checked_root::CheckedRoot;
-use icu_checks::CheckedTables;
+use icu_checks::checked_set;
 use icu_entries::DataError;
 use icu_provider::load_tables;
 use icu_rule_tables::Tailoring;
 use icu_table_file::{Origin, write};
+use icu_well_formed::CheckedTables;
 use std::alloc::Global;
 use std::rt::Files;
 
@@ -25,7 +26,7 @@ fn checked_tailoring(alloc: Global, tailoring: &Tailoring<'_>) -> Result<Checked
     ensures { IfOk result (λ t. AreOfTailoring tailoring.now (checked_tables t)) }
 {
     let set = load_tables(tailoring, "", None)?;
-    CheckedTables::from_set(alloc, set)
+    checked_set(alloc, set)
 }
 
 /// The tables of rules over a root, checked.

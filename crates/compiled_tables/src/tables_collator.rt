@@ -1,7 +1,7 @@
 //! A collator by a table file.
 
 ghost use Rattle.std.specs.Prelude.{IfOk};
-ghost use Rattle.icu_checks.specs.WellFormedTables.{IsWellFormedTables};
+ghost use Rattle.icu_well_formed.specs.WellFormedTables.{IsWellFormedTables};
 ghost use Rattle.icu_collator.specs.Collators.{tables_kept};
 
 use cldr_collators::Chosen;

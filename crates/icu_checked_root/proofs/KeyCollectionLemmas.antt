@@ -19,7 +19,7 @@ use Rattle.icu_collation_data.proofs.SameEntryLemmas.{gives_alike}
 use Rattle.icu_collation_data.proofs.WalkLemmas.{fold_keeps, fold_back, walk_keeps, walk_back}
 use Rattle.icu_provider.specs.Diacritics.{is_replaced_index}
 use Rattle.icu_provider.specs.Tables.{Tables, is_jamo, jamo_base}
-use Rattle.icu_checks.specs.ReachableElements.{IsOfReachableDiacritic}
+use Rattle.icu_well_formed.specs.ReachableElements.{IsOfReachableDiacritic}
 use Rattle.icu_checked_root.specs.RootElements.{IsStatedBy, IsStatedInRoot, IsStatedByJamo, IsRootElement}
 use Rattle.icu_checked_root.specs.inner.KeyWindows.{element_key}
 use Rattle.icu_checked_root.specs.inner.KeyCollections.{stated_elements, with_key, with_keys, IsKeyOf, IsRootKey, IsStatedAtJamo, IsDiacriticAt, HoldsBelow, IsJamoKey, IsDiacriticKey}

@@ -21,8 +21,8 @@ use Rattle.icu_collation_data.proofs.EntryLemmas.{test_inside}
 use Rattle.icu_collation_data.proofs.ListLemmas.{weaker, all_where, of_member, all_first, all_second}
 use Rattle.icu_provider.specs.CollatorTables.{CollatorTables}
 use Rattle.icu_provider.specs.Tables.{is_jamo, jamo_base}
-use Rattle.icu_checks.specs.declared.condition.Condition.TheVariants as conditions
-use Rattle.icu_checks.specs.WellFormedTables.{IsWellFormedTables}
+use Rattle.icu_well_formed.specs.declared.condition.Condition.TheVariants as conditions
+use Rattle.icu_well_formed.specs.WellFormedTables.{IsWellFormedTables}
 use Rattle.icu_matches.specs.WellFormedEntries.{MeetAll, HasContext, IsWellFormedFrom, IsWellFormedMatch}
 use Rattle.icu_checked_root.specs.RootEntries.{root_entry}
 use Rattle.icu_checked_root.specs.inner.LedEntries.{AreWellFormedMatches, AreWellFormedContractions, IsWellFormedContraction}

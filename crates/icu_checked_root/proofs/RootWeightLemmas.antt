@@ -10,9 +10,9 @@ use Rattle.icu_entries.specs.Elements.{Element}
 use Rattle.icu_entries.specs.ElementConditions.{separator_primary}
 use Rattle.icu_collation_data.proofs.ListLemmas.{weaker, all_where, of_member, nothing_in, in_first, at_first, at_rest}
 use Rattle.icu_provider.specs.CollatorTables.{CollatorTables}
-use Rattle.icu_checks.specs.declared.condition.Condition.TheVariants as conditions
-use Rattle.icu_checks.specs.declared.condition.ReachableElementCondition.TheVariants.{Width}
-use Rattle.icu_checks.specs.WellFormedTables.{IsWellFormedTables}
+use Rattle.icu_well_formed.specs.declared.condition.Condition.TheVariants as conditions
+use Rattle.icu_well_formed.specs.declared.condition.ReachableElementCondition.TheVariants.{Width}
+use Rattle.icu_well_formed.specs.WellFormedTables.{IsWellFormedTables}
 use Rattle.icu_tailoring.specs.SymbolicElements.{tertiary_of}
 use Rattle.icu_tailoring.specs.TailoredRoots as roots
 use Rattle.icu_checked_root.specs.declared.key_window.KeyLevel.TheVariants.{Primary, Secondary, Tertiary}

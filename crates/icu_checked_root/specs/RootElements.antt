@@ -11,7 +11,7 @@ use Rattle.icu_collation_data.specs.CollectedWeights.{is_stated}
 use Rattle.icu_collation_data.specs.Reachable.{reachable_at, reachable_from}
 use Rattle.icu_provider.specs.Tables.{Tables, is_jamo}
 use Rattle.icu_provider.specs.ReachableTables.{jamo_entry}
-use Rattle.icu_checks.specs.ReachableElements.{IsOfReachableDiacritic}
+use Rattle.icu_well_formed.specs.ReachableElements.{IsOfReachableDiacritic}
 use Rattle.icu_tailoring.specs.SymbolicElements.{tertiary_of}
 
 -- An element that one of these entries states with a character. Those of entries for implicit weights (UTS #10,

@@ -1,6 +1,6 @@
 -- The root that checked tables have, as it is stored.
-use Rattle.icu_checks.specs.Checked.{checked_tables}
-use Rattle.icu_checks.specs.declared.checked.CheckedTables.{CheckedTables}
+use Rattle.icu_well_formed.specs.Checked.{checked_tables}
+use Rattle.icu_well_formed.specs.declared.checked.CheckedTables.{CheckedTables}
 use Rattle.icu_tailoring.specs.TailoredRoots.{Root}
 use Rattle.icu_checked_root.specs.RootEntries.{root_mappings_of}
 use Rattle.icu_checked_root.specs.inner.KeyWindows.{weights_by_keys}

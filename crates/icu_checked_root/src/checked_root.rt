@@ -1,7 +1,7 @@
 //! A root over checked tables.
 ghost use Rattle.std.specs.Prelude.{◌≡◌, [], IfOk, map};
 ghost use Rattle.std.specs.List.Sorted.{IsStrictlyIncreasing};
-ghost use Rattle.icu_checks.specs.Checked.{checked_tables};
+ghost use Rattle.icu_well_formed.specs.Checked.{checked_tables};
 ghost use Rattle.icu_symbolic_mappings.specs.StoredMappings.{root_mapping};
 ghost use Rattle.icu_tailoring.specs.declared.symbolic.SymbolicWeight.TheVariants.{Rooted};
 ghost use Rattle.icu_tailoring.specs.SymbolicElements.{ends_with_zero, is_same_weight};
@@ -21,12 +21,12 @@ use crate::key_window::{
 };
 use crate::level_weights::level_weights;
 use crate::root_mappings::root_mappings;
-use icu_checks::CheckedTables;
 use icu_entries::CollationElement;
 use icu_symbolic_mappings::{CharacterMapping, RootMappings};
 use icu_tailoring::SymbolicWeight;
 use icu_tailoring_numbers::RootLevels;
 use icu_weight_tree::RootWeights;
+use icu_well_formed::CheckedTables;
 use std::alloc::{AllocError, Global};
 
 /// A primary weight that is below those of all characters without one of their own, and above all others.
@@ -291,7 +291,7 @@ impl<'t> RootWeights for CheckedRoot<'t> {
 impl<'t> RootMappings for CheckedRoot<'t> {
     ghost mappings_of = { λ r. root_mappings_of (checked_tables r.tables.now).tables };
 
-    ghost use Rattle.icu_checks.specs.Checked.{checked_tables};
+    ghost use Rattle.icu_well_formed.specs.Checked.{checked_tables};
     ghost use Rattle.icu_checked_root.specs.RootEntries.{root_mappings_of};
 
     fn mappings(

@@ -7,12 +7,11 @@ ghost use Rattle.icu_collation_data.specs.CollectedWeights.{Adds, is_stated};
 ghost use Rattle.icu_collation_data.specs.DataConditions.{is_readable};
 ghost use Rattle.icu_collation_data.specs.StoredData.{data_of};
 ghost use Rattle.icu_provider.specs.Tables.{jamo_base};
-ghost use Rattle.icu_checks.specs.Checked.{checked_tables};
+ghost use Rattle.icu_well_formed.specs.Checked.{checked_tables};
 ghost use Rattle.icu_checked_root.specs.RootElements.{IsStatedInRoot};
 ghost use Rattle.icu_checked_root.specs.inner.KeyCollections.{HoldsBelow, IsDiacriticKey, IsJamoKey, IsKeyOf, IsRootKey, with_key, with_keys};
 
 use crate::key_window::element_key;
-use icu_checks::CheckedTables;
 use icu_collation_data::CollationData;
 use icu_collation_data::block_walk::visit_chars;
 use icu_collation_data::element_walk::{VisitElement, visit_elements};
@@ -20,6 +19,7 @@ use icu_collation_data::walk::{Visit, visit_from};
 use icu_entries::{CollationElement, CollationElement32, EntryKind};
 use icu_provider::diacritics::is_replaced_index;
 use icu_provider::jamo::JAMO_BASE;
+use icu_well_formed::CheckedTables;
 use std::alloc::{AllocError, Global};
 
 /// A visitor that collects keys.

@@ -3,16 +3,16 @@
 ghost use Rattle.std.specs.Prelude.{◌≡◌, ◌∷◌, [], map, IfOk};
 ghost use Rattle.icu_collation_data.specs.StoredData.{data_of};
 ghost use Rattle.icu_provider.specs.Tables.{diacritic_of};
-ghost use Rattle.icu_checks.specs.Checked.{checked_tables};
+ghost use Rattle.icu_well_formed.specs.Checked.{checked_tables};
 ghost use Rattle.icu_matches.specs.WellFormedEntries.{IsWellFormedFrom};
 ghost use Rattle.icu_symbolic_mappings.specs.StoredMappings.{root_mapping};
 ghost use Rattle.icu_checked_root.specs.RootEntries.{diacritic_mapping, root_entry, root_mappings_of};
 
 use crate::entry_mappings::{RootMapping, entry_mappings};
-use icu_checks::CheckedTables;
 use icu_entries::{CollationElement, CollationElement32};
 use icu_provider::jamo::{JAMO_BASE, JAMO_COUNT};
 use icu_symbolic_mappings::CharacterMapping;
+use icu_well_formed::CheckedTables;
 use std::alloc::{AllocError, Global};
 
 /// The secondary weight of a combining diacritic.

@@ -13,9 +13,9 @@ use Rattle.icu_collation_data.specs.Violations.{earlier}
 use Rattle.icu_collation_data.proofs.ImplicitLemmas.{implicit_passes}
 use Rattle.icu_provider.specs.Reorderings.{lead_byte}
 use Rattle.icu_provider.specs.CollatorTables.{CollatorTables, reorder}
-use Rattle.icu_checks.specs.declared.condition.ReachableElementCondition.{ReachableElementCondition}
-use Rattle.icu_checks.specs.declared.condition.ReachableElementCondition.TheVariants.{Width, BackwardLead, TertiaryElement, MiddleLead, ImplicitLength, NumericLead, SharedLead, SecondByte}
-use Rattle.icu_checks.specs.ElementConditions.{reachable_element_meets, element_conditions}
+use Rattle.icu_well_formed.specs.declared.condition.ReachableElementCondition.{ReachableElementCondition}
+use Rattle.icu_well_formed.specs.declared.condition.ReachableElementCondition.TheVariants.{Width, BackwardLead, TertiaryElement, MiddleLead, ImplicitLength, NumericLead, SharedLead, SecondByte}
+use Rattle.icu_well_formed.specs.ElementConditions.{reachable_element_meets, element_conditions}
 use Rattle.icu_checks.specs.inner.Violations.{violation_rank}
 use Rattle.icu_checks.specs.inner.EntryViolations.{first_condition_failed, of_element, after_element, mappings_violation, entry_violation, HasEndsTogether}
 use Rattle.icu_checks.proofs.ImplicitLemmas.{AreBytes, implicit_bytes, implicit_high, high_enough, where_ends}

@@ -1,13 +1,13 @@
 -- The parts of the check together.
-use Rattle.icu_checks.specs.declared.condition.Condition.{Condition}
-use Rattle.icu_checks.specs.declared.condition.Condition.TheVariants as conditions
-use Rattle.icu_checks.specs.declared.condition.PairCondition.{PairCondition}
-use Rattle.icu_checks.specs.declared.condition.PairCondition.TheVariants.{TertiaryElementWeights, Primaries, Secondaries, Tertiaries, Compression}
-use Rattle.icu_checks.specs.declared.condition.LeadCondition.TheVariants.{Separator, HighLead, ImplicitLead, NumericLead, LeadsApart, NumericWhole}
+use Rattle.icu_well_formed.specs.declared.condition.Condition.{Condition}
+use Rattle.icu_well_formed.specs.declared.condition.Condition.TheVariants as conditions
+use Rattle.icu_well_formed.specs.declared.condition.PairCondition.{PairCondition}
+use Rattle.icu_well_formed.specs.declared.condition.PairCondition.TheVariants.{TertiaryElementWeights, Primaries, Secondaries, Tertiaries, Compression}
+use Rattle.icu_well_formed.specs.declared.condition.LeadCondition.TheVariants.{Separator, HighLead, ImplicitLead, NumericLead, LeadsApart, NumericWhole}
 use Rattle.icu_provider.specs.CollatorTables.{CollatorTables}
-use Rattle.icu_checks.specs.LeadConditions.{LeadMeets}
+use Rattle.icu_well_formed.specs.LeadConditions.{LeadMeets}
 use Rattle.icu_checks.specs.inner.EntryViolations.{ReachableMeets}
-use Rattle.icu_checks.specs.WellFormedTables.{AreTables, HasDiacriticCount, Meets, IsWellFormedTables}
+use Rattle.icu_well_formed.specs.WellFormedTables.{AreTables, HasDiacriticCount, Meets, IsWellFormedTables}
 use Rattle.icu_checks.specs.inner.Checks.{LeadsMeet, PairsMeet}
 use Rattle.icu_checks.proofs.ComparedLevelLemmas.{meets_in}
 use Rattle.icu_checks.proofs.LevelMeets.{tertiary_element_meet, secondaries_meet, tertiaries_meet}

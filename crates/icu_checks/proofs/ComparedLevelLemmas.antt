@@ -22,8 +22,8 @@ use Rattle.icu_provider.specs.Reorderings.{lead_byte}
 use Rattle.icu_checks.specs.declared.check.weights.WeightList.{WeightList}
 use Rattle.icu_checks.specs.declared.check.weights.WeightList.TheVariants.{Primaries, Secondaries, Tertiaries, TertiaryElements, WithSecondary}
 use Rattle.icu_provider.specs.CollatorTables.{CollatorTables}
-use Rattle.icu_checks.specs.ElementConditions.{implicit_lead, is_tertiary_element}
-use Rattle.icu_checks.specs.ReachableElements.{IsElementBy}
+use Rattle.icu_well_formed.specs.ElementConditions.{implicit_lead, is_tertiary_element}
+use Rattle.icu_well_formed.specs.ReachableElements.{IsElementBy}
 use Rattle.icu_checks.specs.inner.EntryViolations.{MeetsIn, ReachableMeets}
 use Rattle.icu_checks.specs.inner.ComparedWeights.{left_aligned, nonzero, uncommon, compared_weight, IsReadBy}
 use Rattle.icu_collation_data.proofs.ViolationLemmas.{meets_readable}

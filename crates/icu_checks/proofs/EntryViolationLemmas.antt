@@ -17,13 +17,13 @@ use Rattle.icu_collation_data.specs.ReachableConditions.{meets, first_failing}
 use Rattle.icu_collation_data.proofs.ViolationLemmas.{find_passes, find_none, not_false, not_true, weaker_some, passes_meets, meets_readable, failing_fails, earlier-none, earlier-keeps}
 use Rattle.icu_collation_data.proofs.SameEntryLemmas.{failing_alike, readable_alike, elements_alike, failing_context, readable_context, elements_context, by_alike}
 use Rattle.icu_collation_data.proofs.ListLemmas.{weaker, all_members}
-use Rattle.icu_checks.specs.declared.condition.Condition.TheVariants as conditions
-use Rattle.icu_checks.specs.declared.condition.ReachableElementCondition.{ReachableElementCondition}
-use Rattle.icu_checks.specs.declared.condition.ReachableElementCondition.TheVariants.{Width, BackwardLead, TertiaryElement, MiddleLead, ImplicitLength, NumericLead, SharedLead, SecondByte}
+use Rattle.icu_well_formed.specs.declared.condition.Condition.TheVariants as conditions
+use Rattle.icu_well_formed.specs.declared.condition.ReachableElementCondition.{ReachableElementCondition}
+use Rattle.icu_well_formed.specs.declared.condition.ReachableElementCondition.TheVariants.{Width, BackwardLead, TertiaryElement, MiddleLead, ImplicitLength, NumericLead, SharedLead, SecondByte}
 use Rattle.icu_checks.specs.declared.violation.Violation.{Violation}
 use Rattle.icu_provider.specs.CollatorTables.{CollatorTables}
-use Rattle.icu_checks.specs.ReachableElements.{IsReachableBy, IsElementBy}
-use Rattle.icu_checks.specs.ElementConditions.{reachable_element_meets, element_conditions}
+use Rattle.icu_well_formed.specs.ReachableElements.{IsReachableBy, IsElementBy}
+use Rattle.icu_well_formed.specs.ElementConditions.{reachable_element_meets, element_conditions}
 use Rattle.icu_checks.specs.inner.Violations.{violation_rank, IsTrueViolation}
 use Rattle.icu_checks.specs.inner.EntryViolations.{of_element, first_condition_failed, element_violation, after_element, judged_element, elements_violation, of_entry, mappings_violation, entry_violation}
 

@@ -15,15 +15,15 @@ use Rattle.icu_collation_data.specs.Data.{Data}
 use Rattle.icu_entries.specs.Weights.{weight, implicit_weight}
 use Rattle.icu_collation_data.proofs.ViolationLemmas.{none_found, negated}
 use Rattle.icu_collation_data.proofs.ImplicitLemmas.{implicit_passes}
-use Rattle.icu_checks.specs.declared.condition.ReachableElementCondition.{ReachableElementCondition}
-use Rattle.icu_checks.specs.declared.condition.ReachableElementCondition.TheVariants.{Width, BackwardLead, TertiaryElement, MiddleLead, ImplicitLength, NumericLead, SharedLead, SecondByte}
+use Rattle.icu_well_formed.specs.declared.condition.ReachableElementCondition.{ReachableElementCondition}
+use Rattle.icu_well_formed.specs.declared.condition.ReachableElementCondition.TheVariants.{Width, BackwardLead, TertiaryElement, MiddleLead, ImplicitLength, NumericLead, SharedLead, SecondByte}
 use Rattle.icu_checks.specs.declared.violation.Violation.{Violation}
 use Rattle.icu_checks.specs.declared.check.weights.WeightList.{WeightList}
 use Rattle.icu_checks.specs.declared.check.weights.WeightList.TheVariants.{Primaries, Secondaries, Tertiaries, TertiaryElements, WithSecondary}
 use Rattle.icu_provider.specs.CollatorTables.{CollatorTables, is_forward, reorder, reorder_by, new_lead}
-use Rattle.icu_weights.proofs.LeadLemmas.{block_where_ends}
-use Rattle.icu_weights.specs.Leads.{is_middle}
-use Rattle.icu_checks.specs.ElementConditions.{implicit_lead, has_low_bytes, has_second_byte, is_apart, primary_meets, reachable_element_meets, element_conditions}
+use Rattle.icu_well_formed.proofs.LeadLemmas.{block_where_ends}
+use Rattle.icu_well_formed.specs.Leads.{is_middle}
+use Rattle.icu_well_formed.specs.ElementConditions.{implicit_lead, has_low_bytes, has_second_byte, is_apart, primary_meets, reachable_element_meets, element_conditions}
 use Rattle.icu_checks.specs.inner.EntryViolations.{first_condition_failed, elements_violation, entry_violation, is_taken_apart, HasEndsApart, ImplicitPasses}
 use Rattle.icu_checks.specs.inner.ComparedWeights.{compared_weight}
 

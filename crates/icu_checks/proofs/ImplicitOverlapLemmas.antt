@@ -19,16 +19,16 @@ use Rattle.icu_collation_data.specs.StoredData.{data_of}
 use Rattle.icu_provider.specs.Reorderings.{lead_byte}
 use Rattle.icu_provider.specs.StoredTables.{jamo_of}
 use Rattle.icu_provider.specs.Tables.{Tables, is_jamo}
-use Rattle.icu_checks.specs.declared.condition.Condition.TheVariants as conditions
-use Rattle.icu_checks.specs.declared.condition.PairCondition.TheVariants as of_pair
+use Rattle.icu_well_formed.specs.declared.condition.Condition.TheVariants as conditions
+use Rattle.icu_well_formed.specs.declared.condition.PairCondition.TheVariants as of_pair
 use Rattle.icu_checks.specs.declared.check.implicit_overlaps.ImplicitClash.{ImplicitClash}
 use Rattle.icu_provider.specs.declared.table_set.TableSet.{TableSet}
 use Rattle.icu_checks.specs.declared.check.weights.ComparedLevel.TheVariants.{Primary}
 use Rattle.icu_checks.specs.declared.check.weights.WeightList.TheVariants.{Primaries}
 use Rattle.icu_provider.specs.CollatorTables.{CollatorTables}
 use Rattle.icu_provider.specs.TableSets.{tables_in}
-use Rattle.icu_checks.specs.WellFormedTables.{MeetsBy, IsOverlapTable}
-use Rattle.icu_checks.specs.ReachableElements.{IsElementBy, IsOfEntryBy}
+use Rattle.icu_well_formed.specs.WellFormedTables.{MeetsBy, IsOverlapTable}
+use Rattle.icu_well_formed.specs.ReachableElements.{IsElementBy, IsOfEntryBy}
 use Rattle.icu_checks.specs.inner.ComparedLevels.{bytes_at}
 use Rattle.icu_checks.specs.inner.ComparedWeights.{IsWeightBy}
 use Rattle.icu_checks.specs.inner.ImplicitOverlaps.{is_for_implicit, IsImplicitBy, IsImplicitClash}

@@ -16,16 +16,16 @@ use Rattle.icu_entries.specs.Elements.{Element, common, of_secondary}
 use Rattle.icu_entries.specs.ElementConditions.{tertiary_of, has_shape, has_leads, has_secondary_lead, has_tertiary_lead}
 use Rattle.icu_collation_data.specs.Final.{final_elements}
 use Rattle.icu_collation_data.specs.Data.{homed}
-use Rattle.icu_checks.specs.declared.condition.Condition.TheVariants as conditions
-use Rattle.icu_checks.specs.declared.condition.ReachableElementCondition.TheVariants as of_element
-use Rattle.icu_checks.specs.declared.condition.PairCondition.TheVariants as of_pair
+use Rattle.icu_well_formed.specs.declared.condition.Condition.TheVariants as conditions
+use Rattle.icu_well_formed.specs.declared.condition.ReachableElementCondition.TheVariants as of_element
+use Rattle.icu_well_formed.specs.declared.condition.PairCondition.TheVariants as of_pair
 use Rattle.icu_checks.specs.declared.check.weights.WeightList.{WeightList}
 use Rattle.icu_checks.specs.declared.check.weights.WeightList.TheVariants.{Primaries, Secondaries, Tertiaries, TertiaryElements, WithSecondary}
 use Rattle.icu_provider.specs.CollatorTables.{CollatorTables}
-use Rattle.icu_checks.specs.ReachableElements.{IsElementBy, IsOfEntryBy, IsOfReachableDiacritic}
-use Rattle.icu_checks.specs.ElementConditions.{is_tertiary_element, is_high_tertiary_element}
+use Rattle.icu_well_formed.specs.ReachableElements.{IsElementBy, IsOfEntryBy, IsOfReachableDiacritic}
+use Rattle.icu_well_formed.specs.ElementConditions.{is_tertiary_element, is_high_tertiary_element}
 use Rattle.icu_checks.specs.inner.EntryViolations.{MeetsIn, ReachableMeets}
-use Rattle.icu_checks.specs.WellFormedTables.{AreTables, Meets}
+use Rattle.icu_well_formed.specs.WellFormedTables.{AreTables, Meets}
 use Rattle.icu_checks.specs.inner.PairViolations.{TertiaryElementsAreHigh}
 use Rattle.icu_checks.specs.inner.ComparedWeights.{left_aligned, compared_weight, IsWeightBy}
 use Rattle.icu_checks.proofs.CommonWeightLemmas.{HaveLeads, none_begins}

@@ -7,16 +7,16 @@ use Rattle.icu_entries.specs.Elements.{Element}
 use Rattle.icu_entries.specs.ElementConditions.{tertiary_of}
 use Rattle.icu_provider.specs.Reorderings.{lead_byte}
 use Rattle.icu_provider.specs.SpecialPrimaries.{is_compressible}
-use Rattle.icu_checks.specs.declared.condition.Condition.TheVariants as conditions
-use Rattle.icu_checks.specs.declared.condition.PairCondition.TheVariants as of_pair
+use Rattle.icu_well_formed.specs.declared.condition.Condition.TheVariants as conditions
+use Rattle.icu_well_formed.specs.declared.condition.PairCondition.TheVariants as of_pair
 use Rattle.icu_checks.specs.declared.check.weights.ComparedLevel.{ComparedLevel}
 use Rattle.icu_checks.specs.declared.check.weights.ComparedLevel.TheVariants.{Primary, Secondary, Tertiary}
 use Rattle.icu_checks.specs.declared.check.weights.WeightList.TheVariants.{Primaries, Secondaries, Tertiaries, TertiaryElements, WithSecondary}
 use Rattle.icu_provider.specs.CollatorTables.{CollatorTables, reorder}
-use Rattle.icu_checks.specs.PairConditions.{BeginsNot, PairMeets}
-use Rattle.icu_checks.specs.WellFormedTables.{EachPair, MeetsBy, IsOverlapTable}
+use Rattle.icu_well_formed.specs.PairConditions.{BeginsNot, PairMeets}
+use Rattle.icu_well_formed.specs.WellFormedTables.{EachPair, MeetsBy, IsOverlapTable}
 use Rattle.icu_checks.specs.inner.ComparedLevels.{list_of, overlap_condition, bytes_at}
-use Rattle.icu_checks.specs.ReachableElements.{IsElementBy}
+use Rattle.icu_well_formed.specs.ReachableElements.{IsElementBy}
 use Rattle.icu_checks.specs.inner.PairViolations.{IsClashTable}
 use Rattle.icu_checks.specs.inner.ComparedWeights.{IsWeightBy}
 use Rattle.icu_weights.proofs.BeginningLemmas.{moved_up_bytes}

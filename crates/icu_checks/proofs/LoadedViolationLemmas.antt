@@ -13,13 +13,13 @@ use Rattle.icu_collation_data.specs.StoredData.{data_of}
 use Rattle.icu_provider.specs.StoredTables.{jamo_of, diacritics_of}
 use Rattle.icu_collation_data.specs.Violations.{IsFreeOf, IsViolationAmong, IsReachableViolation}
 use Rattle.icu_collation_data.proofs.ViolationLemmas.{weaker_some, not_before, earlier-none}
-use Rattle.icu_checks.specs.declared.condition.ReachableElementCondition.{ReachableElementCondition}
+use Rattle.icu_well_formed.specs.declared.condition.ReachableElementCondition.{ReachableElementCondition}
 use Rattle.icu_checks.specs.declared.violation.Violation.{Violation}
 use Rattle.icu_provider.specs.declared.table_set.TableSet.{TableSet}
 use Rattle.icu_provider.specs.TableSets.{tables_in}
 use Rattle.icu_collation_data.specs.Violations.{earlier}
 use Rattle.icu_checks.specs.inner.Violations.{violation_rank, IsTrueViolation}
-use Rattle.icu_checks.specs.ElementConditions.{reachable_element_meets}
+use Rattle.icu_well_formed.specs.ElementConditions.{reachable_element_meets}
 use Rattle.icu_checks.specs.inner.EntryViolations.{of_element, element_violation, entry_violation, JamoPasses, DiacriticMeets, MeetsIn}
 use Rattle.icu_checks.specs.inner.PairViolations.{IsOutcome}
 use Rattle.icu_checks.proofs.EntryViolationLemmas.{passes_element, element_true}

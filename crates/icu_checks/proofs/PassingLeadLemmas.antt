@@ -17,10 +17,10 @@ use Rattle.icu_collation_data.specs.Violations.{earlier}
 use Rattle.icu_collation_data.proofs.ViolationLemmas.{none_found, negated}
 use Rattle.icu_provider.specs.Reorderings.{lead_byte}
 use Rattle.icu_provider.specs.CollatorTables.{CollatorTables}
-use Rattle.icu_checks.specs.declared.condition.ReachableElementCondition.{ReachableElementCondition}
-use Rattle.icu_checks.specs.declared.condition.ReachableElementCondition.TheVariants.{Width, BackwardLead, TertiaryElement, MiddleLead, ImplicitLength, NumericLead, SharedLead, SecondByte}
+use Rattle.icu_well_formed.specs.declared.condition.ReachableElementCondition.{ReachableElementCondition}
+use Rattle.icu_well_formed.specs.declared.condition.ReachableElementCondition.TheVariants.{Width, BackwardLead, TertiaryElement, MiddleLead, ImplicitLength, NumericLead, SharedLead, SecondByte}
 use Rattle.icu_checks.specs.declared.violation.Violation.{Violation}
-use Rattle.icu_checks.specs.ElementConditions.{has_second_byte, reachable_element_meets, element_conditions}
+use Rattle.icu_well_formed.specs.ElementConditions.{has_second_byte, reachable_element_meets, element_conditions}
 use Rattle.icu_checks.specs.inner.Violations.{violation_rank}
 use Rattle.icu_checks.specs.inner.EntryViolations.{first_condition_failed, judged_element, entry_violation, LeadPasses, AreLeadsPassing, PrimaryPasses}
 use Rattle.icu_checks.proofs.EntryViolationLemmas.{passes_element, without_own}

@@ -6,8 +6,8 @@ use Rattle.icu_levels.specs.ListOrder.{IsBeginning}
 use Rattle.icu_levels.specs.WeightBytes.{weight_bytes}
 use Rattle.icu_provider.specs.Reorderings.{lead_byte}
 use Rattle.icu_provider.specs.CollatorTables.{CollatorTables, reorder, new_lead}
-use Rattle.icu_checks.specs.ElementConditions.{implicit_lead, has_low_bytes}
-use Rattle.icu_checks.specs.LeadConditions.{TakesTogether}
+use Rattle.icu_well_formed.specs.ElementConditions.{implicit_lead, has_low_bytes}
+use Rattle.icu_well_formed.specs.LeadConditions.{TakesTogether}
 use Rattle.icu_weights.proofs.WrittenWeightLemmas.{same_first, same_weight}
 
 -- the first byte of a reordered weight

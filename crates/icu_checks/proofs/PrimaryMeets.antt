@@ -16,19 +16,19 @@ use Rattle.icu_collation_data.specs.Final.{final_elements}
 use Rattle.icu_provider.specs.Reorderings.{Reordering, lead_byte}
 use Rattle.icu_provider.specs.SpecialPrimaries.{is_compressible}
 use Rattle.icu_collation_data.specs.Data.{homed}
-use Rattle.icu_checks.specs.declared.condition.Condition.TheVariants as conditions
-use Rattle.icu_checks.specs.declared.condition.ReachableElementCondition.TheVariants.{Width, MiddleLead, ImplicitLength, SharedLead}
-use Rattle.icu_checks.specs.declared.condition.LeadCondition.TheVariants.{ImplicitLead, Separator, HighLead}
-use Rattle.icu_checks.specs.declared.condition.PairCondition.TheVariants as of_pair
+use Rattle.icu_well_formed.specs.declared.condition.Condition.TheVariants as conditions
+use Rattle.icu_well_formed.specs.declared.condition.ReachableElementCondition.TheVariants.{Width, MiddleLead, ImplicitLength, SharedLead}
+use Rattle.icu_well_formed.specs.declared.condition.LeadCondition.TheVariants.{ImplicitLead, Separator, HighLead}
+use Rattle.icu_well_formed.specs.declared.condition.PairCondition.TheVariants as of_pair
 use Rattle.icu_checks.specs.declared.check.weights.WeightList.TheVariants.{Primaries}
 use Rattle.icu_provider.specs.CollatorTables.{CollatorTables, reorder_by, reorder, new_lead}
-use Rattle.icu_checks.specs.ReachableElements.{IsElementBy, IsOfEntryBy}
-use Rattle.icu_checks.specs.ElementConditions.{implicit_lead, has_low_bytes, is_apart, primary_meets}
+use Rattle.icu_well_formed.specs.ReachableElements.{IsElementBy, IsOfEntryBy}
+use Rattle.icu_well_formed.specs.ElementConditions.{implicit_lead, has_low_bytes, is_apart, primary_meets}
 use Rattle.icu_checks.specs.inner.EntryViolations.{MeetsIn, ReachableMeets}
-use Rattle.icu_checks.specs.WellFormedTables.{AreTables, Meets}
-use Rattle.icu_checks.specs.LeadConditions.{LeadMeets}
-use Rattle.icu_weights.specs.Leads.{is_middle}
-use Rattle.icu_weights.proofs.LeadLemmas.{reordered-rest}
+use Rattle.icu_well_formed.specs.WellFormedTables.{AreTables, Meets}
+use Rattle.icu_well_formed.specs.LeadConditions.{LeadMeets}
+use Rattle.icu_well_formed.specs.Leads.{is_middle}
+use Rattle.icu_well_formed.proofs.LeadLemmas.{reordered-rest}
 use Rattle.icu_checks.proofs.PrimaryLemmas.{AreApart, none_begins, compress_alike}
 use Rattle.icu_checks.proofs.ComparedLevelLemmas.{meets_in, primary_kept, lead_explicit, first_of_three, implied, passes}
 use Rattle.icu_checks.proofs.LevelMeets.{Collected, IsReachableWeight, collected_at}

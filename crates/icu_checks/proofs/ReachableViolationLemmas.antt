@@ -11,11 +11,11 @@ use Rattle.icu_collation_data.specs.Reachable.{reachable_from, reachable_at, Eac
 use Rattle.icu_provider.specs.ReachableTables.{jamo_entry}
 use Rattle.icu_collation_data.specs.Violations.{IsViolationAmong, IsReachableViolation}
 use Rattle.icu_collation_data.proofs.ListLemmas.{of_member}
-use Rattle.icu_checks.specs.declared.condition.ReachableElementCondition.{ReachableElementCondition}
+use Rattle.icu_well_formed.specs.declared.condition.ReachableElementCondition.{ReachableElementCondition}
 use Rattle.icu_checks.specs.declared.violation.Violation.{Violation}
 use Rattle.icu_provider.specs.CollatorTables.{CollatorTables}
-use Rattle.icu_checks.specs.ReachableElements.{IsReachableBy, IsOfEntryBy}
-use Rattle.icu_checks.specs.ElementConditions.{reachable_element_meets}
+use Rattle.icu_well_formed.specs.ReachableElements.{IsReachableBy, IsOfEntryBy}
+use Rattle.icu_well_formed.specs.ElementConditions.{reachable_element_meets}
 use Rattle.icu_checks.specs.inner.Violations.{IsTrueViolation}
 use Rattle.icu_checks.specs.inner.EntryViolations.{entry_violation, MeetsIn}
 use Rattle.icu_checks.proofs.EntryViolationLemmas.{entry_none, entry_true}

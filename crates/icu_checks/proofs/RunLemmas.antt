@@ -18,13 +18,13 @@ use Rattle.icu_collation_data.specs.ReachableConditions.{first_failing}
 use Rattle.icu_collation_data.specs.Violations.{earlier}
 use Rattle.icu_collation_data.proofs.ViolationLemmas.{none_found, negated}
 use Rattle.icu_collation_data.proofs.RunLemmas.{ordinal_rises}
-use Rattle.icu_weights.proofs.LeadLemmas.{replaced, stays, lead-with_lead}
+use Rattle.icu_well_formed.proofs.LeadLemmas.{replaced, stays, lead-with_lead}
 use Rattle.icu_provider.specs.Reorderings.{Reordering, lead_byte, reordered}
 use Rattle.icu_provider.specs.SpecialPrimaries.{is_compressible}
 use Rattle.icu_provider.specs.CollatorTables.{CollatorTables, is_forward, reorder}
-use Rattle.icu_checks.specs.declared.condition.ReachableElementCondition.{ReachableElementCondition}
-use Rattle.icu_checks.specs.declared.condition.ReachableElementCondition.TheVariants.{Width, BackwardLead, TertiaryElement, MiddleLead, ImplicitLength, NumericLead, SharedLead, SecondByte}
-use Rattle.icu_checks.specs.ElementConditions.{implicit_lead, has_low_bytes, has_second_byte, primary_meets, reachable_element_meets, element_conditions}
+use Rattle.icu_well_formed.specs.declared.condition.ReachableElementCondition.{ReachableElementCondition}
+use Rattle.icu_well_formed.specs.declared.condition.ReachableElementCondition.TheVariants.{Width, BackwardLead, TertiaryElement, MiddleLead, ImplicitLength, NumericLead, SharedLead, SecondByte}
+use Rattle.icu_well_formed.specs.ElementConditions.{implicit_lead, has_low_bytes, has_second_byte, primary_meets, reachable_element_meets, element_conditions}
 use Rattle.icu_checks.specs.inner.EntryViolations.{first_condition_failed, entry_violation, KeepsLeadTogether}
 use Rattle.icu_checks.proofs.EntryViolationLemmas.{passes_element, without_own}
 

@@ -7,8 +7,8 @@ use Rattle.icu_provider.specs.declared.reordering.CollationReordering.{Collation
 use Rattle.icu_provider.specs.Reorderings.{reordered, lead_byte}
 use Rattle.icu_provider.specs.SpecialPrimaries.{is_compressible}
 use Rattle.icu_provider.specs.StoredTables.{reordering_of, special_of}
-use Rattle.icu_checks.specs.declared.condition.Condition.TheVariants as conditions
-use Rattle.icu_checks.specs.declared.condition.PairCondition.TheVariants.{Compression}
+use Rattle.icu_well_formed.specs.declared.condition.Condition.TheVariants as conditions
+use Rattle.icu_well_formed.specs.declared.condition.PairCondition.TheVariants.{Compression}
 use Rattle.icu_provider.specs.declared.table_set.TableSet.{TableSet}
 use Rattle.icu_checks.specs.declared.check.weights.ComparedLevel.{ComparedLevel}
 use Rattle.icu_checks.specs.declared.check.weights.WeightList.{WeightList}
@@ -18,7 +18,7 @@ use Rattle.icu_provider.specs.TableSets.{tables_in}
 use Rattle.icu_weights.specs.Alike.{CompressAlike, CompressApart}
 use Rattle.icu_weights.specs.Overlaps.{Overlaps}
 use Rattle.icu_checks.specs.inner.ComparedLevels.{list_of, bytes_at}
-use Rattle.icu_checks.specs.WellFormedTables.{MeetsBy}
+use Rattle.icu_well_formed.specs.WellFormedTables.{MeetsBy}
 use Rattle.icu_checks.specs.inner.ComparedWeights.{IsWeightBy, Adds}
 use Rattle.icu_checks.specs.inner.PairViolations.{IsListedWeight, AreListed, HoldsAll, HoldsLevel, AreClashing, ListCompressesAlike}
 use Rattle.icu_checks.proofs.CollectLemmas.{special_none, metadata_none, reordering_none}

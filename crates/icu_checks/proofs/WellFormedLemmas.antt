@@ -4,10 +4,10 @@ use Rattle.icu_entries.specs.declared.error.DataError.{DataError}
 use Rattle.icu_entries.specs.declared.error.DataErrorKind.{DataErrorKind}
 use Rattle.icu_entries.specs.declared.error.DataErrorKind.TheVariants as kinds
 use Rattle.icu_entries.specs.declared.error.DataTable.{DataTable}
-use Rattle.icu_checks.specs.declared.condition.Condition.{Condition}
-use Rattle.icu_checks.specs.declared.condition.Condition.TheVariants as conditions
+use Rattle.icu_well_formed.specs.declared.condition.Condition.{Condition}
+use Rattle.icu_well_formed.specs.declared.condition.Condition.TheVariants as conditions
 use Rattle.icu_provider.specs.CollatorTables.{CollatorTables}
-use Rattle.icu_checks.specs.WellFormedTables.{Meets, MeetsBy, IsWellFormedTables, FailsBy, IsTrueError}
+use Rattle.icu_well_formed.specs.WellFormedTables.{Meets, MeetsBy, IsWellFormedTables, FailsBy, IsTrueError}
 
 -- a condition that holds does so as far as any table takes part
 pub meets_by : (all : CollatorTables) (condition : Condition) (table : DataTable) → Meets condition all → MeetsBy condition table all

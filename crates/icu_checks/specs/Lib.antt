@@ -1,8 +1,2 @@
-pub mod ReachableElements
-pub mod ElementConditions
-pub mod PairConditions
-pub mod LeadConditions
-pub mod WellFormedTables
-pub mod WellFormedProps
-pub mod Checked
+pub mod TableParts
 pub mod inner

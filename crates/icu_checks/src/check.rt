@@ -5,8 +5,8 @@ ghost use Rattle.icu_collation_data.specs.StoredData.{data_of};
 ghost use Rattle.icu_provider.specs.StoredTables.{reordering_of};
 ghost use Rattle.icu_provider.specs.TableSets.{tables_in};
 ghost use Rattle.icu_checks.specs.inner.Violations.{IsTrueViolation};
-ghost use Rattle.icu_checks.specs.WellFormedTables.{HasAscendingContexts, IsReordering, AreTables, HasDiacriticCount, IsWellFormedTables};
-ghost use Rattle.icu_checks.specs.LeadConditions.{LeadMeets};
+ghost use Rattle.icu_well_formed.specs.WellFormedTables.{HasAscendingContexts, IsReordering, AreTables, HasDiacriticCount, IsWellFormedTables};
+ghost use Rattle.icu_well_formed.specs.LeadConditions.{LeadMeets};
 ghost use Rattle.icu_checks.specs.inner.PairViolations.{IsOutcome};
 ghost use Rattle.icu_checks.specs.inner.Checks.{LeadsMeet, PairsMeet};
 ghost use Rattle.icu_checks.specs.inner.ListedWeights.{HoldsEach};
@@ -26,19 +26,20 @@ mod reachable_violations;
 pub(crate) mod tertiary_violations;
 pub(crate) mod weights;
 
+use crate::check::lead_conditions::lead_meets;
 use crate::check::listed_weights::ListedWeights;
 use crate::check::overlap_violations::level_violation;
 use crate::check::primary_violations::primary_violation;
 use crate::check::reachable_violations::reachable_violation;
 use crate::check::tertiary_violations::tertiary_violation;
 use crate::check::weights::ComparedLevel;
-use crate::condition::{Condition, LeadCondition};
-use crate::violation::Violation;
+use crate::violation::{Violation, table_of_lead};
 use icu_collation_data::CollationData;
 use icu_collation_data::violation::earlier;
 use icu_entries::DataTable;
 use icu_provider::diacritics::OPTIMIZED_DIACRITICS_MAX_COUNT;
 use icu_provider::{CollationReordering, TableSet};
+use icu_well_formed::condition::{Condition, LeadCondition};
 use std::alloc::{AllocError, Global};
 
 /// The violation of a condition on lead bytes.
@@ -46,12 +47,12 @@ fn lead_violation(tables: TableSet<'_>, condition: LeadCondition) -> Option<Viol
     ensures none { result ≡ None → LeadMeets condition (tables_in tables.entry) }
     ensures some { IfSome result (IsTrueViolation (tables_in tables.entry)) }
 {
-    if condition.holds(tables) {
+    if lead_meets(tables, condition) {
         None
     } else {
         Some(Violation {
             condition: Condition::Lead(condition),
-            table: condition.table(),
+            table: table_of_lead(condition),
         })
     }
 }

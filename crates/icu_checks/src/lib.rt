@@ -1,10 +1,10 @@
-//! The tables of a collator, checked together: the conditions that speak of several tables, and the tables that meet
-//! them.
+//! The check of all tables of a collator together: it accepts exactly those that meet the conditions of
+//! `icu_well_formed`, and names one that fails.
 #![tactic(auto)]
 
 mod check;
-pub mod checked;
-pub mod condition;
+pub mod checked_tables;
+mod condition_group;
 mod violation;
 
-pub use checked::CheckedTables;
+pub use checked_tables::{checked_owned, checked_parts, checked_set};

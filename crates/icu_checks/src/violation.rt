@@ -1,10 +1,11 @@
 ghost use Rattle.std.specs.Prelude.{◌≡◌, ◌<◌};
 ghost use Rattle.icu_checks.specs.inner.Violations.{violation_rank};
-ghost use Rattle.icu_checks.specs.WellFormedTables.{table_rank, reported_kind, later, table_of_element, table_of_lead};
+ghost use Rattle.icu_well_formed.specs.WellFormedTables.{table_rank, reported_kind, later, table_of_element, table_of_lead};
 
-use crate::condition::{Condition, LeadCondition, ReachableElementCondition};
+use crate::condition_group::group_of;
 use icu_collation_data::violation::Ranked;
 use icu_entries::{DataError, DataTable};
+use icu_well_formed::condition::{Condition, LeadCondition, ReachableElementCondition};
 
 /// A condition that fails, and the table by which it is named.
 #[derive(Clone, Copy)]
@@ -27,34 +28,30 @@ pub(crate) fn later(a: DataTable, b: DataTable) -> DataTable
     if table_rank(a) < table_rank(b) { b } else { a }
 }
 
-impl ReachableElementCondition {
-    /// The table that it speaks of beside an element's own.
-    pub(crate) fn table(self) -> DataTable
-        ensures { result ≡ table_of_element self }
-    {
-        match self {
-            ReachableElementCondition::BackwardLead => DataTable::Metadata,
-            ReachableElementCondition::MiddleLead | ReachableElementCondition::SharedLead =>
-                DataTable::Reordering,
-            ReachableElementCondition::NumericLead | ReachableElementCondition::SecondByte => {
-                DataTable::SpecialPrimaries
-            }
-            ReachableElementCondition::Width
-            | ReachableElementCondition::TertiaryElement
-            | ReachableElementCondition::ImplicitLength => DataTable::Root,
+/// The table that a condition on one element speaks of beside the element's own.
+pub(crate) fn table_of_element(condition: ReachableElementCondition) -> DataTable
+    ensures { result ≡ table_of_element condition }
+{
+    match condition {
+        ReachableElementCondition::BackwardLead => DataTable::Metadata,
+        ReachableElementCondition::MiddleLead | ReachableElementCondition::SharedLead =>
+            DataTable::Reordering,
+        ReachableElementCondition::NumericLead | ReachableElementCondition::SecondByte => {
+            DataTable::SpecialPrimaries
         }
+        ReachableElementCondition::Width
+        | ReachableElementCondition::TertiaryElement
+        | ReachableElementCondition::ImplicitLength => DataTable::Root,
     }
 }
 
-impl LeadCondition {
-    /// The table that it is named by.
-    pub(crate) fn table(self) -> DataTable
-        ensures { result ≡ table_of_lead self }
-    {
-        match self {
-            LeadCondition::NumericWhole => DataTable::SpecialPrimaries,
-            _ => DataTable::Reordering,
-        }
+/// The table that a condition on lead bytes is named by.
+pub(crate) fn table_of_lead(condition: LeadCondition) -> DataTable
+    ensures { result ≡ table_of_lead condition }
+{
+    match condition {
+        LeadCondition::NumericWhole => DataTable::SpecialPrimaries,
+        _ => DataTable::Reordering,
     }
 }
 
@@ -63,7 +60,7 @@ impl Ranked for Violation {
 
     #[tactic(auto, unfolding(crate::specs::inner::Violations::violation_rank))]
     fn rank(self) -> u32 {
-        self.condition.group().index() * 8 + table_rank(self.table)
+        group_of(self.condition).index() * 8 + table_rank(self.table)
     }
 }
 

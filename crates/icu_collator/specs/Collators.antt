@@ -6,7 +6,7 @@ use Rattle.icu_options.specs.declared.options.CollatorPreferences.{CollatorPrefe
 use Rattle.icu_entries.specs.declared.error.DataError.{DataError}
 use Rattle.icu_provider.specs.Loads.{Loads}
 use Rattle.icu_provider.specs.Requests.{Request}
-use Rattle.icu_checks.specs.Checked.{checked_tables}
+use Rattle.icu_well_formed.specs.Checked.{checked_tables}
 use Rattle.icu_provider.specs.CollatorTables.{CollatorTables}
 use Rattle.icu_provider.specs.LoadedTables.{loaded_tables}
 use Rattle.icu_weighting.specs.Collations.{Collation}

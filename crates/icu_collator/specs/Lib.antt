@@ -13,7 +13,7 @@ pub use Rattle.icu_text_order.specs.TextOrder
 pub use Rattle.icu_options.specs.Settings
 pub use Rattle.icu_options.specs.Merge
 pub use Rattle.icu_provider.specs.CollatorTables
-pub use Rattle.icu_checks.specs.WellFormedTables
+pub use Rattle.icu_well_formed.specs.WellFormedTables
 pub use Rattle.icu_provider.specs.LoadedTables
 pub use Rattle.icu_elements.specs.CollationElements
 pub use Rattle.icu_text_order.specs.Levels

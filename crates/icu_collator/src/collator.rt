@@ -6,8 +6,8 @@ ghost use Rattle.icu_options.specs.Merge.{merge};
 ghost use Rattle.icu_options.specs.FlaggedSettings.{values_of};
 ghost use Rattle.icu_options.specs.Metadata.{metadata_settings, is_backward};
 ghost use Rattle.icu_entries.specs.declared.error.DataErrorKind.TheVariants.{NoMemory};
-ghost use Rattle.icu_checks.specs.Checked.{checked_tables};
-ghost use Rattle.icu_checks.specs.WellFormedTables.{IsWellFormedTables, IsTrueError};
+ghost use Rattle.icu_well_formed.specs.Checked.{checked_tables};
+ghost use Rattle.icu_well_formed.specs.WellFormedTables.{IsWellFormedTables, IsTrueError};
 ghost use Rattle.icu_provider.specs.OwnedTables.{owned_tables};
 ghost use Rattle.icu_cursor.specs.Cursors.{cursor_reading};
 ghost use Rattle.icu_elements.specs.Reading.{element_tables, reading_of};
@@ -27,7 +27,7 @@ ghost use Rattle.unicode_normalization.specs.Forms.{nfd};
 use crate::handled::{HandledText, PlainText};
 use crate::key_text::{HandledKeyText, PlainKeyText};
 use crate::steady_text::SteadyText;
-use icu_checks::CheckedTables;
+use icu_checks::{checked_owned, checked_set};
 use icu_cursor::{
     Boundaries, CharFacts, CursorTables, ElementCursor, Kept, KeptFacts, NamedCharacters,
 };
@@ -44,6 +44,7 @@ use icu_provider::{CollationProvider, OwnedTables, load_tables};
 use icu_text_keys::TableCompression;
 use icu_text_keys::compression::first_asked;
 use icu_weighting::{key_form, last_variable};
+use icu_well_formed::CheckedTables;
 use std::alloc::{AllocError, Global};
 
 /// Compares texts by a language's rules (UTS #10). Owns copies of its tables, which were checked
@@ -99,7 +100,7 @@ impl Collator {
             ≡ merge options preferences.entry (metadata_settings (tables_kept c).bits)) }
     {
         let loaded = load_tables(provider, preferences.locale, preferences.collation_type)?;
-        let tables = CheckedTables::from_set(alloc, loaded)?;
+        let tables = checked_set(alloc, loaded)?;
         Collator::from_checked_tables(alloc, tables, preferences, options)
     }
 
@@ -127,7 +128,7 @@ impl Collator {
         ensures settings { IfOk result (λ c. settings_kept c
             ≡ merge options preferences.entry (metadata_settings (tables_kept c).bits)) }
     {
-        let tables = CheckedTables::from_owned(alloc, tables)?;
+        let tables = checked_owned(alloc, tables)?;
         Collator::from_checked_tables(alloc, tables, preferences, options)
     }
 

@@ -52,7 +52,7 @@ pub mod comparison {
 
 /// Where the tables of collators come from, the check that they pass, and what builds them.
 pub mod provider {
-    pub use icu_checks::CheckedTables;
+    pub use icu_checks::{checked_owned, checked_parts, checked_set};
     pub use icu_collation_data::{
         CodePointTable, CollationData, Context, ContextMapping, ContextTable,
     };
@@ -63,6 +63,7 @@ pub mod provider {
         MetadataFields, OwnedTables, TableSet, load_tables,
     };
     pub use icu_table_builder::{DataBuilder, DataVectors, OwnedData};
+    pub use icu_well_formed::CheckedTables;
 }
 
 /// What a user prefers beside the options that a caller names.

@@ -15,7 +15,7 @@ use Rattle.icu_provider.specs.Tables.{Tables, diacritic_of}
 use Rattle.icu_collation_data.specs.Final.{final_elements}
 use Rattle.icu_collation_data.proofs.ListLemmas.{all_members, of_member, weaker}
 use Rattle.icu_provider.specs.CollatorTables.{CollatorTables}
-use Rattle.icu_checks.specs.WellFormedTables.{IsWellFormedTables}
+use Rattle.icu_well_formed.specs.WellFormedTables.{IsWellFormedTables}
 use Rattle.icu_elements.specs.TextElements.{Reading, elements_of}
 use Rattle.icu_elements.specs.TextParts.{is_replaced, IsOfDiacritic, IsOfNumber, IsTextElement}
 use Rattle.icu_elements.specs.ReachableTexts.{IsReachableElement, IsNumberElement, IsReachableOrNumber, collator_reading}

@@ -19,10 +19,10 @@ use Rattle.icu_collation_data.specs.Data.{Data, HomedEntry, homed, plain_of}
 use Rattle.icu_provider.specs.Tables.{Tables, entry_of}
 use Rattle.icu_collation_data.proofs.ListLemmas.{all_members, of_member}
 use Rattle.icu_collation_data.proofs.EntryLemmas.{test_inside}
-use Rattle.icu_checks.specs.declared.condition.Condition.TheVariants as conditions
+use Rattle.icu_well_formed.specs.declared.condition.Condition.TheVariants as conditions
 use Rattle.icu_provider.specs.CollatorTables.{CollatorTables}
-use Rattle.icu_checks.specs.WellFormedTables.{IsWellFormedTables}
-use Rattle.icu_checks.specs.Checked.{checked_tables}
+use Rattle.icu_well_formed.specs.WellFormedTables.{IsWellFormedTables}
+use Rattle.icu_well_formed.specs.Checked.{checked_tables}
 use Rattle.icu_elements.specs.declared.element_tables.ElementTables.{ElementTables}
 use Rattle.icu_matches.specs.WellFormedEntries.{MeetAll, IsWellFormedFrom, IsWellFormedMatch}
 use Rattle.icu_elements.specs.inner.Readable.{AreReadable}

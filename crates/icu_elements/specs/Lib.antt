@@ -12,9 +12,9 @@ pub use Rattle.icu_collation_data.specs.CodePointTables
 pub use Rattle.icu_collation_data.specs.StoredData
 pub use Rattle.icu_provider.specs.StoredTables
 pub use Rattle.icu_provider.specs.CollatorTables
-pub use Rattle.icu_checks.specs.Checked
-pub use Rattle.icu_checks.specs.WellFormedTables
-pub use Rattle.icu_checks.specs.ReachableElements
+pub use Rattle.icu_well_formed.specs.Checked
+pub use Rattle.icu_well_formed.specs.WellFormedTables
+pub use Rattle.icu_well_formed.specs.ReachableElements
 pub use Rattle.icu_matches.specs.Matches
 pub use Rattle.icu_matches.specs.WellFormedEntries
 pub mod TextElements

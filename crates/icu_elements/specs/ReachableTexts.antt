@@ -7,8 +7,8 @@ use Rattle.icu_entries.specs.declared.error.DataTable.{DataTable}
 use Rattle.icu_entries.specs.Elements.{Element, of_primary}
 use Rattle.icu_provider.specs.Tables.{Tables}
 use Rattle.icu_provider.specs.CollatorTables.{CollatorTables}
-use Rattle.icu_checks.specs.WellFormedTables.{IsWellFormedTables}
-use Rattle.icu_checks.specs.ReachableElements.{IsElementBy}
+use Rattle.icu_well_formed.specs.WellFormedTables.{IsWellFormedTables}
+use Rattle.icu_well_formed.specs.ReachableElements.{IsElementBy}
 use Rattle.icu_elements.specs.TextElements.{Reading, elements_of}
 use Rattle.icu_elements.specs.TextParts.{AreDigits}
 use Rattle.icu_elements.specs.TextElementLaws.{IsText}

@@ -2,7 +2,7 @@
 use Rattle.icu_provider.specs.Tables.{Tables}
 use Rattle.icu_elements.specs.declared.element_tables.ElementTables.{ElementTables}
 use Rattle.icu_elements.specs.declared.text_reading.TextReading.{TextReading}
-use Rattle.icu_checks.specs.Checked.{checked_tables}
+use Rattle.icu_well_formed.specs.Checked.{checked_tables}
 use Rattle.icu_elements.specs.TextElements.{Reading}
 
 -- the tables that elements are read from

@@ -5,14 +5,14 @@ ghost use Rattle.icu_provider.specs.Tables.{entry_of, diacritic_of};
 ghost use Rattle.icu_collation_data.specs.Data.{homed};
 ghost use Rattle.icu_entries.specs.Entries.{kind_of};
 ghost use Rattle.icu_collation_data.specs.StoredData.{data_of};
-ghost use Rattle.icu_checks.specs.Checked.{checked_tables};
+ghost use Rattle.icu_well_formed.specs.Checked.{checked_tables};
 ghost use Rattle.icu_matches.specs.WellFormedEntries.{IsWellFormedFrom};
 
 use crate::matched_alone::matched_alone;
-use icu_checks::CheckedTables;
 use icu_collation_data::CollationData;
 use icu_entries::{CollationElement32, EntryKind};
 use icu_provider::jamo::{JAMO_BASE, JAMO_COUNT};
+use icu_well_formed::CheckedTables;
 use std::alloc::Global;
 
 /// The tables that elements are read from: root, tailoring, jamo and diacritics, checked together.

@@ -2,7 +2,7 @@
 
 ghost use Rattle.std.specs.Prelude.{◌≡◌, ◌<◌, ℕ, length, slice_index_or, IfOk};
 ghost use Rattle.icu_collation_data.specs.CodePointTables.{IsCodePointTable};
-ghost use Rattle.icu_checks.specs.Checked.{checked_tables};
+ghost use Rattle.icu_well_formed.specs.Checked.{checked_tables};
 ghost use Rattle.icu_elements.specs.TextElements.{Reading};
 ghost use Rattle.icu_facts.specs.BoundaryTables.{boundary_reading};
 
@@ -10,7 +10,7 @@ use crate::boundaries::Boundaries;
 use crate::char_facts::CharFacts;
 use crate::lone_blocks::LoneBlocks;
 use crate::word_blocks::{BLOCK_LEN, WordBlocks};
-use icu_checks::CheckedTables;
+use icu_well_formed::CheckedTables;
 use std::alloc::{AllocError, Global};
 
 /// What is kept of a character.

@@ -1,7 +1,7 @@
 //! What is known of all characters.
 
 ghost use Rattle.std.specs.Prelude.{◌≡◌, ◌+◌, ◌≤◌, ◌<◌, length, true, IfOk, OnOk};
-ghost use Rattle.icu_checks.specs.Checked.{checked_tables};
+ghost use Rattle.icu_well_formed.specs.Checked.{checked_tables};
 ghost use Rattle.icu_elements.specs.TextElements.{Reading};
 ghost use Rattle.icu_facts.specs.BoundaryTables.{boundary_reading};
 ghost use Rattle.icu_facts.specs.KeptFacts.{AreTrueFacts};
@@ -13,7 +13,7 @@ use crate::char_facts::CharFacts;
 use crate::char_words::{CharWords, Kept};
 use crate::joined_pairs::{KeptPair, kept_pairs, pair_slots};
 use crate::read_char::{facts_of, own_facts};
-use icu_checks::CheckedTables;
+use icu_well_formed::CheckedTables;
 use std::alloc::{AllocError, Global};
 
 /// What is known of all characters: facts of U+0000 to U+037F and of the jamo, U+1100 to U+11FF, of which syllables

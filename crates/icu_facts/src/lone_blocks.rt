@@ -3,7 +3,7 @@
 
 ghost use Rattle.std.specs.Prelude.{◌≡◌, ◌<◌, ◌≤◌, ◌+◌, ◌*◌, ℕ, true, false, Option, option_map, slice_index_or, IfSome, IsTrue, IfOk};
 ghost use Rattle.std.specs.List.{list_all};
-ghost use Rattle.icu_checks.specs.Checked.{checked_tables};
+ghost use Rattle.icu_well_formed.specs.Checked.{checked_tables};
 ghost use Rattle.icu_collation_data.specs.StoredData.{data_of};
 ghost use Rattle.icu_entries.specs.Entries.{kind_of};
 ghost use Rattle.icu_elements.specs.TextElements.{Reading};
@@ -12,9 +12,9 @@ ghost use Rattle.icu_facts.specs.inner.LoneEntries.{is_lone_kind, LoneStored};
 ghost use Rattle.icu_facts.specs.inner.LoneTables.{AreLoneTailored};
 ghost use Rattle.icu_collation_data.specs.Data.{Data};
 
-use icu_checks::CheckedTables;
 use icu_collation_data::CollationData;
 use icu_entries::{CollationElement32, EntryKind};
+use icu_well_formed::CheckedTables;
 use std::alloc::{AllocError, Global};
 
 /// Whether an entry has no context, and isn't a digit's: what it gives is the same wherever its character stands.

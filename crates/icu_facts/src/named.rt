@@ -3,11 +3,11 @@
 ghost use Rattle.std.specs.Prelude.{◌≡◌, ◌<◌, ◌+◌, ◌*◌, ℕ, false, length, option_map, IfOk, OnOk};
 ghost use Rattle.icu_collation_data.specs.StoredData.{data_of};
 ghost use Rattle.icu_facts.specs.MappingCharacters.{Ascends, HasMappingCharacters, HasTailoringCharacters, KeepsCharacters};
-ghost use Rattle.icu_checks.specs.Checked.{checked_tables};
+ghost use Rattle.icu_well_formed.specs.Checked.{checked_tables};
 ghost use Rattle.icu_facts.specs.inner.NamedBlocks.{AreInBlocks};
 
-use icu_checks::CheckedTables;
 use icu_collation_data::CollationData;
+use icu_well_formed::CheckedTables;
 use std::alloc::{AllocError, Global};
 
 /// How many blocks of 64 code points there are.

@@ -1,6 +1,6 @@
 //! The fingerprint of tables and settings.
 
-ghost use Rattle.icu_checks.specs.Checked.{checked_tables};
+ghost use Rattle.icu_well_formed.specs.Checked.{checked_tables};
 ghost use Rattle.icu_fingerprint.specs.FormLaws.{HasFingerprint};
 ghost use Rattle.icu_fingerprint.specs.FingerprintForms.{collation_made, setting_words, version_words};
 ghost use Rattle.icu_fingerprint.specs.inner.HandedWords.{HandsWords, HandsTables};
@@ -12,8 +12,8 @@ use crate::form_words::{put, put_u16s, put_u32s};
 use crate::setting_numbers::{
     bit_number, case_number, group_number, handling_number, strength_number,
 };
-use icu_checks::CheckedTables;
 use icu_options::{CollatorOptions, CollatorOptionsBitField, CollatorPreferences, merged_options};
+use icu_well_formed::CheckedTables;
 use sha2::{Digest, Sha256};
 
 /// The versions that keys depend on: that of the form and of the bytes of keys, which rises with each change of either,

@@ -5,7 +5,7 @@ use Rattle.std.specs.declared.cmp.Ordering.{Ordering}
 use Rattle.std.specs.declared.cmp.Ordering.TheVariants.{Less, Equal, Greater}
 use Rattle.icu_collator.specs.declared.collator.CollatorBorrowed.{CollatorBorrowed}
 use Rattle.icu_collator.specs.Collators.{tables_borrowed, collation_borrowed}
-use Rattle.icu_checks.specs.WellFormedTables.{IsWellFormedTables}
+use Rattle.icu_well_formed.specs.WellFormedTables.{IsWellFormedTables}
 use Rattle.icu_encodings.proofs.Utf8Lemmas.{utf8_scalars}
 use Rattle.icu_encodings.specs.DecodedTexts.{utf8_text}
 use Rattle.icu_levels.specs.ListOrder.{list_order}

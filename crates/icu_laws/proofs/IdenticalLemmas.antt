@@ -10,7 +10,7 @@ use Rattle.icu_levels.proofs.KeepLemmas.{tie}
 use Rattle.icu_levels.proofs.Order.{tied_lists}
 use Rattle.icu_collation_data.proofs.CharLemmas.{scalar_below}
 use Rattle.icu_collation_data.proofs.ListLemmas.{weaker}
-use Rattle.icu_checks.specs.WellFormedTables.{IsWellFormedTables}
+use Rattle.icu_well_formed.specs.WellFormedTables.{IsWellFormedTables}
 use Rattle.icu_elements.specs.TextElementLaws.{IsText}
 use Rattle.icu_elements.specs.TextParts.{IsDecomposed}
 use Rattle.icu_elements.proofs.DecomposedLemmas.{IsDecomposedText-nfd}

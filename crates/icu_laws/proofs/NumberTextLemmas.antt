@@ -16,7 +16,7 @@ use Rattle.icu_levels.proofs.Order.{same_number}
 use Rattle.icu_levels.proofs.ReorderedNumbers.{moved_runs_by_value}
 use Rattle.icu_entries.specs.Elements.{Element, of_primary}
 use Rattle.icu_provider.specs.CollatorTables.{reorder}
-use Rattle.icu_checks.specs.WellFormedTables.{IsWellFormedTables}
+use Rattle.icu_well_formed.specs.WellFormedTables.{IsWellFormedTables}
 use Rattle.icu_elements.specs.TextElements.{digit_of_char, elements_of, number_elements}
 use Rattle.icu_elements.specs.TextElementLaws.{IsText}
 use Rattle.icu_elements.proofs.DecomposedLemmas.{IsDecomposedText-nfd}

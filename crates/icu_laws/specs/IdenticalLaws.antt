@@ -7,7 +7,7 @@ use Rattle.icu_options.specs.declared.settings.Strength.TheVariants.{Identical}
 use Rattle.icu_levels.specs.Identical.{identical_level, identical_rank}
 use Rattle.icu_levels.specs.Keys.{Determines}
 use Rattle.icu_levels.specs.ListOrder.{list_order}
-use Rattle.icu_checks.specs.WellFormedTables.{IsWellFormedTables}
+use Rattle.icu_well_formed.specs.WellFormedTables.{IsWellFormedTables}
 use Rattle.icu_elements.specs.TextElementLaws.{IsText}
 use Rattle.icu_weighting.specs.Collations.{Collation}
 use Rattle.icu_text_order.specs.TextOrder.{text_order, text_key}

@@ -3,7 +3,7 @@ use Rattle.std.specs.Prelude.{ℕ, ◌≡◌, ◌≢◌, true, List}
 use Rattle.std.specs.Ordering.{nat_cmp}
 use Rattle.icu_options.specs.declared.settings.Strength.TheVariants.{Identical}
 use Rattle.icu_levels.specs.Numbers.{value_of}
-use Rattle.icu_checks.specs.WellFormedTables.{IsWellFormedTables}
+use Rattle.icu_well_formed.specs.WellFormedTables.{IsWellFormedTables}
 use Rattle.icu_elements.specs.TextElementLaws.{IsText}
 use Rattle.icu_weighting.specs.Collations.{Collation}
 use Rattle.icu_text_order.specs.TextOrder.{text_order}

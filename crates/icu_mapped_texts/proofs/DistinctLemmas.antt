@@ -6,7 +6,7 @@ use Rattle.std.proofs.lemmas.Bool.{and_parts, cases_Bool, false≢true}
 use Rattle.std.proofs.lemmas.List.Elements.{recursion_from_All}
 use Rattle.icu_collation_data.specs.Contexts.{is_before, ascend_from}
 use Rattle.icu_collation_data.specs.Data.{Data, Mapping, Context, context_in, no_context, mapping_entry}
-use Rattle.icu_checks.specs.WellFormedTables.{HasAscendingContexts}
+use Rattle.icu_well_formed.specs.WellFormedTables.{HasAscendingContexts}
 use Rattle.icu_matches.proofs.CharacterOrderLemmas.{before_trans, not_before_itself, same_lists}
 
 -- no two mappings have the same characters

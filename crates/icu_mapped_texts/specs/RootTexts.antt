@@ -5,7 +5,7 @@ use Rattle.std.specs.List.{AllByRecursion}
 use Rattle.icu_entries.specs.Elements.{Element, of_secondary}
 use Rattle.icu_collation_data.specs.Data.{Data}
 use Rattle.icu_provider.specs.Tables.{Tables}
-use Rattle.icu_checks.specs.WellFormedTables.{HasAscendingContexts}
+use Rattle.icu_well_formed.specs.WellFormedTables.{HasAscendingContexts}
 use Rattle.icu_elements.specs.TextElements.{non_numeric_reading, elements_of}
 use Rattle.icu_checked_root.specs.RootEntries.{entry_elements, root_mappings_of}
 use Rattle.icu_tailoring.specs.declared.symbolic.SymbolicElement.{SymbolicElement}

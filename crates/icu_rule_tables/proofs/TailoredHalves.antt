@@ -7,7 +7,7 @@ use Rattle.icu_table_builder.specs.OwnedData.{owned_data, vectors_data}
 use Rattle.icu_table_builder.specs.declared.data_vectors.OwnedData.{OwnedData}
 use Rattle.icu_provider.specs.OwnedTables.{owned_tables}
 use Rattle.icu_provider.specs.declared.table_set.OwnedTables.{OwnedTables}
-use Rattle.icu_checks.specs.declared.checked.CheckedTables.{CheckedTables}
+use Rattle.icu_well_formed.specs.declared.checked.CheckedTables.{CheckedTables}
 use Rattle.icu_rule_tables.specs.Tailorings.{root_beside, tailored_tables}
 use Rattle.icu_rule_tables.specs.declared.own_jamo.OwnJamo.{OwnJamo}
 use Rattle.icu_rule_tables.specs.declared.tailoring.Tailoring.{Tailoring}

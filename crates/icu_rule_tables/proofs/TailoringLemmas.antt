@@ -6,8 +6,8 @@ use Rattle.icu_table_builder.specs.OwnedData.{owned_data}
 use Rattle.icu_provider.specs.Reorderings.{Reordering}
 use Rattle.icu_provider.specs.CollatorTables.{CollatorTables}
 use Rattle.icu_collation_data.specs.Data.{Data}
-use Rattle.icu_checks.specs.declared.checked.CheckedTables.{CheckedTables}
-use Rattle.icu_checks.specs.Checked.{checked_tables}
+use Rattle.icu_well_formed.specs.declared.checked.CheckedTables.{CheckedTables}
+use Rattle.icu_well_formed.specs.Checked.{checked_tables}
 use Rattle.icu_rules.specs.declared.statement.RuleSetting.{RuleSetting}
 use Rattle.icu_rule_tables.specs.RuleSettings.{tailored_bits}
 use Rattle.icu_rule_tables.specs.Tailorings.{jamo_beside, root_beside, tables_by_rules}

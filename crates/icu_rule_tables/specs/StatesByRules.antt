@@ -1,6 +1,6 @@
 -- What rules say over the root of checked tables, and the numbers of their weights.
 use Rattle.std.specs.Prelude.{ℕ, List}
-use Rattle.icu_checks.specs.Checked.{checked_tables}
+use Rattle.icu_well_formed.specs.Checked.{checked_tables}
 use Rattle.icu_rules.specs.declared.rules.PlacedStatement.{PlacedStatement}
 use Rattle.icu_tailoring.specs.Rules.{rules_of}
 use Rattle.icu_tailoring.specs.TailoredRoots.{RootMapping, Root}

@@ -7,8 +7,8 @@ use Rattle.icu_provider.specs.CollatorTables.{CollatorTables}
 use Rattle.icu_provider.specs.OwnedTables.{owned_diacritics, owned_jamo, owned_reordering}
 use Rattle.icu_provider.specs.Reorderings.{Reordering}
 use Rattle.icu_provider.specs.Tables.{Tables}
-use Rattle.icu_checks.specs.Checked.{checked_tables}
-use Rattle.icu_checks.specs.declared.checked.CheckedTables.{CheckedTables}
+use Rattle.icu_well_formed.specs.Checked.{checked_tables}
+use Rattle.icu_well_formed.specs.declared.checked.CheckedTables.{CheckedTables}
 use Rattle.icu_rules.specs.declared.rules.PlacedStatement.{PlacedStatement}
 use Rattle.icu_rules.specs.declared.statement.RuleSetting.{RuleSetting}
 use Rattle.icu_rules.specs.Statements.{SpellStatements}

@@ -6,7 +6,7 @@ ghost use Rattle.icu_collation_data.specs.StoredData.{data_of};
 ghost use Rattle.icu_provider.specs.StoredTables.{jamo_of};
 ghost use Rattle.icu_table_builder.specs.OwnedData.{owned_data, vectors_data};
 ghost use Rattle.icu_provider.specs.OwnedTables.{owned_jamo};
-ghost use Rattle.icu_checks.specs.Checked.{checked_tables};
+ghost use Rattle.icu_well_formed.specs.Checked.{checked_tables};
 ghost use Rattle.icu_tailored_entries.specs.TailoredJamo.{TailorsJamo};
 ghost use Rattle.icu_rule_tables.specs.RuleErrors.{IsErrorOfRules};
 ghost use Rattle.icu_rule_tables.specs.StatesByRules.{mappings_beside};
@@ -14,7 +14,6 @@ ghost use Rattle.icu_rule_tables.specs.Tailorings.{jamo_beside, root_beside};
 
 use crate::rule_tables_error::{RuleTablesError, table_error};
 use icu_checked_root::CheckedRoot;
-use icu_checks::CheckedTables;
 use icu_collation_data::CollationData;
 use icu_entries::DataTable;
 use icu_provider::{CollationJamo, OwnedJamo};
@@ -22,6 +21,7 @@ use icu_symbolic_mappings::Mappings;
 use icu_table_builder::{DataVectors, OwnedData};
 use icu_tailored_entries::{JamoVectors, tailored_jamo};
 use icu_tailoring_numbers::TailoringNumbers;
+use icu_well_formed::CheckedTables;
 use std::alloc::Global;
 
 /// A table of conjoining jamo, and the root to whose lists its entries refer.

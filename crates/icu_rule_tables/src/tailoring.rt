@@ -19,7 +19,6 @@ use crate::rule_tables_error::{RuleTablesError, table_error};
 use crate::tailored_metadata::tailored_metadata;
 use crate::text_rules::rules_of_text;
 use icu_checked_root::CheckedRoot;
-use icu_checks::CheckedTables;
 use icu_entries::{DataError, DataErrorKind, DataTable};
 use icu_provider::{
     CollationMetadata, CollationReordering, FixedLoads, FixedProvider, OwnedDiacritics,
@@ -30,6 +29,7 @@ use icu_rules::Rules;
 use icu_table_builder::{DataVectors, OwnedData};
 use icu_tailored_entries::{tailored_data, tailored_diacritics};
 use icu_tailoring_numbers::TailoringNumbers;
+use icu_well_formed::CheckedTables;
 use std::alloc::Global;
 
 /// The tables of a collation by rules, over the root of checked tables (UTS #35 part 5, "Collation Tailorings"). It is

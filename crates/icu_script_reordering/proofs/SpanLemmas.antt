@@ -2,8 +2,8 @@
 use Rattle.std.proofs.Common.{◌≡◌, ℕ, ◌+◌, ◌-◌, ◌*◌, ◌/◌, ◌%◌, ◌^◌, ◌<◌, ◌≤◌, List, length, get_or, refl, subst, ◌∙◌, arith, below_more}
 use Rattle.std.proofs.lemmas.List.{get_or_default}
 use Rattle.icu_provider.specs.Reorderings.{Reordering, reordered}
-use Rattle.icu_weights.specs.Leads.{TakesBlock}
-use Rattle.icu_weights.proofs.LeadLemmas.{reordered-rest}
+use Rattle.icu_well_formed.specs.Leads.{TakesBlock}
+use Rattle.icu_well_formed.proofs.LeadLemmas.{reordered-rest}
 use Rattle.icu_script_reordering.specs.declared.script_groups.ScriptSpan.{ScriptSpan}
 use Rattle.icu_script_reordering.specs.ReorderedSpans.{IsInSpan, KeepsWeightOrder, PutsBefore, IsReorderedBy}
 use Rattle.icu_script_reordering.specs.inner.CarriedSpans.{CarriesUpTo, CarriesTo, IsCarried, IsReorderedTo}

@@ -1,7 +1,7 @@
 //! Whether a reordering puts groups in an order.
 ghost use Rattle.std.specs.Prelude.{◌≡◌, ◌≤◌, ◌<◌, ◌+◌, ◌/◌, ◌-◌, IsTrue, IfSome};
 ghost use Rattle.icu_provider.specs.StoredTables.{reordering_of};
-ghost use Rattle.icu_weights.specs.Leads.{TakesBlock};
+ghost use Rattle.icu_well_formed.specs.Leads.{TakesBlock};
 ghost use Rattle.icu_script_reordering.specs.ReorderedSpans.{IsReorderedBy};
 ghost use Rattle.icu_script_reordering.specs.inner.CarriedSpans.{CarriesTo, IsCarried};
 
@@ -10,7 +10,7 @@ use icu_provider::CollationReordering;
 use icu_weights::leads::reordered_lead;
 
 /// Whether a reordering takes all primary weights with these two highest bytes to a lead byte.
-#[tactic(auto, using(icu_weights::proofs::LeadLemmas::takes_block))]
+#[tactic(auto, using(icu_well_formed::proofs::LeadLemmas::takes_block))]
 fn takes_block(reordering: CollationReordering<'_>, high: u32, to: u32) -> bool
     requires { (256 ≤ high) × (high < 65536) }
     ensures { IsTrue result → TakesBlock (reordering_of reordering.entry) high to }

@@ -17,7 +17,7 @@ use Rattle.icu_search.specs.PieceLaws.{BeginsPieces, search_behind, HasMatchesOf
 use Rattle.icu_search.proofs.RestLemmas.{comes_to-now}
 use Rattle.icu_search.proofs.SearchPartLemmas.{leading_at, part_has_places}
 use Rattle.icu_search.proofs.SearchCutLemmas.{cut_rests}
-use Rattle.icu_checks.specs.WellFormedTables.{IsWellFormedTables}
+use Rattle.icu_well_formed.specs.WellFormedTables.{IsWellFormedTables}
 use Rattle.icu_elements.specs.TextElementLaws.{IsText}
 use Rattle.icu_search.specs.LeastMatches.{span}
 use Rattle.icu_search.proofs.FoundLemmas.{matches_itself, test_from_match}

@@ -4,7 +4,7 @@ use Rattle.ucd_normal.specs.declared.forms.Form.TheVariants.{Nfd}
 use Rattle.unicode_normalization.specs.Decompose.{decompose}
 use Rattle.icu_elements.specs.TextElements.{Reading}
 use Rattle.icu_boundaries.specs.Cuts.{IsBoundary}
-use Rattle.icu_checks.specs.WellFormedTables.{IsWellFormedTables}
+use Rattle.icu_well_formed.specs.WellFormedTables.{IsWellFormedTables}
 use Rattle.icu_elements.specs.TextElementLaws.{IsText}
 use Rattle.icu_text_order.specs.TextOrder.{reading_by}
 use Rattle.icu_search.specs.SearchPlaces.{leads}

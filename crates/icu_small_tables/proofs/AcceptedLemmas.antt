@@ -7,9 +7,9 @@ use Rattle.icu_entries.specs.declared.error.DataErrorKind.TheVariants.{NoMemory}
 use Rattle.icu_collation_data.specs.Data.{Data}
 use Rattle.icu_table_builder.specs.Building.{SaysOfCharacters}
 use Rattle.icu_provider.specs.CollatorTables.{CollatorTables}
-use Rattle.icu_checks.specs.declared.checked.CheckedTables.{CheckedTables}
-use Rattle.icu_checks.specs.Checked.{checked_tables}
-use Rattle.icu_checks.specs.WellFormedTables.{IsWellFormedTables}
+use Rattle.icu_well_formed.specs.declared.checked.CheckedTables.{CheckedTables}
+use Rattle.icu_well_formed.specs.Checked.{checked_tables}
+use Rattle.icu_well_formed.specs.WellFormedTables.{IsWellFormedTables}
 use Rattle.icu_small_tables.specs.SmallTables.{small_root, with_root, AreSmallTables, IsLowLead}
 use Rattle.icu_small_tables.proofs.SmallTableLemmas.{same_tables_are_well_formed}
 

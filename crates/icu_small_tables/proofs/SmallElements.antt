@@ -11,22 +11,22 @@ use Rattle.icu_collation_data.specs.Data.{Data}
 use Rattle.icu_levels.specs.ListOrder.{IsBeginning}
 use Rattle.icu_levels.specs.WeightBytes.{weight_bytes}
 use Rattle.icu_provider.specs.SpecialPrimaries.{is_compressible}
-use Rattle.icu_checks.specs.declared.condition.ReachableElementCondition.{ReachableElementCondition}
-use Rattle.icu_checks.specs.declared.condition.ReachableElementCondition.TheVariants as of_element
-use Rattle.icu_checks.specs.declared.condition.PairCondition.{PairCondition}
-use Rattle.icu_checks.specs.declared.condition.PairCondition.TheVariants as of_pair
-use Rattle.icu_checks.specs.declared.condition.LeadCondition.{LeadCondition}
-use Rattle.icu_checks.specs.declared.condition.LeadCondition.TheVariants as of_lead
-use Rattle.icu_checks.specs.ElementConditions.{has_low_bytes, is_tertiary_element, reachable_element_meets}
-use Rattle.icu_checks.specs.LeadConditions.{LeadMeets}
+use Rattle.icu_well_formed.specs.declared.condition.ReachableElementCondition.{ReachableElementCondition}
+use Rattle.icu_well_formed.specs.declared.condition.ReachableElementCondition.TheVariants as of_element
+use Rattle.icu_well_formed.specs.declared.condition.PairCondition.{PairCondition}
+use Rattle.icu_well_formed.specs.declared.condition.PairCondition.TheVariants as of_pair
+use Rattle.icu_well_formed.specs.declared.condition.LeadCondition.{LeadCondition}
+use Rattle.icu_well_formed.specs.declared.condition.LeadCondition.TheVariants as of_lead
+use Rattle.icu_well_formed.specs.ElementConditions.{has_low_bytes, is_tertiary_element, reachable_element_meets}
+use Rattle.icu_well_formed.specs.LeadConditions.{LeadMeets}
 use Rattle.icu_checks.specs.inner.EntryViolations.{is_taken_apart, HasEndsApart}
 use Rattle.icu_provider.specs.Reorderings.{lead_byte}
-use Rattle.icu_checks.specs.PairConditions.{BeginsNot, PairMeets}
+use Rattle.icu_well_formed.specs.PairConditions.{BeginsNot, PairMeets}
 use Rattle.icu_collation_data.proofs.ListLemmas.{all_members, of_member}
 use Rattle.icu_checks.proofs.ComparedLevelLemmas.{passes}
 use Rattle.icu_checks.proofs.EntryViolationLemmas.{passes_element}
 use Rattle.icu_checks.proofs.ImplicitLemmas.{AreBytes, implicit_bytes, implicit_pass}
-use Rattle.icu_weights.specs.Leads.{is_middle}
+use Rattle.icu_well_formed.specs.Leads.{is_middle}
 use Rattle.icu_weights.proofs.BeginningLemmas.{four_bytes_begin}
 use Rattle.icu_weights.proofs.WrittenWeightLemmas.{same_first}
 use Rattle.icu_small_tables.specs.declared.small_root.TheConstants.{LETTER_B}

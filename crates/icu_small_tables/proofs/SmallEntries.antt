@@ -21,7 +21,7 @@ use Rattle.icu_collation_data.specs.DataConditions.{is_inside, has_short_mapping
 use Rattle.icu_collation_data.specs.Final.{final_elements}
 use Rattle.icu_collation_data.specs.Reachable.{reachable_from, reachable_contraction, reachable_digit}
 use Rattle.icu_collation_data.specs.ReachableConditions.{meets}
-use Rattle.icu_checks.specs.ReachableElements.{IsReachableBy, IsElementBy, IsOfEntryBy, IsOfReachableDiacritic}
+use Rattle.icu_well_formed.specs.ReachableElements.{IsReachableBy, IsElementBy, IsOfEntryBy, IsOfReachableDiacritic}
 use Rattle.icu_provider.specs.ReachableTables.{jamo_entry}
 use Rattle.icu_provider.specs.Tables.{is_jamo}
 use Rattle.icu_collation_data.proofs.CharLemmas.{scalar_below}

@@ -14,9 +14,9 @@ use Rattle.icu_collation_data.specs.Data.{Context, Data}
 use Rattle.icu_provider.specs.CollatorTables.{CollatorTables}
 use Rattle.icu_provider.specs.Diacritics.{is_diacritic_weight, is_replaced_index}
 use Rattle.icu_provider.specs.SpecialPrimaries.{ends_below, is_numeric_lead}
-use Rattle.icu_checks.specs.declared.condition.Condition.{Condition}
-use Rattle.icu_checks.specs.declared.condition.Condition.TheVariants as conditions
-use Rattle.icu_checks.specs.WellFormedTables.{Meets, AreTables, IsWellFormedTables}
+use Rattle.icu_well_formed.specs.declared.condition.Condition.{Condition}
+use Rattle.icu_well_formed.specs.declared.condition.Condition.TheVariants as conditions
+use Rattle.icu_well_formed.specs.WellFormedTables.{Meets, AreTables, IsWellFormedTables}
 use Rattle.icu_small_tables.specs.SmallTables.{context_of_a, grave, small_entry, with_root, small_tables, AreSmallTables, IsLowLead}
 use Rattle.icu_small_tables.proofs.SmallElements.{lead_meets, element_is_well_formed, pair_is_well_formed}
 use Rattle.icu_small_tables.proofs.SmallEntries.{root_by, entry_is_well_formed, mappings_are_plain, reachable_element}

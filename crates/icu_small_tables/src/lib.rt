@@ -2,8 +2,8 @@
 #![tactic(auto)]
 
 ghost use Rattle.std.specs.Prelude.{◌≡◌, ℕ, IfOk, IfErr};
-ghost use Rattle.icu_checks.specs.Checked.{checked_tables};
-ghost use Rattle.icu_checks.specs.WellFormedTables.{IsWellFormedTables};
+ghost use Rattle.icu_well_formed.specs.Checked.{checked_tables};
+ghost use Rattle.icu_well_formed.specs.WellFormedTables.{IsWellFormedTables};
 ghost use Rattle.icu_provider.specs.CollatorTables.{CollatorTables};
 ghost use Rattle.icu_table_builder.specs.OwnedData.{owned_data};
 ghost use Rattle.icu_provider.specs.TableSets.{tables_in};
@@ -11,12 +11,13 @@ ghost use Rattle.icu_small_tables.specs.SmallTables.{small_tables, with_root, Ar
 
 mod small_root;
 
-use icu_checks::CheckedTables;
+use icu_checks::checked_set;
 use icu_entries::{DataError, DataErrorKind};
 use icu_provider::{
     CollationDiacritics, CollationJamo, CollationMetadata, CollationSpecialPrimaries, TableSet,
 };
 use icu_table_builder::OwnedData;
+use icu_well_formed::CheckedTables;
 use std::alloc::Global;
 
 /// The conditions on all tables of a collator can be met: the small tables meet them, and so do tables that say the
@@ -52,5 +53,5 @@ pub fn checked_small_tables(alloc: Global) -> Result<CheckedTables, DataError>
     ensures says { IfOk result (λ t. AreSmallTables (checked_tables t)) }
 {
     let root = small_root::root(alloc)?;
-    CheckedTables::from_set(alloc, set_with(&root, 0x10))
+    checked_set(alloc, set_with(&root, 0x10))
 }

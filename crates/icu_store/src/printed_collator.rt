@@ -1,18 +1,18 @@
 //! A collator together with its fingerprint.
 
 ghost use Rattle.std.specs.Prelude.{◌≡◌, IfErr, IfOk};
-ghost use Rattle.icu_checks.specs.Checked.{checked_tables};
+ghost use Rattle.icu_well_formed.specs.Checked.{checked_tables};
 ghost use Rattle.icu_collator.specs.Collators.{collation_kept};
 ghost use Rattle.icu_entries.specs.declared.error.DataErrorKind.TheVariants.{NoMemory};
 ghost use Rattle.icu_fingerprint.specs.FingerprintForms.{collation_made};
 ghost use Rattle.icu_fingerprint.specs.FormLaws.{HasFingerprint};
 ghost use Rattle.icu_store.specs.Stores.{printed_collation};
 
-use icu_checks::CheckedTables;
 use icu_collator::Collator;
 use icu_entries::DataError;
 use icu_fingerprint::fingerprint_by;
 use icu_options::{CollatorOptions, CollatorPreferences};
+use icu_well_formed::CheckedTables;
 use std::alloc::Global;
 
 /// A collator, and the fingerprint of its tables and settings.

@@ -7,7 +7,7 @@ use Rattle.sqlite.specs.State.{Shown}
 use Rattle.sqlite_trees.specs.declared.store.Store.{Ghosts}
 use Rattle.sqlite_value.specs.Order.{Row}
 use Rattle.icu_beginnings.specs.KeyBeginnings.{stands_between}
-use Rattle.icu_checks.specs.WellFormedTables.{IsWellFormedTables}
+use Rattle.icu_well_formed.specs.WellFormedTables.{IsWellFormedTables}
 use Rattle.icu_encodings.proofs.Utf8Lemmas.{utf8_scalars}
 use Rattle.icu_encodings.specs.DecodedTexts.{utf8_text}
 use Rattle.icu_stored_listings.specs.StoredListings.{NamesAreListed, RebuiltNamesAreListed, ShowsNames, name_key, order_of}

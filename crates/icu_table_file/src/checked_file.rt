@@ -1,7 +1,7 @@
 //! Tables that were read, checked.
 
 ghost use Rattle.std.specs.Prelude.{◌≡◌, Ok, Err, IfOk, IfErr, option_map};
-ghost use Rattle.icu_checks.specs.Checked.{checked_tables};
+ghost use Rattle.icu_well_formed.specs.Checked.{checked_tables};
 ghost use Rattle.icu_collation_data.specs.StoredData.{data_of};
 ghost use Rattle.icu_provider.specs.StoredTables.{reordering_of};
 ghost use Rattle.icu_provider.specs.TableSets.{tables_in};
@@ -11,7 +11,7 @@ ghost use Rattle.icu_table_file.specs.inner.Vectors.{lists_reordering, tables_re
 
 use crate::other_reading::ReorderingLists;
 use crate::table_reading::TableVectors;
-use icu_checks::CheckedTables;
+use icu_checks::checked_set;
 use icu_collation_data::{CodePointTable, CollationData, ContextTable};
 use icu_entries::{DataError, DataErrorKind, DataTable};
 use icu_provider::{
@@ -19,6 +19,7 @@ use icu_provider::{
     CollationSpecialPrimaries, TableSet,
 };
 use icu_table_builder::DataVectors;
+use icu_well_formed::CheckedTables;
 use std::alloc::Global;
 
 /// The table, or its error.
@@ -124,5 +125,5 @@ pub(crate) fn checked_vectors(
     ensures refuses { IfErr result (RefusesTables (tables_read vectors.now)) }
 {
     let set = borrowed_tables(vectors)?;
-    CheckedTables::from_set(alloc, set)
+    checked_set(alloc, set)
 }

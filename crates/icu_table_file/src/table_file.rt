@@ -6,7 +6,7 @@ ghost use Rattle.icu_collation_data.specs.StoredData.{data_of};
 ghost use Rattle.icu_entries.specs.declared.error.DataTable.TheVariants.{Reordering, Tailoring};
 ghost use Rattle.icu_provider.specs.Loads.{answer};
 ghost use Rattle.icu_provider.specs.TableSets.{or_absent};
-ghost use Rattle.icu_checks.specs.Checked.{checked_tables};
+ghost use Rattle.icu_well_formed.specs.Checked.{checked_tables};
 ghost use Rattle.icu_table_file.specs.FileContents.{contents_stored};
 ghost use Rattle.icu_table_file.specs.FileReading.{contents_in};
 ghost use Rattle.icu_table_file.specs.inner.CheckedFiles.{CanBorrowAll};
@@ -17,11 +17,11 @@ ghost use Rattle.icu_table_file.specs.inner.Vectors.{contents_read, tables_read}
 use crate::checked_file::checked_vectors;
 use crate::table_file_error::TableFileError;
 use crate::table_reading::{FileTexts, TableVectors, contents_from_bytes};
-use icu_checks::CheckedTables;
 use icu_collation_data::CollationData;
 use icu_entries::{DataError, DataErrorKind, DataTable};
 use icu_provider::{CollationReordering, FixedLoads, FixedProvider};
 use icu_table_parts::without_frame;
+use icu_well_formed::CheckedTables;
 use std::alloc::Global;
 
 /// The tables of a file, checked together, and what they were made from. It is a `CollationProvider`, which returns

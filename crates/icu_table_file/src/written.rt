@@ -1,7 +1,7 @@
 //! A file, written.
 
 ghost use Rattle.std.specs.Prelude.{IfOk};
-ghost use Rattle.icu_checks.specs.Checked.{checked_tables};
+ghost use Rattle.icu_well_formed.specs.Checked.{checked_tables};
 ghost use Rattle.icu_table_file.specs.TableFiles.{IsFileOf};
 ghost use Rattle.icu_table_file.specs.Origins.{contents_of};
 ghost use Rattle.icu_table_file.specs.inner.Spelt.{SpellsContents, SpellsTables};
@@ -9,8 +9,8 @@ ghost use Rattle.icu_table_file.specs.inner.Spelt.{SpellsContents, SpellsTables}
 use crate::other_forms::{reordering_as_bytes, special_as_bytes};
 use crate::part_lists::{push_u16s, push_u32s};
 use crate::written_data::{data_as_bytes, tailoring_as_bytes};
-use icu_checks::CheckedTables;
 use icu_table_parts::{push_part, with_frame};
+use icu_well_formed::CheckedTables;
 use std::alloc::{AllocError, Global};
 
 /// What tables were made from: texts that a file keeps beside them.

@@ -18,7 +18,7 @@ use Rattle.icu_tailoring_numbers.specs.declared.tailoring_numbers.TailoringNumbe
 use Rattle.icu_symbolic_mappings.specs.KeptMappings.{mappings_in}
 use Rattle.icu_symbolic_mappings.specs.TouchedCharacters.{has_own_mappings}
 use Rattle.icu_symbolic_mappings.specs.declared.kept_mappings.Mappings.{Mappings}
-use Rattle.icu_checks.specs.WellFormedTables.{HasAscendingContexts}
+use Rattle.icu_well_formed.specs.WellFormedTables.{HasAscendingContexts}
 use Rattle.icu_tailored_entries.specs.GivenMappings.{GivesMappings}
 use Rattle.icu_tailored_entries.specs.TailoredJamo.{IsJamoEntry}
 use Rattle.icu_mapped_texts.specs.MappedTexts.{SaysMappings, SayMappingsOf}

@@ -2,7 +2,7 @@
 use Rattle.std.specs.Prelude.{ℕ, ◌≡◌, true, List, map}
 use Rattle.std.specs.List.{list_any}
 use Rattle.icu_collation_data.specs.Data.{Data}
-use Rattle.icu_checks.specs.WellFormedTables.{HasAscendingContexts}
+use Rattle.icu_well_formed.specs.WellFormedTables.{HasAscendingContexts}
 use Rattle.icu_provider.specs.Tables.{Tables}
 use Rattle.icu_checked_root.specs.RootEntries.{root_mappings_of}
 use Rattle.icu_tailoring.specs.Rules.{Rule}

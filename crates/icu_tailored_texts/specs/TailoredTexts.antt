@@ -6,7 +6,7 @@ use Rattle.icu_entries.specs.Elements.{Element}
 use Rattle.icu_collation_data.specs.CodePointTables.{code_point_count}
 use Rattle.icu_collation_data.specs.Data.{Data}
 use Rattle.icu_provider.specs.Tables.{Tables, diacritic_of}
-use Rattle.icu_checks.specs.WellFormedTables.{HasAscendingContexts}
+use Rattle.icu_well_formed.specs.WellFormedTables.{HasAscendingContexts}
 use Rattle.icu_elements.specs.TextElements.{non_numeric_reading, elements_of}
 use Rattle.icu_matches.specs.WellFormedEntries.{IsWellFormedFrom}
 use Rattle.icu_checked_root.specs.RootEntries.{diacritic_mapping, entry_mappings, root_entry, root_mappings_of}

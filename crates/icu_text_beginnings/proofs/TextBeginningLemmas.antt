@@ -12,7 +12,7 @@ use Rattle.icu_beginnings.proofs.AboveLemmas.{beginnings_between}
 use Rattle.icu_beginnings.proofs.ListBeginningLemmas.{begins_front}
 use Rattle.icu_beginnings.proofs.PrimaryPlaces.{primaries_kept}
 use Rattle.icu_boundaries.proofs.CutLemmas.{boundary_cut}
-use Rattle.icu_checks.specs.WellFormedTables.{IsWellFormedTables}
+use Rattle.icu_well_formed.specs.WellFormedTables.{IsWellFormedTables}
 use Rattle.icu_elements.specs.TextElementLaws.{IsText}
 use Rattle.icu_elements.specs.TextElements.{elements_of}
 use Rattle.icu_levels.specs.ListOrder.{list_order, IsUnder}

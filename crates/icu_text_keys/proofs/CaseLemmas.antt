@@ -5,7 +5,7 @@ use Rattle.unicode_normalization.specs.Forms.{nfd}
 use Rattle.icu_levels.specs.declared.forms.CaseForm.TheVariants.{LowerFirst}
 use Rattle.icu_entries.specs.Elements.{Element}
 use Rattle.icu_collation_data.proofs.ListLemmas.{weaker}
-use Rattle.icu_checks.specs.WellFormedTables.{IsWellFormedTables}
+use Rattle.icu_well_formed.specs.WellFormedTables.{IsWellFormedTables}
 use Rattle.icu_elements.specs.TextElements.{elements_of}
 use Rattle.icu_elements.specs.TextElementLaws.{IsText}
 use Rattle.icu_weighting.specs.Collations.{Collation}

@@ -1,6 +1,6 @@
 -- How the primaries of a collator are written, by the tables that say so.
 use Rattle.icu_levels.specs.Primaries.{Compression}
-use Rattle.icu_checks.specs.Checked.{checked_tables}
+use Rattle.icu_well_formed.specs.Checked.{checked_tables}
 use Rattle.icu_weighting.specs.Forms.{compression_of}
 use Rattle.icu_text_keys.specs.declared.compression.TableCompression.{TableCompression}
 

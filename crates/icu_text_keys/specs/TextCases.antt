@@ -2,7 +2,7 @@
 use Rattle.std.specs.Prelude.{ℕ, List}
 use Rattle.std.specs.List.{AllByRecursion}
 use Rattle.unicode_normalization.specs.Forms.{nfd}
-use Rattle.icu_checks.specs.WellFormedTables.{IsWellFormedTables}
+use Rattle.icu_well_formed.specs.WellFormedTables.{IsWellFormedTables}
 use Rattle.icu_elements.specs.TextElementLaws.{IsText}
 use Rattle.icu_weighting.specs.Collations.{Collation}
 use Rattle.icu_text_order.specs.TextOrder.{handled_by}

@@ -1,15 +1,15 @@
 //! How the primaries of a collator are written.
 
 ghost use Rattle.std.specs.Prelude.{◌≡◌, ◌<◌, ℕ, false};
-ghost use Rattle.icu_checks.specs.Checked.{checked_tables};
+ghost use Rattle.icu_well_formed.specs.Checked.{checked_tables};
 ghost use Rattle.icu_provider.specs.SpecialPrimaries.{is_compressible};
 ghost use Rattle.icu_provider.specs.StoredTables.{special_of};
 ghost use Rattle.icu_weighting.specs.Forms.{compression_of};
 
-use icu_checks::CheckedTables;
 use icu_keys::primaries::PrimaryCompression;
 use icu_provider::CollationSpecialPrimaries;
 use icu_weighting::element_weights::reordered;
+use icu_well_formed::CheckedTables;
 
 /// The first lead that six of the numbers with bits for leads say nothing of. Those below it are the leads of spaces,
 /// signs, digits and Latin letters.

@@ -13,9 +13,9 @@ use Rattle.icu_levels.specs.declared.forms.TertiaryForm.TheVariants.{WithoutCase
 use Rattle.icu_entries.specs.Elements.{Element, of_primary, case_mask, tertiary_mask, quaternary_mask}
 use Rattle.icu_entries.specs.ElementConditions.{separator_primary, tertiary_of, has_shape, has_whole_weights, has_weights_below, has_lower_half, has_primary_lead}
 use Rattle.icu_provider.specs.CollatorTables.{CollatorTables}
-use Rattle.icu_checks.specs.declared.condition.Condition.TheVariants as conditions
-use Rattle.icu_checks.specs.declared.condition.ReachableElementCondition.TheVariants.{Width}
-use Rattle.icu_checks.specs.WellFormedTables.{IsWellFormedTables}
+use Rattle.icu_well_formed.specs.declared.condition.Condition.TheVariants as conditions
+use Rattle.icu_well_formed.specs.declared.condition.ReachableElementCondition.TheVariants.{Width}
+use Rattle.icu_well_formed.specs.WellFormedTables.{IsWellFormedTables}
 use Rattle.icu_elements.specs.ReachableTexts.{IsReachableElement}
 use Rattle.icu_weighting.specs.Handled.{is_variable}
 use Rattle.icu_weighting.specs.Levels.{secondary_of, case_rank, cased_mask, masked_tertiary, tertiary_in, quaternary_weight}

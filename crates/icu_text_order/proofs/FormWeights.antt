@@ -9,7 +9,7 @@ use Rattle.icu_levels.specs.declared.forms.QuaternaryForm.{QuaternaryForm}
 use Rattle.icu_levels.specs.declared.forms.QuaternaryForm.TheVariants.{MayShift, Unshifted}
 use Rattle.icu_levels.specs.declared.forms.KeyForm.{KeyForm}
 use Rattle.icu_provider.specs.CollatorTables.{CollatorTables, is_forward}
-use Rattle.icu_checks.specs.WellFormedTables.{IsWellFormedTables}
+use Rattle.icu_well_formed.specs.WellFormedTables.{IsWellFormedTables}
 use Rattle.icu_weighting.specs.Forms.{compression_of}
 use Rattle.icu_text_order.specs.ReachableWeights.{IsReachableSecondary, IsShiftedPrimary, IsReachableTertiary, IsTertiaryOf, reachable_weights}
 use Rattle.icu_text_order.proofs.PrimaryWeights.{reachable_primaries, reachable_shifted}

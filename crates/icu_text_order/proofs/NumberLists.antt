@@ -9,7 +9,7 @@ use Rattle.icu_levels.specs.Numbers.{run_weights}
 use Rattle.icu_levels.proofs.DigitRuns.{run_stands}
 use Rattle.icu_levels.proofs.ReorderedNumbers.{reachable_stands}
 use Rattle.icu_entries.specs.Elements.{Element, of_primary}
-use Rattle.icu_checks.specs.WellFormedTables.{IsWellFormedTables}
+use Rattle.icu_well_formed.specs.WellFormedTables.{IsWellFormedTables}
 use Rattle.icu_elements.specs.TextParts.{AreDigits}
 use Rattle.icu_weighting.specs.Collations.{Collation}
 use Rattle.icu_weighting.specs.Handled.{HandledElement, is_variable, handled, stayed_elements}

@@ -11,15 +11,15 @@ use Rattle.icu_entries.specs.Elements.{Element}
 use Rattle.icu_entries.specs.ElementConditions.{has_primary_lead, separator_primary}
 use Rattle.icu_provider.specs.Reorderings.{Reordering, lead_byte}
 use Rattle.icu_provider.specs.SpecialPrimaries.{is_compressible}
-use Rattle.icu_checks.specs.declared.condition.Condition.TheVariants as conditions
-use Rattle.icu_checks.specs.declared.condition.ReachableElementCondition.TheVariants.{Width, MiddleLead, NumericLead, SharedLead, SecondByte}
-use Rattle.icu_checks.specs.declared.condition.PairCondition.TheVariants.{Primaries, Compression}
-use Rattle.icu_checks.specs.declared.condition.LeadCondition.TheVariants as leads
+use Rattle.icu_well_formed.specs.declared.condition.Condition.TheVariants as conditions
+use Rattle.icu_well_formed.specs.declared.condition.ReachableElementCondition.TheVariants.{Width, MiddleLead, NumericLead, SharedLead, SecondByte}
+use Rattle.icu_well_formed.specs.declared.condition.PairCondition.TheVariants.{Primaries, Compression}
+use Rattle.icu_well_formed.specs.declared.condition.LeadCondition.TheVariants as leads
 use Rattle.icu_provider.specs.CollatorTables.{CollatorTables, reorder_by, reorder, new_lead}
-use Rattle.icu_weights.specs.Leads.{is_middle}
-use Rattle.icu_checks.specs.ElementConditions.{primary_meets, implicit_lead, is_apart, has_second_byte}
-use Rattle.icu_checks.specs.WellFormedTables.{IsReordering, IsWellFormedTables}
-use Rattle.icu_weights.proofs.LeadLemmas.{reordered-rest, reordered-bound}
+use Rattle.icu_well_formed.specs.Leads.{is_middle}
+use Rattle.icu_well_formed.specs.ElementConditions.{primary_meets, implicit_lead, is_apart, has_second_byte}
+use Rattle.icu_well_formed.specs.WellFormedTables.{IsReordering, IsWellFormedTables}
+use Rattle.icu_well_formed.proofs.LeadLemmas.{reordered-rest, reordered-bound}
 use Rattle.icu_weighting.specs.Levels.{primary_of}
 use Rattle.icu_weighting.specs.Forms.{compression_of}
 use Rattle.icu_text_order.specs.ReachableWeights.{IsReachablePrimary, IsShiftedPrimary}

@@ -14,10 +14,10 @@ use Rattle.icu_entries.specs.ElementConditions.{has_shape, has_leads, has_primar
 use Rattle.icu_provider.specs.Diacritics.{is_replaced_index, is_diacritic_weight}
 use Rattle.icu_collation_data.specs.Data.{homed}
 use Rattle.icu_collation_data.specs.Final.{final_elements}
-use Rattle.icu_checks.specs.declared.condition.Condition.TheVariants as conditions
+use Rattle.icu_well_formed.specs.declared.condition.Condition.TheVariants as conditions
 use Rattle.icu_provider.specs.CollatorTables.{CollatorTables}
-use Rattle.icu_checks.specs.ReachableElements.{IsOfEntryBy, IsOfReachableDiacritic, IsElementBy}
-use Rattle.icu_checks.specs.WellFormedTables.{IsWellFormedTables}
+use Rattle.icu_well_formed.specs.ReachableElements.{IsOfEntryBy, IsOfReachableDiacritic, IsElementBy}
+use Rattle.icu_well_formed.specs.WellFormedTables.{IsWellFormedTables}
 
 -- ---- tests
 

@@ -6,11 +6,11 @@ use Rattle.icu_levels.specs.WeightBytes.{weight_bytes}
 use Rattle.icu_levels.specs.Premises.{AreSecondaries, IsPrefixFree}
 use Rattle.icu_levels.proofs.MovedWeights.{begins_lead}
 use Rattle.icu_entries.specs.ElementConditions.{has_secondary_lead, has_tertiary_lead, tertiary_of}
-use Rattle.icu_checks.specs.declared.condition.Condition.TheVariants as conditions
-use Rattle.icu_checks.specs.declared.condition.ReachableElementCondition.TheVariants.{Width, BackwardLead}
-use Rattle.icu_checks.specs.declared.condition.PairCondition.TheVariants.{Secondaries}
+use Rattle.icu_well_formed.specs.declared.condition.Condition.TheVariants as conditions
+use Rattle.icu_well_formed.specs.declared.condition.ReachableElementCondition.TheVariants.{Width, BackwardLead}
+use Rattle.icu_well_formed.specs.declared.condition.PairCondition.TheVariants.{Secondaries}
 use Rattle.icu_provider.specs.CollatorTables.{CollatorTables, is_forward}
-use Rattle.icu_checks.specs.WellFormedTables.{IsWellFormedTables}
+use Rattle.icu_well_formed.specs.WellFormedTables.{IsWellFormedTables}
 use Rattle.icu_weighting.specs.Levels.{secondary_of}
 use Rattle.icu_text_order.specs.ReachableWeights.{IsLevelWeight, IsReachableSecondary, least_secondary_lead}
 use Rattle.icu_text_order.proofs.ReachableElementLemmas.{reachable-leads}

@@ -9,7 +9,7 @@ use Rattle.icu_options.specs.declared.settings.MaxVariable.{MaxVariable}
 use Rattle.icu_options.specs.declared.settings.MaxVariable.TheVariants.{Space, Punctuation, Symbol, Currency}
 use Rattle.icu_provider.specs.SpecialPrimaries.{IsSpecialPrimaries, ends_below, group_index, last_primary}
 use Rattle.icu_provider.specs.CollatorTables.{CollatorTables}
-use Rattle.icu_checks.specs.WellFormedTables.{IsWellFormedTables}
+use Rattle.icu_well_formed.specs.WellFormedTables.{IsWellFormedTables}
 use Rattle.icu_weighting.specs.Collations.{Collation}
 use Rattle.icu_weighting.specs.Forms.{last_variable, last_variable_by}
 

@@ -16,13 +16,13 @@ use Rattle.icu_levels.proofs.CasedTertiaries.{lower_cased, upper_cased}
 use Rattle.icu_entries.specs.declared.error.DataTable.{DataTable}
 use Rattle.icu_entries.specs.Elements.{Element, common, case_mask, tertiary_mask}
 use Rattle.icu_entries.specs.ElementConditions.{has_shape, has_whole_weights, has_weights_below, has_lower_half, has_secondary_lead, has_tertiary_lead, tertiary_of}
-use Rattle.icu_checks.specs.declared.condition.Condition.TheVariants as conditions
-use Rattle.icu_checks.specs.declared.condition.ReachableElementCondition.TheVariants.{Width, TertiaryElement}
-use Rattle.icu_checks.specs.declared.condition.PairCondition.TheVariants.{Tertiaries}
+use Rattle.icu_well_formed.specs.declared.condition.Condition.TheVariants as conditions
+use Rattle.icu_well_formed.specs.declared.condition.ReachableElementCondition.TheVariants.{Width, TertiaryElement}
+use Rattle.icu_well_formed.specs.declared.condition.PairCondition.TheVariants.{Tertiaries}
 use Rattle.icu_provider.specs.CollatorTables.{CollatorTables}
-use Rattle.icu_checks.specs.ElementConditions.{is_tertiary_element, is_high_tertiary_element, upper_case}
-use Rattle.icu_checks.specs.ReachableElements.{IsElementBy}
-use Rattle.icu_checks.specs.WellFormedTables.{IsWellFormedTables}
+use Rattle.icu_well_formed.specs.ElementConditions.{is_tertiary_element, is_high_tertiary_element, upper_case}
+use Rattle.icu_well_formed.specs.ReachableElements.{IsElementBy}
+use Rattle.icu_well_formed.specs.WellFormedTables.{IsWellFormedTables}
 use Rattle.icu_weighting.specs.Levels.{cased_mask, masked_tertiary, tertiary_in}
 use Rattle.icu_text_order.specs.ReachableWeights.{IsLevelWeight, IsReachableTertiary}
 use Rattle.icu_text_order.proofs.ReachableElementLemmas.{reachable-shape, reachable-leads, other_part, implied}

@@ -17,7 +17,7 @@ use Rattle.icu_entries.specs.Elements.{Element}
 use Rattle.icu_entries.specs.ElementConditions.{separator_primary, tertiary_of}
 use Rattle.icu_collation_data.proofs.ListLemmas.{all_append}
 use Rattle.icu_provider.specs.CollatorTables.{CollatorTables, reorder}
-use Rattle.icu_checks.specs.WellFormedTables.{IsWellFormedTables}
+use Rattle.icu_well_formed.specs.WellFormedTables.{IsWellFormedTables}
 use Rattle.icu_weighting.specs.Handled.{HandledElement, stayed, shifted_primary, stayed_elements}
 use Rattle.icu_weighting.specs.Levels.{primaries, secondary_of, parted, segments, case_reads, case_rank, cases_in, masked_tertiary, tertiary_in, tertiaries_in, quaternaries, level_lists}
 use Rattle.icu_text_order.specs.ReachableWeights.{IsReachablePrimary, IsShiftedPrimary, IsReachableSecondary, IsReachableTertiary, IsTertiaryOf, reachable_weights}

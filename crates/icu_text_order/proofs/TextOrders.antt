@@ -23,7 +23,7 @@ use Rattle.icu_levels.proofs.SameKeys.{same_levels, same_keys}
 use Rattle.icu_entries.specs.Elements.{Element}
 use Rattle.icu_collation_data.proofs.CharLemmas.{scalar_below}
 use Rattle.icu_collation_data.proofs.ListLemmas.{weaker}
-use Rattle.icu_checks.specs.WellFormedTables.{IsWellFormedTables}
+use Rattle.icu_well_formed.specs.WellFormedTables.{IsWellFormedTables}
 use Rattle.icu_elements.specs.TextElements.{elements_of}
 use Rattle.icu_elements.specs.TextParts.{IsDecomposed}
 use Rattle.icu_elements.proofs.DecomposedLemmas.{IsDecomposedText-nfd}

@@ -12,7 +12,7 @@ use Rattle.icu_collation_data.proofs.ListLemmas.{of_member, weaker}
 use Rattle.icu_provider.specs.ReachableTables.{IsReachable}
 use Rattle.icu_provider.specs.Tables.{diacritic_of}
 use Rattle.icu_provider.specs.CollatorTables.{CollatorTables}
-use Rattle.icu_checks.specs.WellFormedTables.{IsWellFormedTables}
+use Rattle.icu_well_formed.specs.WellFormedTables.{IsWellFormedTables}
 use Rattle.icu_elements.specs.TextElements.{Reading, elements_of}
 use Rattle.icu_elements.specs.TextParts.{HasParts, NumbersHold}
 use Rattle.icu_elements.specs.ReachableTexts.{IsReachableElement, IsNumberElement, IsReachableOrNumber}

@@ -17,7 +17,7 @@ use Rattle.icu_entries.specs.Elements.{Element}
 use Rattle.icu_entries.specs.ElementConditions.{tertiary_of}
 use Rattle.icu_collation_data.proofs.ListLemmas.{weaker}
 use Rattle.icu_provider.specs.CollatorTables.{CollatorTables, reorder}
-use Rattle.icu_checks.specs.WellFormedTables.{IsWellFormedTables}
+use Rattle.icu_well_formed.specs.WellFormedTables.{IsWellFormedTables}
 use Rattle.icu_weighting.specs.Handled.{HandledElement, stayed_elements}
 use Rattle.icu_weighting.specs.Levels.{weights, primary_of, primaries, secondary_of, secondaries, segments, case_reads, case_rank, cases_in, masked_tertiary, tertiary_in, tertiaries, tertiaries_in, quaternaries, level_lists}
 use Rattle.icu_weighting.specs.Forms.{compression_of}

@@ -10,8 +10,8 @@ use Rattle.icu_levels.specs.KeyPremises.{ReachableWeights, AreWeights}
 use Rattle.icu_entries.specs.declared.error.DataTable.{DataTable}
 use Rattle.icu_entries.specs.Elements.{Element, common}
 use Rattle.icu_provider.specs.CollatorTables.{CollatorTables, is_forward, reorder}
-use Rattle.icu_checks.specs.ReachableElements.{IsElementBy}
-use Rattle.icu_checks.specs.WellFormedTables.{IsWellFormedTables}
+use Rattle.icu_well_formed.specs.ReachableElements.{IsElementBy}
+use Rattle.icu_well_formed.specs.WellFormedTables.{IsWellFormedTables}
 use Rattle.icu_weighting.specs.Levels.{primary_of, secondary_of, masked_tertiary, tertiary_in}
 use Rattle.icu_weighting.specs.Forms.{compression_of}
 

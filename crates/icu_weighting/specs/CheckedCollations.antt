@@ -1,7 +1,7 @@
 -- The collation that checked tables and merged settings make.
 use Rattle.icu_options.specs.FlaggedSettings.{FlaggedSettings, values_of}
-use Rattle.icu_checks.specs.Checked.{checked_tables}
-use Rattle.icu_checks.specs.declared.checked.CheckedTables.{CheckedTables}
+use Rattle.icu_well_formed.specs.Checked.{checked_tables}
+use Rattle.icu_well_formed.specs.declared.checked.CheckedTables.{CheckedTables}
 use Rattle.icu_weighting.specs.Collations.{Collation}
 
 -- checked tables and merged settings, as one

@@ -4,9 +4,9 @@ ghost use Rattle.std.specs.Prelude.{◌≡◌};
 ghost use Rattle.icu_weighting.specs.Forms.{direction, secondary_form, case_form, cased_form, tertiary_form, handling_form, quaternary_form, is_identical, form_by, last_variable_by};
 ghost use Rattle.icu_weighting.specs.CheckedCollations.{collation_of};
 
-use icu_checks::CheckedTables;
 use icu_levels::forms::{CaseForm, KeyForm, QuaternaryForm, SecondaryForm, TertiaryForm};
 use icu_options::{AlternateHandling, CollationCaseFirst, CollatorOptionsBitField, Strength};
+use icu_well_formed::CheckedTables;
 
 /// Secondaries count from strength `Secondary` on.
 fn secondary_form(strength: Strength, is_backward: bool) -> Option<SecondaryForm>

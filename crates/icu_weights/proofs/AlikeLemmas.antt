@@ -8,7 +8,7 @@ use Rattle.std.proofs.lemmas.Grind.{common_steps}
 use Rattle.std.proofs.lemmas.List.Folds.{Any-from_list_any, list_any-from_Any}
 use Rattle.icu_provider.specs.Reorderings.{Reordering}
 use Rattle.icu_provider.specs.SpecialPrimaries.{SpecialPrimaries}
-use Rattle.icu_weights.specs.Leads.{reordered_lead}
+use Rattle.icu_well_formed.specs.Leads.{reordered_lead}
 use Rattle.icu_weights.specs.Alike.{compresses, CompressAlike, CompressApart, compressed_at, other_at, mark_of, Marks, HaveCommonMark, HaveNoCommonMark}
 
 unmarked : (n l : ℕ) → get_or (replicate n false) l false ≡ false

@@ -2,7 +2,6 @@ pub mod WrittenWeightLemmas
 pub mod BeginningLemmas
 pub mod NeighbourLemmas
 pub mod OverlapLemmas
-pub mod LeadLemmas
 pub mod AlikeLemmas
 pub mod WeightSetLemmas
 pub mod PageLemmas

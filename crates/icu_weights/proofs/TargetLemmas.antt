@@ -17,7 +17,7 @@ use Rattle.icu_weights.specs.declared.overlap.Overlap.{Overlap}
 use Rattle.icu_weights.specs.WeightSets.{is_three_bytes}
 use Rattle.icu_weights.specs.inner.Targets.{IsApartFromThree, IsBefore, AreMet, IsClear, IsSampled}
 use Rattle.icu_weights.specs.inner.Pages.{IsBelow}
-use Rattle.icu_weights.proofs.LeadLemmas.{reordered-rest}
+use Rattle.icu_well_formed.proofs.LeadLemmas.{reordered-rest}
 use Rattle.icu_weights.proofs.PageLemmas.{below_last}
 use Rattle.icu_weights.proofs.BeginningLemmas.{begins_itself, four_bytes_begin, three_bytes_begin, two_bytes_begin, one_byte_begins}
 

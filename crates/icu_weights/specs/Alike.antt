@@ -4,7 +4,7 @@ use Rattle.std.specs.Prelude.{ℕ, ◌<◌, ◌≡◌, Bool, true, false, not, �
 use Rattle.std.specs.List.{list_any}
 use Rattle.icu_provider.specs.Reorderings.{Reordering, lead_byte}
 use Rattle.icu_provider.specs.SpecialPrimaries.{SpecialPrimaries, is_compressible}
-use Rattle.icu_weights.specs.Leads.{reordered_lead}
+use Rattle.icu_well_formed.specs.Leads.{reordered_lead}
 
 -- the lead byte of the weight, before reordering, is compressible
 abbrev pub compresses : SpecialPrimaries → ℕ → Bool

@@ -1,4 +1,3 @@
-pub mod Leads
 pub mod Overlaps
 pub mod Alike
 pub mod WeightSets

@@ -1,14 +1,10 @@
 -- Weights of which one is written as a beginning of another (UTS #10, "Large Weight Values"). Weights of all levels
 -- stand in four bytes: one of two bytes is moved up by two, which leaves the bytes that are written
-use Rattle.std.specs.Prelude.{ℕ, ◌+◌, ◌≢◌, ◌⊎◌, List, Option, slice_index, Contains}
+use Rattle.std.specs.Prelude.{ℕ, ◌+◌, ◌≢◌, List, Option, slice_index, Contains}
 use Rattle.icu_levels.specs.ListOrder.{IsBeginning}
 use Rattle.icu_levels.specs.WeightBytes.{weight_bytes}
 use Rattle.icu_provider.specs.Reorderings.{Reordering}
 use Rattle.icu_provider.specs.CollatorTables.{reorder_by}
-
--- one of two weights is written as a beginning of the other
-abbrev pub AreOverlapping : ℕ → ℕ → Type 0
-AreOverlapping v w = IsBeginning (weight_bytes 4 v) (weight_bytes 4 w) ⊎ IsBeginning (weight_bytes 4 w) (weight_bytes 4 v)
 
 -- the bytes of a weight as a reordering of scripts leaves it, where there is one
 abbrev pub written_bytes : Option Reordering → ℕ → List ℕ

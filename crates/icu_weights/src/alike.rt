@@ -1,6 +1,6 @@
 ghost use Rattle.std.specs.Prelude.{◌≡◌, ℕ, ◌<◌, ◌↔◌, ◌&&◌, ◌||◌, ◌==◌, true, false, All, IsTrue};
 ghost use Rattle.icu_provider.specs.StoredTables.{reordering_of, special_of};
-ghost use Rattle.icu_weights.specs.Leads.{reordered_lead};
+ghost use Rattle.icu_well_formed.specs.Leads.{reordered_lead};
 ghost use Rattle.icu_weights.specs.Alike.{CompressAlike, CompressApart, compressed_at, other_at, mark_of, Marks, HaveCommonMark, HaveNoCommonMark};
 
 use crate::leads::reordered_lead;

@@ -1,6 +1,6 @@
 ghost use Rattle.std.specs.Prelude.{◌≡◌, ◌≤◌, ◌↔◌, ◌==◌, IsTrue};
 ghost use Rattle.icu_provider.specs.StoredTables.{reordering_of};
-ghost use Rattle.icu_weights.specs.Leads.{TakesLead, TakesBlock, reordered_lead, is_middle};
+ghost use Rattle.icu_well_formed.specs.Leads.{TakesLead, TakesBlock, reordered_lead, is_middle};
 
 use icu_provider::CollationReordering;
 
@@ -15,7 +15,7 @@ pub fn reordered_lead(reordering: CollationReordering<'_>, primary: u32) -> u8
 ///
 /// It is asked of the first and the last of them alone: the ranges of a reordering end at whole pairs of bytes, and
 /// only its limit may lie between the two, from which on weights keep their lead.
-#[tactic(auto, using(crate::proofs::LeadLemmas::takes_block, crate::proofs::LeadLemmas::block_first, crate::proofs::LeadLemmas::block_last))]
+#[tactic(auto, using(icu_well_formed::proofs::LeadLemmas::takes_block, icu_well_formed::proofs::LeadLemmas::block_first, icu_well_formed::proofs::LeadLemmas::block_last))]
 fn takes_block(reordering: CollationReordering<'_>, high: u16, to: u8) -> bool
     requires { 256 ≤ high }
     ensures { IsTrue result ↔ TakesBlock (reordering_of reordering.entry) high to }

@@ -12,14 +12,15 @@ ghost use Rattle.icu_levels.specs.WeightBytes.{weight_bytes};
 ghost use Rattle.icu_levels.specs.Premises.{IsPrefixFree};
 ghost use Rattle.icu_provider.specs.StoredTables.{reordering_of};
 ghost use Rattle.icu_provider.specs.CollatorTables.{reorder_by};
-ghost use Rattle.icu_weights.specs.Overlaps.{AreOverlapping, written_bytes, NeighbourBegins, Overlaps};
+ghost use Rattle.icu_well_formed.specs.PairConditions.{AreOverlapping};
+ghost use Rattle.icu_weights.specs.Overlaps.{written_bytes, NeighbourBegins, Overlaps};
 
 use icu_provider::CollationReordering;
 use icu_provider::reordering::lead_byte;
 use std::alloc::AllocError;
 
 /// Reordering leaves weights in four bytes.
-#[tactic(auto, using(crate::proofs::LeadLemmas::reordered_fits))]
+#[tactic(auto, using(icu_well_formed::proofs::LeadLemmas::reordered_fits))]
 pub(crate) fn stays_in_range(reordering: Option<CollationReordering<'_>>)
     ensures { (p : ℕ) → p < 2 ^ 32
         → reorder_by (option_map reordering_of reordering.entry) p < 2 ^ 32 }

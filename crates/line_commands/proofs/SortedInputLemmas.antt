@@ -1,6 +1,6 @@
 -- Lines that are sorted by their keys are sorted by the collator.
 use Rattle.std.proofs.Common.{◌≡◌, ℕ, List, subst}
-use Rattle.icu_checks.specs.WellFormedTables.{IsWellFormedTables}
+use Rattle.icu_well_formed.specs.WellFormedTables.{IsWellFormedTables}
 use Rattle.icu_collator.specs.Collators.{collation_borrowed, tables_borrowed}
 use Rattle.icu_collator.specs.declared.collator.CollatorBorrowed.{CollatorBorrowed}
 use Rattle.icu_text_order.specs.Collations.{Collation}

@@ -4,20 +4,21 @@ ghost use Rattle.std.specs.Prelude.{◌≡◌, ◌↔◌, IsOk, IfOk, IfErr};
 ghost use Rattle.icu_provider.specs.SpecialPrimaries.{IsSpecialPrimaries, FailsSpecial};
 ghost use Rattle.icu_provider.specs.StoredTables.{special_of};
 ghost use Rattle.icu_provider.specs.TableSets.{tables_in};
-ghost use Rattle.icu_checks.specs.Checked.{checked_tables};
-ghost use Rattle.icu_checks.specs.WellFormedTables.{IsWellFormedTables, IsTrueError};
+ghost use Rattle.icu_well_formed.specs.Checked.{checked_tables};
+ghost use Rattle.icu_well_formed.specs.WellFormedTables.{IsWellFormedTables, IsTrueError};
 ghost use Rattle.icu_text_order.specs.Forms.{form_by};
 ghost use Rattle.icu_weighting.specs.CheckedCollations.{collation_of};
 
-use icu_checks::CheckedTables;
+use icu_checks::checked_set;
 use icu_entries::{DataError, DataErrorKind};
 use icu_levels::forms::KeyForm;
 use icu_options::CollatorOptionsBitField;
 use icu_provider::{CollationSpecialPrimaries, TableSet};
 use icu_weighting::key_form;
+use icu_well_formed::CheckedTables;
 use std::alloc::Global;
 
-/// As `CheckedTables::from_set`. A wrong body may check `other` tables.
+/// As `checked_set`. A wrong body may check `other` tables.
 pub fn checked(
     alloc: Global,
     tables: TableSet<'_>,
@@ -30,7 +31,7 @@ pub fn checked(
     ensures keeps { IfOk result (λ t. checked_tables t ≡ tables_in tables.entry) }
 {
     let _ = other;
-    match CheckedTables::from_set(alloc, tables) {
+    match checked_set(alloc, tables) {
         Ok(tables) => Ok(tables),
         Err(error) => Err(error),
     }

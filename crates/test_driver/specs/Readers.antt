@@ -1,7 +1,7 @@
 -- How texts are read by checked tables.
 use Rattle.std.specs.Prelude.{ℕ, Bool, Option}
-use Rattle.icu_checks.specs.Checked.{checked_tables}
-use Rattle.icu_checks.specs.declared.checked.CheckedTables.{CheckedTables}
+use Rattle.icu_well_formed.specs.Checked.{checked_tables}
+use Rattle.icu_well_formed.specs.declared.checked.CheckedTables.{CheckedTables}
 use Rattle.icu_elements.specs.TextElements.{Reading}
 
 -- how texts are read by these tables, a lead byte of numbers, and the rule for Lithuanian

@@ -1,13 +1,14 @@
 //! Collators, and what tables are refused with.
 use crate::driver_error::{DriverError, answered};
 use crate::settings::Named;
-use icu_checks::CheckedTables;
+use icu_checks::checked_set;
 use icu_collation_data::{CodePointTable, CollationData, ContextTable};
 use icu_collator::Collator;
 use icu_entries::{DataError, DataErrorKind, DataTable};
 use icu_mini::mini::Mini;
 use icu_provider::{CollationReordering, TableSet};
 use icu_table_builder::DataVectors;
+use icu_well_formed::CheckedTables;
 use std::alloc::Global;
 
 /// A collator by these tables and settings. All questions make theirs here: a function with this call is dear to prove.
@@ -78,7 +79,7 @@ fn loaded(mini: &Mini) -> Result<TableSet<'_>, DataError> {
 
 /// Mini's tables, each checked by its constructor and then all together.
 pub(crate) fn checked(alloc: Global, mini: &Mini) -> Result<CheckedTables, DataError> {
-    CheckedTables::from_set(alloc, loaded(mini)?)
+    checked_set(alloc, loaded(mini)?)
 }
 
 /// What tables are refused with that are checked so, as often as is asked for.
@@ -151,7 +152,7 @@ fn all_unchecked(mini: &Mini) -> Result<TableSet<'_>, DataError> {
 
 /// The tables checked together, the entries of the root and the tailoring not by themselves before.
 fn checked_together(alloc: Global, mini: &Mini) -> Result<CheckedTables, DataError> {
-    CheckedTables::from_set(alloc, all_unchecked(mini)?)
+    checked_set(alloc, all_unchecked(mini)?)
 }
 
 /// What the check of all tables together refuses.

@@ -1,8 +1,8 @@
 -- What the parts of the check find where there is no violation.
-use Rattle.icu_checks.specs.declared.condition.LeadCondition.{LeadCondition}
+use Rattle.icu_well_formed.specs.declared.condition.LeadCondition.{LeadCondition}
 use Rattle.icu_checks.specs.declared.check.weights.ComparedLevel.TheVariants.{Secondary, Tertiary}
 use Rattle.icu_provider.specs.CollatorTables.{CollatorTables}
-use Rattle.icu_checks.specs.LeadConditions.{LeadMeets}
+use Rattle.icu_well_formed.specs.LeadConditions.{LeadMeets}
 use Rattle.icu_checks.specs.inner.PairViolations.{TertiaryElementsAreHigh, LevelIsFree, PrimariesAreFree}
 
 -- lead bytes meet each condition on them

@@ -1,8 +1,8 @@
 -- The levels of weights, none of which may begin another.
 use Rattle.std.specs.Prelude.{ℕ, List, Option, None}
 use Rattle.icu_provider.specs.Reorderings.{Reordering}
-use Rattle.icu_checks.specs.declared.condition.PairCondition.{PairCondition}
-use Rattle.icu_checks.specs.declared.condition.PairCondition.TheVariants as conditions
+use Rattle.icu_well_formed.specs.declared.condition.PairCondition.{PairCondition}
+use Rattle.icu_well_formed.specs.declared.condition.PairCondition.TheVariants as conditions
 use Rattle.icu_checks.specs.declared.check.weights.ComparedLevel.{ComparedLevel}
 use Rattle.icu_checks.specs.declared.check.weights.ComparedLevel.TheVariants.{Primary, Secondary, Tertiary}
 use Rattle.icu_checks.specs.declared.check.weights.WeightList.{WeightList}

@@ -15,8 +15,8 @@ use Rattle.icu_provider.specs.Tables.{Tables, jamo_base}
 use Rattle.icu_checks.specs.declared.check.weights.WeightList.{WeightList}
 use Rattle.icu_checks.specs.declared.check.weights.WeightList.TheVariants.{Primaries, Secondaries, Tertiaries, TertiaryElements, WithSecondary}
 use Rattle.icu_provider.specs.CollatorTables.{CollatorTables}
-use Rattle.icu_checks.specs.ElementConditions.{is_tertiary_element}
-use Rattle.icu_checks.specs.ReachableElements.{IsReachableBy, IsOfReachableDiacritic}
+use Rattle.icu_well_formed.specs.ElementConditions.{is_tertiary_element}
+use Rattle.icu_well_formed.specs.ReachableElements.{IsReachableBy, IsOfReachableDiacritic}
 
 -- A weight of two bytes with two zero bytes after it. Zero is none; the common weight needs no comparison, since its
 -- lead byte is its alone.

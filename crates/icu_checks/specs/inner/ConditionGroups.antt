@@ -2,16 +2,16 @@
 use Rattle.std.specs.Prelude.{ℕ}
 use Rattle.icu_collation_data.specs.declared.reachable_condition.ReachableCondition.{ReachableCondition}
 use Rattle.icu_collation_data.specs.declared.reachable_condition.ReachableCondition.TheVariants as of_entry
-use Rattle.icu_checks.specs.declared.condition.Condition.{Condition}
-use Rattle.icu_checks.specs.declared.condition.Condition.TheVariants as conditions
-use Rattle.icu_checks.specs.declared.condition.ConditionGroup.{ConditionGroup}
-use Rattle.icu_checks.specs.declared.condition.ConditionGroup.TheVariants.{Counts, Indices, PrefixMappings, Chains, Digits, Bytes, Offsets, Shapes, Leads, TertiaryElements, Overlaps, Primaries, KeptLeads, OwnLeads, ReorderedLeads, Compression}
-use Rattle.icu_checks.specs.declared.condition.ReachableElementCondition.{ReachableElementCondition}
-use Rattle.icu_checks.specs.declared.condition.ReachableElementCondition.TheVariants as of_element
-use Rattle.icu_checks.specs.declared.condition.PairCondition.{PairCondition}
-use Rattle.icu_checks.specs.declared.condition.PairCondition.TheVariants as of_pair
-use Rattle.icu_checks.specs.declared.condition.LeadCondition.{LeadCondition}
-use Rattle.icu_checks.specs.declared.condition.LeadCondition.TheVariants as of_lead
+use Rattle.icu_well_formed.specs.declared.condition.Condition.{Condition}
+use Rattle.icu_well_formed.specs.declared.condition.Condition.TheVariants as conditions
+use Rattle.icu_checks.specs.declared.condition_group.ConditionGroup.{ConditionGroup}
+use Rattle.icu_checks.specs.declared.condition_group.ConditionGroup.TheVariants.{Counts, Indices, PrefixMappings, Chains, Digits, Bytes, Offsets, Shapes, Leads, TertiaryElements, Overlaps, Primaries, KeptLeads, OwnLeads, ReorderedLeads, Compression}
+use Rattle.icu_well_formed.specs.declared.condition.ReachableElementCondition.{ReachableElementCondition}
+use Rattle.icu_well_formed.specs.declared.condition.ReachableElementCondition.TheVariants as of_element
+use Rattle.icu_well_formed.specs.declared.condition.PairCondition.{PairCondition}
+use Rattle.icu_well_formed.specs.declared.condition.PairCondition.TheVariants as of_pair
+use Rattle.icu_well_formed.specs.declared.condition.LeadCondition.{LeadCondition}
+use Rattle.icu_well_formed.specs.declared.condition.LeadCondition.TheVariants as of_lead
 
 -- the groups in their order
 abbrev pub group_place : ConditionGroup → ℕ

@@ -13,15 +13,15 @@ use Rattle.icu_collation_data.specs.Reachable.{reachable_from}
 use Rattle.icu_collation_data.specs.DataConditions.{avoids_diacritics, is_readable}
 use Rattle.icu_collation_data.specs.Violations.{earlier}
 use Rattle.icu_collation_data.specs.ReachableConditions.{first_failing}
-use Rattle.icu_checks.specs.declared.condition.Condition.TheVariants as conditions
-use Rattle.icu_checks.specs.declared.condition.ReachableElementCondition.{ReachableElementCondition}
+use Rattle.icu_well_formed.specs.declared.condition.Condition.TheVariants as conditions
+use Rattle.icu_well_formed.specs.declared.condition.ReachableElementCondition.{ReachableElementCondition}
 use Rattle.icu_checks.specs.declared.violation.Violation.{Violation}
 use Rattle.icu_provider.specs.Reorderings.{Reordering, lead_byte}
 use Rattle.icu_provider.specs.Tables.{jamo_base}
 use Rattle.icu_provider.specs.CollatorTables.{CollatorTables, reorder_by, reorder, new_lead}
-use Rattle.icu_weights.specs.Leads.{is_middle}
-use Rattle.icu_checks.specs.ElementConditions.{has_second_byte, reachable_element_meets, element_conditions}
-use Rattle.icu_checks.specs.WellFormedTables.{later, table_of_element, EachEntry, EachElement, EntryMeets, HasPlainMappings}
+use Rattle.icu_well_formed.specs.Leads.{is_middle}
+use Rattle.icu_well_formed.specs.ElementConditions.{has_second_byte, reachable_element_meets, element_conditions}
+use Rattle.icu_well_formed.specs.WellFormedTables.{later, table_of_element, EachEntry, EachElement, EntryMeets, HasPlainMappings}
 use Rattle.icu_checks.specs.inner.Violations.{violation_rank}
 
 -- a condition on an element of a table, as a violation

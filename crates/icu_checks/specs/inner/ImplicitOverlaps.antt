@@ -11,7 +11,7 @@ use Rattle.icu_checks.specs.declared.check.implicit_overlaps.ImplicitClash.{Impl
 use Rattle.icu_checks.specs.declared.check.weights.ComparedLevel.TheVariants.{Primary}
 use Rattle.icu_checks.specs.declared.check.weights.WeightList.TheVariants.{Primaries}
 use Rattle.icu_provider.specs.CollatorTables.{CollatorTables}
-use Rattle.icu_checks.specs.ReachableElements.{IsReachableBy}
+use Rattle.icu_well_formed.specs.ReachableElements.{IsReachableBy}
 use Rattle.icu_checks.specs.inner.ComparedLevels.{bytes_at}
 use Rattle.icu_checks.specs.inner.PairViolations.{IsListedWeight}
 

@@ -15,7 +15,7 @@ use Rattle.icu_checks.specs.declared.check.weights.WeightList.{WeightList}
 use Rattle.icu_checks.specs.declared.check.weights.WeightList.TheVariants.{Primaries, TertiaryElements, WithSecondary}
 use Rattle.icu_provider.specs.CollatorTables.{CollatorTables, reorder}
 use Rattle.icu_checks.specs.inner.ComparedLevels.{list_of, bytes_at}
-use Rattle.icu_checks.specs.WellFormedTables.{later, IsOverlapTable}
+use Rattle.icu_well_formed.specs.WellFormedTables.{later, IsOverlapTable}
 use Rattle.icu_checks.specs.inner.Violations.{IsTrueViolation}
 use Rattle.icu_checks.specs.inner.ComparedWeights.{IsWeightBy}
 

@@ -3,7 +3,7 @@ use Rattle.std.specs.Prelude.{ℕ, ◌+◌, ◌*◌}
 use Rattle.icu_checks.specs.declared.violation.Violation.{Violation}
 use Rattle.icu_provider.specs.CollatorTables.{CollatorTables}
 use Rattle.icu_checks.specs.inner.ConditionGroups.{group_of, group_place}
-use Rattle.icu_checks.specs.WellFormedTables.{table_rank, MeetsBy}
+use Rattle.icu_well_formed.specs.WellFormedTables.{table_rank, MeetsBy}
 
 -- by the group of its condition, then by table
 unfoldable pub violation_rank : Violation → ℕ

@@ -1,16 +1,16 @@
 ghost use Rattle.std.specs.Prelude.{◌≡◌};
 ghost use Rattle.icu_entries.specs.Elements.{Element};
-ghost use Rattle.icu_weights.specs.Leads.{is_middle};
+ghost use Rattle.icu_well_formed.specs.Leads.{is_middle};
 ghost use Rattle.icu_provider.specs.TableSets.{tables_in};
-ghost use Rattle.icu_checks.specs.ElementConditions.{is_tertiary_element, is_high_tertiary_element, has_low_bytes, has_second_byte, primary_meets, reachable_element_meets};
+ghost use Rattle.icu_well_formed.specs.ElementConditions.{is_tertiary_element, is_high_tertiary_element, has_low_bytes, has_second_byte, primary_meets, reachable_element_meets};
 
 use crate::check::lookups::is_apart;
-use crate::condition::ReachableElementCondition;
 use icu_entries::CollationElement;
 use icu_entries::element::COMMON_WEIGHT16;
 use icu_provider::TableSet;
 use icu_provider::reordering::lead_byte;
 use icu_weights::leads::is_middle;
+use icu_well_formed::condition::ReachableElementCondition;
 
 /// The lead byte of implicit weights.
 pub(crate) const IMPLICIT_LEAD: u8 = 0xFE;
@@ -46,47 +46,50 @@ pub(crate) fn has_second_byte(primary: u32) -> bool
     second >= 4 && second <= 0xFE
 }
 
-impl ReachableElementCondition {
-    /// Whether a nonzero primary weight meets the condition.
-    #[tactic(auto, unfolding(icu_provider::specs::TableSets::tables_in))]
-    #[inline(always)]
-    fn primary_meets(self, tables: TableSet<'_>, primary: u32) -> bool
-        ensures { result ≡ primary_meets self (tables_in tables.entry) primary }
-    {
-        let lead = lead_byte(primary);
-        match self {
-            ReachableElementCondition::MiddleLead => {
-                !is_middle(lead) || is_middle(lead_byte(tables.reorder(primary)))
-            }
-            ReachableElementCondition::ImplicitLength => lead != IMPLICIT_LEAD
-                || has_low_bytes(primary),
-            ReachableElementCondition::NumericLead => lead != tables.special.numeric_primary(),
-            ReachableElementCondition::SharedLead => {
-                is_apart(tables, IMPLICIT_LEAD, primary)
-                    && is_apart(tables, tables.special.numeric_primary(), primary)
-            }
-            ReachableElementCondition::SecondByte => {
-                !tables.special.is_compressible(lead) || has_second_byte(primary)
-            }
-            ReachableElementCondition::Width
-            | ReachableElementCondition::BackwardLead
-            | ReachableElementCondition::TertiaryElement => true,
+/// Whether a nonzero primary weight meets a condition on one element.
+#[tactic(auto, unfolding(icu_provider::specs::TableSets::tables_in))]
+#[inline(always)]
+fn primary_meets(tables: TableSet<'_>, condition: ReachableElementCondition, primary: u32) -> bool
+    ensures { result ≡ primary_meets condition (tables_in tables.entry) primary }
+{
+    let lead = lead_byte(primary);
+    match condition {
+        ReachableElementCondition::MiddleLead => {
+            !is_middle(lead) || is_middle(lead_byte(tables.reorder(primary)))
         }
+        ReachableElementCondition::ImplicitLength => lead != IMPLICIT_LEAD
+            || has_low_bytes(primary),
+        ReachableElementCondition::NumericLead => lead != tables.special.numeric_primary(),
+        ReachableElementCondition::SharedLead => {
+            is_apart(tables, IMPLICIT_LEAD, primary)
+                && is_apart(tables, tables.special.numeric_primary(), primary)
+        }
+        ReachableElementCondition::SecondByte => {
+            !tables.special.is_compressible(lead) || has_second_byte(primary)
+        }
+        ReachableElementCondition::Width
+        | ReachableElementCondition::BackwardLead
+        | ReachableElementCondition::TertiaryElement => true,
     }
+}
 
-    /// Whether the element meets the condition.
-    #[inline(always)]
-    pub(crate) fn holds(self, tables: TableSet<'_>, element: CollationElement) -> bool
-        ensures { result ≡ reachable_element_meets self (tables_in tables.entry) element }
-    {
-        match self {
-            ReachableElementCondition::Width => true,
-            ReachableElementCondition::BackwardLead => {
-                tables.is_forward() || element.secondary() >> 8 != 2
-            }
-            ReachableElementCondition::TertiaryElement => !is_tertiary_element(element)
-                || is_high_tertiary_element(element),
-            _ => element.primary() == 0 || self.primary_meets(tables, element.primary()),
+/// Whether the element meets a condition on one.
+#[inline(always)]
+pub(crate) fn element_meets(
+    tables: TableSet<'_>,
+    condition: ReachableElementCondition,
+    element: CollationElement,
+) -> bool
+    ensures { result ≡ reachable_element_meets condition (tables_in tables.entry) element }
+{
+    match condition {
+        ReachableElementCondition::Width => true,
+        ReachableElementCondition::BackwardLead => {
+            tables.is_forward() || element.secondary() >> 8 != 2
         }
+        ReachableElementCondition::TertiaryElement => {
+            !is_tertiary_element(element) || is_high_tertiary_element(element)
+        }
+        _ => element.primary() == 0 || primary_meets(tables, condition, element.primary()),
     }
 }

@@ -13,10 +13,9 @@ ghost use Rattle.icu_provider.specs.CollatorTables.{CollatorTables};
 ghost use Rattle.icu_provider.specs.TableSets.{tables_in};
 ghost use Rattle.icu_checks.specs.inner.EntryViolations.{first_condition_failed, element_violation, after_element, judged_element, elements_violation, mappings_violation, entry_violation, is_taken_apart, HasEndsApart, HasEndsTogether, ImplicitPasses, KeepsLeadTogether, LeadPasses, AreLeadsPassing, PrimaryPasses};
 
-use crate::check::element_conditions::{IMPLICIT_LEAD, has_second_byte};
+use crate::check::element_conditions::{IMPLICIT_LEAD, element_meets, has_second_byte};
 use crate::check::lead_conditions::numeric_lead;
-use crate::condition::{Condition, ReachableElementCondition};
-use crate::violation::{Violation, later};
+use crate::violation::{Violation, later, table_of_element};
 use icu_collation_data::CollationData;
 use icu_collation_data::element_walk::{VisitElement, visit_elements};
 use icu_collation_data::reachable_condition::{EntryJudge, ReachableCondition};
@@ -25,6 +24,7 @@ use icu_entries::{CollationElement, CollationElement32, DataTable, EntryKind};
 use icu_provider::TableSet;
 use icu_provider::reordering::lead_byte;
 use icu_weights::leads::is_middle;
+use icu_well_formed::condition::{Condition, ReachableElementCondition};
 use std::convert::Infallible;
 
 /// The first condition that an element fails, in the order in which an error names them.
@@ -36,21 +36,21 @@ fn first_condition_failed(
 ) -> Option<ReachableElementCondition>
     ensures { result ≡ first_condition_failed (tables_in tables.entry) element }
 {
-    if !ReachableElementCondition::Width.holds(tables, element) {
+    if !element_meets(tables, ReachableElementCondition::Width, element) {
         Some(ReachableElementCondition::Width)
-    } else if !ReachableElementCondition::BackwardLead.holds(tables, element) {
+    } else if !element_meets(tables, ReachableElementCondition::BackwardLead, element) {
         Some(ReachableElementCondition::BackwardLead)
-    } else if !ReachableElementCondition::TertiaryElement.holds(tables, element) {
+    } else if !element_meets(tables, ReachableElementCondition::TertiaryElement, element) {
         Some(ReachableElementCondition::TertiaryElement)
-    } else if !ReachableElementCondition::MiddleLead.holds(tables, element) {
+    } else if !element_meets(tables, ReachableElementCondition::MiddleLead, element) {
         Some(ReachableElementCondition::MiddleLead)
-    } else if !ReachableElementCondition::ImplicitLength.holds(tables, element) {
+    } else if !element_meets(tables, ReachableElementCondition::ImplicitLength, element) {
         Some(ReachableElementCondition::ImplicitLength)
-    } else if !ReachableElementCondition::NumericLead.holds(tables, element) {
+    } else if !element_meets(tables, ReachableElementCondition::NumericLead, element) {
         Some(ReachableElementCondition::NumericLead)
-    } else if !ReachableElementCondition::SharedLead.holds(tables, element) {
+    } else if !element_meets(tables, ReachableElementCondition::SharedLead, element) {
         Some(ReachableElementCondition::SharedLead)
-    } else if !ReachableElementCondition::SecondByte.holds(tables, element) {
+    } else if !element_meets(tables, ReachableElementCondition::SecondByte, element) {
         Some(ReachableElementCondition::SecondByte)
     } else {
         None
@@ -68,7 +68,7 @@ pub(crate) fn element_violation(
     match first_condition_failed(tables, element) {
         Some(condition) => Some(Violation {
             condition: Condition::Element(condition),
-            table: later(table, condition.table()),
+            table: later(table, table_of_element(condition)),
         }),
         None => None,
     }
@@ -261,9 +261,17 @@ impl<'d> TablesJudge<'d> {
         ensures { result ≡ true
             → first_condition_failed (tables_in self.now.tables) element ≡ None }
     {
-        ReachableElementCondition::Width.holds(self.tables, element)
-            && ReachableElementCondition::BackwardLead.holds(self.tables, element)
-            && ReachableElementCondition::TertiaryElement.holds(self.tables, element)
+        element_meets(self.tables, ReachableElementCondition::Width, element)
+            && element_meets(
+                self.tables,
+                ReachableElementCondition::BackwardLead,
+                element,
+            )
+            && element_meets(
+                self.tables,
+                ReachableElementCondition::TertiaryElement,
+                element,
+            )
             && self.passes_primary(element.primary())
     }
 

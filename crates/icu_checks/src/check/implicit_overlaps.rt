@@ -16,10 +16,10 @@ use crate::check::collecting::collect;
 use crate::check::element_conditions::IMPLICIT_LEAD;
 use crate::check::entry_judge::takes_whole;
 use crate::check::implicit_chars::{ImplicitChars, chars_beside, second_byte};
+use crate::check::lead_conditions::lead_meets;
 use crate::check::overlap_tables::{clash_table, table_of};
 use crate::check::overlap_violations::REACHABLE_TABLES;
 use crate::check::weights::{ComparedLevel, WeightList};
-use crate::condition::{Condition, LeadCondition, PairCondition};
 use crate::violation::Violation;
 use icu_collation_data::CollationData;
 use icu_collation_data::walk::{Visit, visit_from};
@@ -29,6 +29,7 @@ use icu_provider::jamo::{JAMO_BASE, JAMO_COUNT};
 use icu_provider::reordering::lead_byte;
 use icu_weights::overlap::{Overlap, is_beginning};
 use icu_weights::weight_set::WeightSet;
+use icu_well_formed::condition::{Condition, LeadCondition, PairCondition};
 use std::alloc::{AllocError, Global};
 use std::convert::Infallible;
 
@@ -260,7 +261,7 @@ fn first_clash_among(
     requires { AreListed WeightList.Primaries (tables_in tables).tables weights.now }
     ensures { IfSome result (IsImplicitClash (tables_in tables.entry)) }
 {
-    let together = LeadCondition::ImplicitLead.holds(tables);
+    let together = lead_meets(tables, LeadCondition::ImplicitLead);
     for primary in weights {
         if may_begin_implicit(tables, together, before_too, *primary) {
             if let Some(clash) = clash_of(tables, by, implicit, *primary) {
@@ -336,7 +337,7 @@ fn first_clash_of_three(
         (weights_of_set weights.now) }
     ensures { IfOk result (λ found. IfSome found (IsImplicitClash (tables_in tables.entry))) }
 {
-    let together = LeadCondition::ImplicitLead.holds(tables);
+    let together = lead_meets(tables, LeadCondition::ImplicitLead);
     for lead in 0..256u16 {
         let lead = lead as u8;
         if weights.has_lead(lead) && may_begin_with_lead(tables, together, before_too, lead) {
@@ -381,7 +382,7 @@ fn first_clash(
         (weights_of_set weights.now) }
     ensures { IfOk result (λ found. IfSome found (IsImplicitClash (tables_in tables.entry))) }
 {
-    let together = LeadCondition::ImplicitLead.holds(tables);
+    let together = lead_meets(tables, LeadCondition::ImplicitLead);
     let candidates = count_of_candidates(tables, together, before_too, weights)?;
     if candidates == 0 {
         return Ok(None);

@@ -4,12 +4,12 @@ ghost use Rattle.icu_provider.specs.SpecialPrimaries.{is_compressible};
 ghost use Rattle.icu_provider.specs.StoredTables.{reordering_of};
 ghost use Rattle.icu_provider.specs.CollatorTables.{new_lead};
 ghost use Rattle.icu_provider.specs.TableSets.{tables_in};
-ghost use Rattle.icu_checks.specs.LeadConditions.{LeadGoesToBy, LeadGoesTo, TakesTogether, LeadMeets};
+ghost use Rattle.icu_well_formed.specs.LeadConditions.{LeadGoesToBy, LeadGoesTo, TakesTogether, LeadMeets};
 
 use crate::check::element_conditions::IMPLICIT_LEAD;
-use crate::condition::LeadCondition;
 use icu_provider::{CollationReordering, TableSet};
 use icu_weights::leads::{is_middle, takes_lead};
+use icu_well_formed::condition::LeadCondition;
 
 /// The primary weight of the merge separator.
 const SEPARATOR: u32 = 0x0200_0000;
@@ -60,19 +60,17 @@ fn takes_together(tables: TableSet<'_>, lead: u8) -> bool
     is_middle(new) && takes_lead_in(tables, lead, new)
 }
 
-impl LeadCondition {
-    /// Whether the tables meet the condition.
-    pub(crate) fn holds(self, tables: TableSet<'_>) -> bool
-        ensures { IsTrue result ↔ LeadMeets self (tables_in tables.entry) }
-    {
-        let numeric = numeric_lead(tables);
-        match self {
-            LeadCondition::Separator => tables.reorder(SEPARATOR) == SEPARATOR,
-            LeadCondition::HighLead => takes_lead_in(tables, 0xFF, 0xFF),
-            LeadCondition::ImplicitLead => takes_together(tables, IMPLICIT_LEAD),
-            LeadCondition::NumericLead => takes_together(tables, numeric),
-            LeadCondition::LeadsApart => tables.new_lead(IMPLICIT_LEAD) != tables.new_lead(numeric),
-            LeadCondition::NumericWhole => !is_compressible(tables, numeric),
-        }
+/// Whether the tables meet a condition on lead bytes.
+pub(crate) fn lead_meets(tables: TableSet<'_>, condition: LeadCondition) -> bool
+    ensures { IsTrue result ↔ LeadMeets condition (tables_in tables.entry) }
+{
+    let numeric = numeric_lead(tables);
+    match condition {
+        LeadCondition::Separator => tables.reorder(SEPARATOR) == SEPARATOR,
+        LeadCondition::HighLead => takes_lead_in(tables, 0xFF, 0xFF),
+        LeadCondition::ImplicitLead => takes_together(tables, IMPLICIT_LEAD),
+        LeadCondition::NumericLead => takes_together(tables, numeric),
+        LeadCondition::LeadsApart => tables.new_lead(IMPLICIT_LEAD) != tables.new_lead(numeric),
+        LeadCondition::NumericWhole => !is_compressible(tables, numeric),
     }
 }

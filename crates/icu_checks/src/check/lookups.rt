@@ -2,7 +2,7 @@
 ghost use Rattle.std.specs.Prelude.{◌≡◌, ◌<◌, ◌+◌, Some};
 ghost use Rattle.icu_provider.specs.TableSets.{tables_in};
 ghost use Rattle.icu_provider.specs.Tables.{jamo_base};
-ghost use Rattle.icu_checks.specs.ElementConditions.{is_apart};
+ghost use Rattle.icu_well_formed.specs.ElementConditions.{is_apart};
 
 use icu_provider::TableSet;
 use icu_provider::jamo::JAMO_BASE;

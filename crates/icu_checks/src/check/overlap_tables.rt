@@ -8,12 +8,12 @@ ghost use Rattle.icu_checks.specs.inner.PairViolations.{IsListedWeight, AreClash
 
 use crate::check::collecting::collect;
 use crate::check::weights::{ComparedLevel, WeightList};
-use crate::condition::Condition;
 use crate::violation::{Violation, later};
 use icu_entries::DataTable;
 use icu_provider::TableSet;
 use icu_weights::overlap::{Overlap, are_overlapping};
 use icu_weights::weight_set::WeightSet;
+use icu_well_formed::condition::Condition;
 use std::alloc::{AllocError, Global};
 
 /// Whether a weight is reachable by a table.

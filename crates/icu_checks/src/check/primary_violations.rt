@@ -8,13 +8,13 @@ ghost use Rattle.icu_checks.specs.inner.PairViolations.{HoldsLevel, ListCompress
 use crate::check::implicit_overlaps::implicit_violation;
 use crate::check::overlap_violations::overlap_violation;
 use crate::check::weights::ComparedLevel;
-use crate::condition::{Condition, PairCondition};
 use crate::violation::Violation;
 use icu_collation_data::violation::earlier;
 use icu_entries::DataTable;
 use icu_provider::TableSet;
 use icu_weights::set_alike::set_compresses_alike;
 use icu_weights::weight_set::WeightSet;
+use icu_well_formed::condition::{Condition, PairCondition};
 use std::alloc::{AllocError, Global};
 
 /// The violation of weights that share a lead byte after reordering and don't compress alike.

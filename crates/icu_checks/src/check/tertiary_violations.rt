@@ -9,10 +9,10 @@ use crate::check::collecting::collect;
 use crate::check::overlap_tables::table_of;
 use crate::check::overlap_violations::REACHABLE_TABLES;
 use crate::check::weights::WeightList;
-use crate::condition::{Condition, PairCondition};
 use crate::violation::{Violation, later};
 use icu_provider::TableSet;
 use icu_weights::weight_list::{greatest, least};
+use icu_well_formed::condition::{Condition, PairCondition};
 use std::alloc::{AllocError, Global};
 
 /// A tertiary weight of an element without a secondary weight, and one beside a secondary weight that it doesn't stand

@@ -6,11 +6,11 @@ ghost use Rattle.icu_checks.specs.inner.ComparedWeights.{left_aligned, nonzero, 
 ghost use Rattle.icu_checks.specs.inner.ComparedLevels.{list_of, overlap_condition, reordering_at};
 
 use crate::check::element_conditions::is_tertiary_element;
-use crate::condition::PairCondition;
 use icu_collation_data::reachable_weights::Weigh;
 use icu_entries::CollationElement;
 use icu_entries::element::COMMON_WEIGHT16;
 use icu_provider::{CollationReordering, TableSet};
+use icu_well_formed::condition::PairCondition;
 
 /// A level of weights, none of which may begin another.
 #[derive(Clone, Copy)]

@@ -1,8 +1,8 @@
 -- The law, by what the calls ensure.
 use Rattle.std.proofs.Common.{subst}
-use Rattle.icu_checks.specs.Checked.{checked_tables}
-use Rattle.icu_checks.specs.WellFormedTables.{IsWellFormedTables}
-use Rattle.icu_checks.specs.declared.checked.CheckedTables.{CheckedTables}
+use Rattle.icu_well_formed.specs.Checked.{checked_tables}
+use Rattle.icu_well_formed.specs.WellFormedTables.{IsWellFormedTables}
+use Rattle.icu_well_formed.specs.declared.checked.CheckedTables.{CheckedTables}
 use Rattle.icu_rule_texts.proofs.RuleTextLemmas.{read_by_rules}
 use Rattle.icu_rule_texts.proofs.texts_are_read_by_rules.Goals as goal
 

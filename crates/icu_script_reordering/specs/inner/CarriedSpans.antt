@@ -1,7 +1,7 @@
 -- A group that a reordering moves as a whole.
 use Rattle.std.specs.Prelude.{ℕ, ◌+◌, ◌-◌, ◌/◌, ◌<◌, ◌≤◌, List, slice_index_or}
 use Rattle.icu_provider.specs.Reorderings.{Reordering, reordered}
-use Rattle.icu_weights.specs.Leads.{TakesBlock}
+use Rattle.icu_well_formed.specs.Leads.{TakesBlock}
 use Rattle.icu_script_reordering.specs.declared.script_groups.ScriptSpan.{ScriptSpan}
 use Rattle.icu_script_reordering.specs.ReorderedSpans.{IsInSpan, KeepsWeightOrder, PutsBefore}
 

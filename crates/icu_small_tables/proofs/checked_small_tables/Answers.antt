@@ -4,8 +4,8 @@ use Rattle.icu_small_tables.proofs.checked_small_tables.Goals as goal
 
 pub returns-clause-memory : goal.returns-clause-memory
 returns-clause-memory c =
-    only_memory _ (record { low = omega arith; high = omega arith }) _ c.in_ok-root.ensures.says _ c.set_with.ensures c.from_set.result c.from_set.ensures.exact
+    only_memory _ (record { low = omega arith; high = omega arith }) _ c.in_ok-root.ensures.says _ c.set_with.ensures c.checked_set.result c.checked_set.ensures.exact
 
 pub returns-clause-says : goal.returns-clause-says
 returns-clause-says c =
-    kept_are_small _ (record { low = omega arith; high = omega arith }) _ c.in_ok-root.ensures.says _ c.set_with.ensures c.from_set.result c.from_set.ensures.keeps
+    kept_are_small _ (record { low = omega arith; high = omega arith }) _ c.in_ok-root.ensures.says _ c.set_with.ensures c.checked_set.result c.checked_set.ensures.keeps

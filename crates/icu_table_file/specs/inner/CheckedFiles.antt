@@ -1,6 +1,6 @@
 -- Tables that can be borrowed, and those that are refused.
 use Rattle.std.specs.Prelude.{◌≡◌, List, Option, IfSome, length}
-use Rattle.icu_checks.specs.WellFormedTables.{IsWellFormedTables}
+use Rattle.icu_well_formed.specs.WellFormedTables.{IsWellFormedTables}
 use Rattle.icu_collation_data.specs.CodePointTables.{IsCodePointTable}
 use Rattle.icu_collation_data.specs.Contexts.{IsContextTable}
 use Rattle.icu_entries.specs.declared.error.DataError.{DataError}

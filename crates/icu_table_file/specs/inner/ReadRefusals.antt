@@ -1,6 +1,6 @@
 -- Errors of a file, by what it would say.
 use Rattle.std.specs.Prelude.{◌≡◌, ℕ, List}
-use Rattle.icu_checks.specs.WellFormedTables.{IsWellFormedTables}
+use Rattle.icu_well_formed.specs.WellFormedTables.{IsWellFormedTables}
 use Rattle.icu_fingerprint.specs.FingerprintForms.{StoredTables, tables_stored}
 use Rattle.icu_table_parts.specs.declared.frame_error.FrameError.{FrameError}
 use Rattle.icu_table_file.specs.FileContents.{FileContents}

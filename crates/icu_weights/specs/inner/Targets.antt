@@ -4,7 +4,7 @@ use Rattle.icu_levels.specs.ListOrder.{IsBeginning}
 use Rattle.icu_levels.specs.WeightBytes.{weight_bytes}
 use Rattle.icu_provider.specs.Reorderings.{Reordering, lead_byte}
 use Rattle.icu_provider.specs.CollatorTables.{reorder_by}
-use Rattle.icu_weights.specs.Leads.{reordered_lead}
+use Rattle.icu_well_formed.specs.Leads.{reordered_lead}
 use Rattle.icu_weights.specs.WeightSets.{is_three_bytes}
 
 -- of two weights neither begins the other, unless they are one

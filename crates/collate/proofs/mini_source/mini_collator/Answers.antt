@@ -3,7 +3,7 @@
 use Rattle.std.proofs.Common.{◌≡◌, Some, ap}
 use Rattle.icu_entries.specs.declared.error.DataErrorKind.TheVariants.{NoMemory}
 use Rattle.icu_provider.specs.CollatorTables.{CollatorTables}
-use Rattle.icu_checks.specs.WellFormedTables.{IsWellFormedTables}
+use Rattle.icu_well_formed.specs.WellFormedTables.{IsWellFormedTables}
 use Rattle.icu_provider.specs.LoadedTables.{loaded_tables}
 use Rattle.icu_provider.specs.FixedLoads.{fixed_loads}
 use Rattle.icu_options.specs.declared.options.CollatorOptions.{CollatorOptions}

@@ -1,7 +1,7 @@
 use Rattle.std.proofs.Common.{◌∙◌, [], ap, subst, sym, refl}
 use Rattle.std.proofs.lemmas.Result.{IfOk-weaker}
 use Rattle.icu_cldr.specs.Roots.{IsRoot}
-use Rattle.icu_checks.specs.Checked.{checked_tables}
+use Rattle.icu_well_formed.specs.Checked.{checked_tables}
 use Rattle.icu_table_file.specs.FileContents.{FileContents}
 use Rattle.icu_table_file.specs.Origins.{contents_of}
 use Rattle.compiled_tables.proofs.compiled.compiled_tables.Goals as goal

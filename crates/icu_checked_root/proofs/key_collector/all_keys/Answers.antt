@@ -1,7 +1,7 @@
 -- The keys of three tables.
 use Rattle.std.proofs.Common.{◌≡◌, List, ℕ, length, rules, subst}
 use Rattle.icu_collation_data.specs.CollectedWeights.{Adds}
-use Rattle.icu_checks.specs.Checked.{checked_tables}
+use Rattle.icu_well_formed.specs.Checked.{checked_tables}
 use Rattle.icu_checked_root.specs.RootElements.{IsStatedInRoot}
 use Rattle.icu_checked_root.specs.inner.KeyCollections.{HoldsBelow, IsDiacriticKey, IsKeyOf}
 use Rattle.icu_checked_root.proofs.KeyCollectionLemmas.{keys_of_root}

@@ -1,7 +1,7 @@
 -- The places so far, and at the end all.
 use Rattle.std.proofs.Common.{◌≡◌, ℕ, ◌≤◌, List, length, ap, arith, subst}
 use Rattle.icu_collation_data.specs.CollectedWeights.{Adds}
-use Rattle.icu_checks.specs.Checked.{checked_tables}
+use Rattle.icu_well_formed.specs.Checked.{checked_tables}
 use Rattle.icu_checked_root.specs.inner.KeyCollections.{HoldsBelow, IsJamoKey}
 use Rattle.icu_checked_root.proofs.KeyCollectionLemmas.{below_step}
 use Rattle.icu_checked_root.proofs.key_collector.collect_jamo.Goals as goal

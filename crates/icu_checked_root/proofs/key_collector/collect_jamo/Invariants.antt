@@ -1,5 +1,5 @@
 use Rattle.icu_collation_data.specs.CollectedWeights.{Adds}
-use Rattle.icu_checks.specs.Checked.{checked_tables}
+use Rattle.icu_well_formed.specs.Checked.{checked_tables}
 use Rattle.icu_checked_root.specs.inner.KeyCollections.{HoldsBelow, IsJamoKey}
 use Rattle.icu_checked_root.proofs.key_collector.collect_jamo.Given as goal
 

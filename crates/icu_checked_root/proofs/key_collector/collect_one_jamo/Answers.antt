@@ -1,7 +1,7 @@
 -- Each entry that is reachable with the jamo was visited.
 use Rattle.std.proofs.Common.{◌≡◌, ℕ, Some, sym, ◌∙◌}
 use Rattle.icu_collation_data.specs.StoredData.{data_of}
-use Rattle.icu_checks.specs.Checked.{checked_tables}
+use Rattle.icu_well_formed.specs.Checked.{checked_tables}
 use Rattle.icu_checked_root.proofs.KeyCollectionLemmas.{jamo_adds, on_ok}
 use Rattle.icu_checked_root.proofs.key_collector.collect_one_jamo.Goals as goal
 

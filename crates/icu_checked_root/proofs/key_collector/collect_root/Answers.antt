@@ -2,7 +2,7 @@
 use Rattle.std.proofs.Common.{false, subst}
 use Rattle.icu_collation_data.specs.Data.{Data}
 use Rattle.icu_collation_data.specs.Walks.{Walked}
-use Rattle.icu_checks.specs.Checked.{checked_tables}
+use Rattle.icu_well_formed.specs.Checked.{checked_tables}
 use Rattle.icu_checked_root.specs.inner.KeyCollections.{with_keys}
 use Rattle.icu_checked_root.proofs.KeyCollectionLemmas.{walk_adds, on_ok}
 use Rattle.icu_checked_root.proofs.key_collector.collect_root.Goals as goal

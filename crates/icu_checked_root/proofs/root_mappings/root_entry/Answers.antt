@@ -1,6 +1,6 @@
 -- The entry is reachable, and so is what it leads to.
 use Rattle.std.proofs.Common.{sym, subst}
-use Rattle.icu_checks.specs.Checked.{checked_tables}
+use Rattle.icu_well_formed.specs.Checked.{checked_tables}
 use Rattle.icu_matches.specs.WellFormedEntries.{IsWellFormedFrom}
 use Rattle.icu_checked_root.proofs.RootEntryLemmas.{entry_well_formed}
 use Rattle.icu_checked_root.proofs.root_mappings.root_entry.Goals as goal

@@ -1,4 +1,4 @@
-use Rattle.icu_checks.specs.Checked.{checked_tables}
+use Rattle.icu_well_formed.specs.Checked.{checked_tables}
 use Rattle.icu_table_file.specs.Origins.{contents_of}
 use Rattle.icu_table_file.proofs.WrittenLemmas.{written_file}
 use Rattle.icu_table_file.proofs.written.write.Goals as goal

@@ -1,6 +1,6 @@
 use Rattle.std.proofs.Common.{ℕ, ◌<◌, take, get_or}
 use Rattle.icu_provider.specs.StoredTables.{reordering_of, special_of}
-use Rattle.icu_weights.specs.Leads.{reordered_lead}
+use Rattle.icu_well_formed.specs.Leads.{reordered_lead}
 use Rattle.icu_weights.specs.Alike.{Marks, compressed_at, other_at}
 use Rattle.icu_weights.proofs.alike.lead_marks.Given as goal
 

@@ -1,7 +1,7 @@
 use Rattle.std.proofs.Common.{◌+◌, ◌*◌, refl, arith, below_more}
 use Rattle.icu_provider.specs.StoredTables.{reordering_of}
-use Rattle.icu_weights.specs.Leads.{TakesLead, TakesBlock}
-use Rattle.icu_weights.proofs.LeadLemmas.{takes_lead}
+use Rattle.icu_well_formed.specs.Leads.{TakesLead, TakesBlock}
+use Rattle.icu_well_formed.proofs.LeadLemmas.{takes_lead}
 use Rattle.icu_weights.proofs.leads.takes_lead.Goals as goal
 
 pub loop-second-preserved : goal.loop-second-preserved

@@ -1,6 +1,6 @@
 use Rattle.std.proofs.Common.{ℕ, ◌+◌, ◌*◌, ◌<◌}
 use Rattle.icu_provider.specs.StoredTables.{reordering_of}
-use Rattle.icu_weights.specs.Leads.{TakesBlock}
+use Rattle.icu_well_formed.specs.Leads.{TakesBlock}
 use Rattle.icu_weights.proofs.leads.takes_lead.Given as goal
 
 -- the blocks passed go to the lead

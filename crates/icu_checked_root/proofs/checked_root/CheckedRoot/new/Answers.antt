@@ -1,6 +1,6 @@
 -- The weights are those of all keys.
 use Rattle.std.proofs.Common.{[], refl, ap, ◌∙◌}
-use Rattle.icu_checks.specs.Checked.{checked_tables}
+use Rattle.icu_well_formed.specs.Checked.{checked_tables}
 use Rattle.icu_checked_root.specs.CheckedRoots.{last_regular_of, last_variable_of}
 use Rattle.icu_checked_root.specs.RootEntries.{root_mappings_of}
 use Rattle.icu_checked_root.specs.inner.KeyWindows.{weights_by_keys}

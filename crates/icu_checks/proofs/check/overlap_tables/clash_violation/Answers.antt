@@ -1,7 +1,7 @@
 use Rattle.std.proofs.Common.{subst, arith}
-use Rattle.icu_checks.specs.declared.condition.Condition.TheVariants as conditions
+use Rattle.icu_well_formed.specs.declared.condition.Condition.TheVariants as conditions
 use Rattle.icu_provider.specs.TableSets.{tables_in}
-use Rattle.icu_checks.specs.WellFormedTables.{MeetsBy}
+use Rattle.icu_well_formed.specs.WellFormedTables.{MeetsBy}
 use Rattle.icu_checks.specs.inner.ComparedWeights.{IsWeightBy}
 use Rattle.icu_checks.proofs.LevelRefutes.{refute_clash}
 use Rattle.icu_checks.proofs.check.overlap_tables.clash_violation.Goals as goal

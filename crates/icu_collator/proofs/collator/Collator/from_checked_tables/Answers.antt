@@ -1,7 +1,7 @@
 -- What is kept beside the tables is what was worked out from them.
 use Rattle.std.proofs.Common.{◌≡◌, Result, Ok, subst, IfOk, rules}
 use Rattle.icu_elements.specs.TextElements.{Reading}
-use Rattle.icu_checks.specs.Checked.{checked_tables}
+use Rattle.icu_well_formed.specs.Checked.{checked_tables}
 use Rattle.icu_facts.specs.FactsTables.{AreFacts}
 use Rattle.icu_facts.specs.Named.{NamesAll}
 use Rattle.icu_facts.specs.BoundaryTables.{boundary_reading}

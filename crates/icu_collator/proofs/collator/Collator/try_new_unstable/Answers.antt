@@ -4,7 +4,7 @@ use Rattle.std.specs.Result.{IsErrAnd}
 use Rattle.icu_entries.specs.declared.error.DataError.{DataError}
 use Rattle.icu_entries.specs.declared.error.DataErrorKind.TheVariants.{NoMemory}
 use Rattle.icu_provider.specs.CollatorTables.{CollatorTables}
-use Rattle.icu_checks.specs.WellFormedTables.{IsWellFormedTables}
+use Rattle.icu_well_formed.specs.WellFormedTables.{IsWellFormedTables}
 use Rattle.icu_provider.specs.TableSets.{tables_in}
 use Rattle.icu_collator.specs.Collators.{loaded_for}
 use Rattle.icu_collator.proofs.collator.Collator.try_new_unstable.Goals as goal

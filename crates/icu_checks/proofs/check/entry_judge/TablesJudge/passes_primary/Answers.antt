@@ -1,7 +1,7 @@
 use Rattle.std.proofs.Common.{rules, ◌≡◌, true, inl, inr, refl, IsTrue}
 use Rattle.std.specs.Prelude.{slice_index_or, false}
 use Rattle.icu_provider.specs.Reorderings.{lead_byte}
-use Rattle.icu_checks.specs.ElementConditions.{has_second_byte}
+use Rattle.icu_well_formed.specs.ElementConditions.{has_second_byte}
 use Rattle.icu_checks.proofs.check.entry_judge.TablesJudge.passes_primary.Goals as goal
 
 pub returns-then-primary-eq0 : goal.returns-then-primary-eq0

@@ -1,16 +1,16 @@
 -- That tables meet the conditions is a proposition.
 use Rattle.std.proofs.Props.{props}
 use Rattle.icu_entries.specs.Elements.{Element}
-use Rattle.icu_checks.specs.declared.condition.Condition.{Condition}
-use Rattle.icu_checks.specs.declared.condition.Condition.TheVariants as conditions
-use Rattle.icu_checks.specs.declared.condition.PairCondition.{PairCondition}
-use Rattle.icu_checks.specs.declared.condition.PairCondition.TheVariants.{TertiaryElementWeights, Primaries, Secondaries, Tertiaries, Compression}
-use Rattle.icu_checks.specs.declared.condition.LeadCondition.{LeadCondition}
-use Rattle.icu_checks.specs.declared.condition.LeadCondition.TheVariants.{Separator, HighLead, ImplicitLead, NumericLead, LeadsApart, NumericWhole}
+use Rattle.icu_well_formed.specs.declared.condition.Condition.{Condition}
+use Rattle.icu_well_formed.specs.declared.condition.Condition.TheVariants as conditions
+use Rattle.icu_well_formed.specs.declared.condition.PairCondition.{PairCondition}
+use Rattle.icu_well_formed.specs.declared.condition.PairCondition.TheVariants.{TertiaryElementWeights, Primaries, Secondaries, Tertiaries, Compression}
+use Rattle.icu_well_formed.specs.declared.condition.LeadCondition.{LeadCondition}
+use Rattle.icu_well_formed.specs.declared.condition.LeadCondition.TheVariants.{Separator, HighLead, ImplicitLead, NumericLead, LeadsApart, NumericWhole}
 use Rattle.icu_provider.specs.CollatorTables.{CollatorTables}
-use Rattle.icu_checks.specs.PairConditions.{PairMeets}
-use Rattle.icu_checks.specs.LeadConditions.{LeadMeets}
-use Rattle.icu_checks.specs.WellFormedTables.{Meets, IsWellFormedTables}
+use Rattle.icu_well_formed.specs.PairConditions.{PairMeets}
+use Rattle.icu_well_formed.specs.LeadConditions.{LeadMeets}
+use Rattle.icu_well_formed.specs.WellFormedTables.{Meets, IsWellFormedTables}
 
 pair_prop : (all : CollatorTables) (condition : PairCondition) (x y : Element) → IsProp (PairMeets condition all x y)
 pair_prop all TertiaryElementWeights x y = hlevel props

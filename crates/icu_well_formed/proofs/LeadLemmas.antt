@@ -7,7 +7,7 @@ use Rattle.std.proofs.lemmas.Bool.Decides.{nat_tests}
 use Rattle.std.proofs.lemmas.Grind.{common_steps}
 use Rattle.icu_provider.specs.Reorderings.{Reordering, lead_byte, with_lead, lies_below, moved, reordered}
 use Rattle.icu_provider.proofs.ReachedRangeLemmas.{block_end}
-use Rattle.icu_weights.specs.Leads.{reordered_lead, TakesLead, TakesBlock}
+use Rattle.icu_well_formed.specs.Leads.{reordered_lead, TakesLead, TakesBlock}
 
 block_end-same : (p q : ℕ) → p / 65536 ≡ q / 65536 → bit_or p 0xFFFF ≡ bit_or q 0xFFFF
 block_end-same p q e = block_end p ∙ ap (λ h. h * 65536 + 65535) e ∙ sym (block_end q)

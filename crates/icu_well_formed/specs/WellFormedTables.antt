@@ -18,20 +18,20 @@ use Rattle.icu_collation_data.specs.ReachableConditions.{meets}
 use Rattle.icu_provider.specs.Metadata.{has_tailored_diacritics}
 use Rattle.icu_provider.specs.Reorderings.{Reordering}
 use Rattle.icu_provider.specs.SpecialPrimaries.{IsSpecialPrimaries}
-use Rattle.icu_checks.specs.declared.condition.Condition.{Condition}
-use Rattle.icu_checks.specs.declared.condition.Condition.TheVariants as conditions
-use Rattle.icu_checks.specs.declared.condition.ReachableElementCondition.{ReachableElementCondition}
-use Rattle.icu_checks.specs.declared.condition.ReachableElementCondition.TheVariants as of_element
-use Rattle.icu_checks.specs.declared.condition.PairCondition.{PairCondition}
-use Rattle.icu_checks.specs.declared.condition.PairCondition.TheVariants as of_pair
-use Rattle.icu_checks.specs.declared.condition.LeadCondition.{LeadCondition}
-use Rattle.icu_checks.specs.declared.condition.LeadCondition.TheVariants as of_lead
+use Rattle.icu_well_formed.specs.declared.condition.Condition.{Condition}
+use Rattle.icu_well_formed.specs.declared.condition.Condition.TheVariants as conditions
+use Rattle.icu_well_formed.specs.declared.condition.ReachableElementCondition.{ReachableElementCondition}
+use Rattle.icu_well_formed.specs.declared.condition.ReachableElementCondition.TheVariants as of_element
+use Rattle.icu_well_formed.specs.declared.condition.PairCondition.{PairCondition}
+use Rattle.icu_well_formed.specs.declared.condition.PairCondition.TheVariants as of_pair
+use Rattle.icu_well_formed.specs.declared.condition.LeadCondition.{LeadCondition}
+use Rattle.icu_well_formed.specs.declared.condition.LeadCondition.TheVariants as of_lead
 use Rattle.icu_provider.specs.CollatorTables.{CollatorTables}
-use Rattle.icu_checks.specs.ReachableElements.{IsReachableBy, IsElementBy}
-use Rattle.icu_checks.specs.ElementConditions.{reachable_element_meets}
-use Rattle.icu_weights.specs.Overlaps.{AreOverlapping}
-use Rattle.icu_checks.specs.PairConditions.{PairMeets}
-use Rattle.icu_checks.specs.LeadConditions.{LeadMeets}
+use Rattle.icu_well_formed.specs.ReachableElements.{IsReachableBy, IsElementBy}
+use Rattle.icu_well_formed.specs.ElementConditions.{reachable_element_meets}
+use Rattle.icu_well_formed.specs.PairConditions.{AreOverlapping}
+use Rattle.icu_well_formed.specs.PairConditions.{PairMeets}
+use Rattle.icu_well_formed.specs.LeadConditions.{LeadMeets}
 
 -- ---- what each table shows by itself
 

@@ -1,9 +1,9 @@
 -- A true error is of tables that don't meet the conditions.
 use Rattle.std.proofs.Common.{subst}
 use Rattle.icu_provider.specs.OwnedTables.{owned_tables}
-use Rattle.icu_checks.specs.WellFormedTables.{IsTrueError}
+use Rattle.icu_well_formed.specs.WellFormedTables.{IsTrueError}
 use Rattle.icu_checks.proofs.WellFormedLemmas.{error_not_well_formed}
-use Rattle.icu_checks.proofs.checked.CheckedTables.from_owned.Goals as goal
+use Rattle.icu_checks.proofs.checked_tables.checked_owned.Goals as goal
 
 pub returns-in-Err-clause-exact : goal.returns-in-Err-clause-exact
 returns-in-Err-clause-exact c =

@@ -3,11 +3,11 @@ use Rattle.std.specs.Prelude.{ℕ, ◌≡◌, ◌≢◌, ◌^◌, ◌<◌, false
 use Rattle.icu_entries.specs.ElementConditions.{separator_primary}
 use Rattle.icu_provider.specs.Reorderings.{Reordering, lead_byte}
 use Rattle.icu_provider.specs.SpecialPrimaries.{is_compressible}
-use Rattle.icu_checks.specs.declared.condition.LeadCondition.{LeadCondition}
-use Rattle.icu_checks.specs.declared.condition.LeadCondition.TheVariants.{Separator, HighLead, ImplicitLead, NumericLead, LeadsApart, NumericWhole}
-use Rattle.icu_weights.specs.Leads.{is_middle}
+use Rattle.icu_well_formed.specs.declared.condition.LeadCondition.{LeadCondition}
+use Rattle.icu_well_formed.specs.declared.condition.LeadCondition.TheVariants.{Separator, HighLead, ImplicitLead, NumericLead, LeadsApart, NumericWhole}
+use Rattle.icu_well_formed.specs.Leads.{is_middle}
 use Rattle.icu_provider.specs.CollatorTables.{CollatorTables, reorder_by, reorder, new_lead}
-use Rattle.icu_checks.specs.ElementConditions.{implicit_lead}
+use Rattle.icu_well_formed.specs.ElementConditions.{implicit_lead}
 
 -- every primary weight with the first lead byte is taken to the second
 abbrev pub LeadGoesToBy : Option Reordering → ℕ → ℕ → Type 0

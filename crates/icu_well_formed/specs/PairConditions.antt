@@ -1,19 +1,23 @@
 -- The conditions on two reachable elements.
-use Rattle.std.specs.Prelude.{ℕ, ◌≡◌, ◌≢◌, ◌<◌, List, IsTrue}
+use Rattle.std.specs.Prelude.{ℕ, ◌≡◌, ◌≢◌, ◌<◌, ◌⊎◌, List, IsTrue}
 use Rattle.icu_levels.specs.WeightBytes.{weight_bytes}
 use Rattle.icu_levels.specs.ListOrder.{IsBeginning}
 use Rattle.icu_entries.specs.Elements.{Element}
 use Rattle.icu_entries.specs.ElementConditions.{tertiary_of}
 use Rattle.icu_provider.specs.Reorderings.{lead_byte}
 use Rattle.icu_provider.specs.SpecialPrimaries.{is_compressible}
-use Rattle.icu_checks.specs.declared.condition.PairCondition.{PairCondition}
-use Rattle.icu_checks.specs.declared.condition.PairCondition.TheVariants.{TertiaryElementWeights, Primaries, Secondaries, Tertiaries, Compression}
+use Rattle.icu_well_formed.specs.declared.condition.PairCondition.{PairCondition}
+use Rattle.icu_well_formed.specs.declared.condition.PairCondition.TheVariants.{TertiaryElementWeights, Primaries, Secondaries, Tertiaries, Compression}
 use Rattle.icu_provider.specs.CollatorTables.{CollatorTables, reorder}
-use Rattle.icu_checks.specs.ElementConditions.{is_tertiary_element}
+use Rattle.icu_well_formed.specs.ElementConditions.{is_tertiary_element}
 
 -- the first of two different weights isn't written as a beginning of the second (UTS #10, "Large Weight Values")
 abbrev pub BeginsNot : (ℕ → List ℕ) → ℕ → ℕ → Type 0
 BeginsNot spell v w = v ≢ 0 → w ≢ 0 → v ≢ w → IsBeginning (spell v) (spell w) → ⊥
+
+-- one of two weights of four bytes is written as a beginning of the other
+abbrev pub AreOverlapping : ℕ → ℕ → Type 0
+AreOverlapping v w = IsBeginning (weight_bytes 4 v) (weight_bytes 4 w) ⊎ IsBeginning (weight_bytes 4 w) (weight_bytes 4 v)
 
 -- two primary weights that share a lead byte after reordering have lead bytes that compress alike
 abbrev pub PairCompressesAlike : CollatorTables → ℕ → ℕ → Type 0

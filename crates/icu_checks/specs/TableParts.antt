@@ -1,4 +1,4 @@
--- The tables that a value of checked tables keeps.
+-- Tables that are handed in one by one.
 use Rattle.std.specs.Prelude.{Option}
 use Rattle.icu_collation_data.specs.declared.data.CollationData.{CollationData}
 use Rattle.icu_provider.specs.declared.diacritics.CollationDiacritics.{CollationDiacritics}
@@ -7,13 +7,7 @@ use Rattle.icu_provider.specs.declared.metadata.CollationMetadata.{CollationMeta
 use Rattle.icu_provider.specs.declared.reordering.CollationReordering.{CollationReordering}
 use Rattle.icu_provider.specs.declared.special_primaries.CollationSpecialPrimaries.{CollationSpecialPrimaries}
 use Rattle.icu_provider.specs.CollatorTables.{CollatorTables}
-use Rattle.icu_provider.specs.OwnedTables.{owned_tables}
 use Rattle.icu_provider.specs.TableSets.{tables_in}
-use Rattle.icu_checks.specs.declared.checked.CheckedTables.{CheckedTables}
-
--- what the tables say that are kept
-abbrev pub checked_tables : CheckedTables → CollatorTables
-checked_tables t = owned_tables t.tables
 
 -- what tables say one by one
 abbrev pub tables_of : CollationData → CollationJamo → CollationSpecialPrimaries → CollationMetadata → Option CollationData → Option CollationReordering → CollationDiacritics → CollatorTables
