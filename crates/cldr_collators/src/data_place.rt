@@ -1,7 +1,7 @@
 //! Where the data are.
 
-use collate_commands::ProgramError;
-use named_files::{joined, refused};
+use program_files::ProgramError;
+use program_files::{joined, refused};
 use std::env::{self, VarError};
 use std::rt::Env;
 

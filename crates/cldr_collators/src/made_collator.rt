@@ -9,7 +9,7 @@ use crate::asked_rules::{LocaleRules, rules_of};
 use crate::choice::Chosen;
 use crate::file_source::{read_file, root_collator};
 use crate::tailored_collator::tailored_collator;
-use collate_commands::ProgramError;
+use program_files::ProgramError;
 use icu_collator::Collator;
 use icu_locale::TagSettings;
 use icu_options::Strength;

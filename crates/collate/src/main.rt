@@ -4,7 +4,9 @@
 mod mini_source;
 pub mod program;
 
-use collate_commands::{Input, report, words};
+use collate_commands::report;
+
+use program_files::{Input, words};
 use program::{run, wording};
 use std::process::ExitCode;
 

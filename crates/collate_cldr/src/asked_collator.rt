@@ -6,7 +6,7 @@ ghost use Rattle.icu_collator.specs.Collators.{tables_kept};
 
 use clap::ArgMatches;
 use cldr_collators::made_collator::made_collator;
-use collate_commands::ProgramError;
+use program_files::ProgramError;
 use collate_words::{chosen_by, collator_request, strength_of};
 use compiled_tables::file_collator;
 use icu_collator::Collator;

@@ -8,15 +8,15 @@ mod program;
 mod reports;
 mod search_command;
 
-use collate_commands::Input;
-use named_files::WatchedOutput;
+use program_files::Input;
+use program_files::WatchedOutput;
 use program::{Terminals, run};
 use reports::report;
 use std::io::IsTerminal;
 use std::process::ExitCode;
 
 fn main(rt: HostRuntime) -> ExitCode {
-    let status = match collate_commands::words(&rt) {
+    let status = match program_files::words(&rt) {
         Ok(words) => run(
             &rt,
             words.as_slice(),

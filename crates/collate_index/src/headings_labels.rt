@@ -3,7 +3,7 @@
 use crate::named_collator::named_locale;
 use crate::refusals::{joined, refused};
 use clap::ArgMatches;
-use collate_commands::ProgramError;
+use program_files::ProgramError;
 use icu_index_labels::{LabelsError, read_index_labels};
 use icu_ldml::parent_of;
 use std::alloc::{AllocError, Global};

@@ -1,6 +1,6 @@
 //! Names as lines: each is a name, or a name, a tab and a payload.
 
-use collate_commands::ProgramError;
+use program_files::ProgramError;
 use icu_store::StoredIndex;
 use sqlite::{Alter, Error, Transaction};
 use std::alloc::Global;

@@ -9,7 +9,7 @@ use crate::name_lines::read_all;
 use crate::named_collator::named_collator;
 use crate::refusals::{refused, refused_by, unopened};
 use clap::ArgMatches;
-use collate_commands::{ProgramError, write_text};
+use program_files::{ProgramError, write_text};
 use icu_store::{PrintedCollator, StoredIndex, open, rebuild};
 use sqlite::{Alter, Connection, Error, File, FileStore};
 use std::fs;

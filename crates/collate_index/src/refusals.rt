@@ -1,6 +1,6 @@
 //! What is said of a file where something is wrong with it.
 
-use collate_commands::ProgramError;
+use program_files::ProgramError;
 use icu_store::OpenError;
 use sqlite::{Error, ErrorCode};
 use std::alloc::{AllocError, Global};

@@ -2,7 +2,7 @@
 
 use crate::field_words::{ends_of, key_of_word};
 use clap::ArgMatches;
-use collate_commands::{ProgramError, write_text};
+use program_files::{ProgramError, write_text};
 use field_sorts::FieldSort;
 use line_fields::FieldEnds;
 use std::alloc::{AllocError, Global};

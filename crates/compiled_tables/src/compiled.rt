@@ -10,7 +10,7 @@ ghost use Rattle.compiled_tables.specs.CompiledFiles.{IsCompiled, tag_asked};
 use cldr_collators::made_collator::CollatorRequest;
 use cldr_collators::tailored_collator::{checked_root_tables, refused_by_check, tailoring_by};
 use cldr_collators::{LocaleRules, read_file, rules_of};
-use collate_commands::ProgramError;
+use program_files::ProgramError;
 use icu_checked_root::CheckedRoot;
 use icu_checks::CheckedTables;
 use icu_entries::DataError;

@@ -1,7 +1,7 @@
 //! The version of CLDR's data.
 
-use collate_commands::ProgramError;
-use named_files::{joined, refused};
+use program_files::ProgramError;
+use program_files::{joined, refused};
 use std::fs;
 use std::io::ErrorKind;
 use std::rt::Files;

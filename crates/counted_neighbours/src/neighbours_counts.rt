@@ -4,7 +4,7 @@ ghost use Rattle.std.specs.Prelude.{◌≡◌, ◌≤◌, IfOk, if◌then◌else
 ghost use Rattle.counted_neighbours.specs.Neighbours.{are_in_order};
 
 use crate::neighbours::{Counts, neighbours};
-use collate_commands::ProgramError;
+use program_files::ProgramError;
 use icu_collator::Collator;
 use std::alloc::Global;
 use std::io::{Read, Write};

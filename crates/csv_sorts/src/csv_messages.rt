@@ -1,7 +1,7 @@
 //! What is said of records that can't be sorted.
 
 use crate::csv_request::CsvError;
-use collate_commands::ProgramError;
+use program_files::ProgramError;
 use csv_records::line_of_record;
 use std::alloc::{AllocError, Global};
 

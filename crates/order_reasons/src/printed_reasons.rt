@@ -10,7 +10,7 @@ ghost use Rattle.order_reasons.specs.Reasons.{explained_text, reason_text};
 
 use crate::explained_levels::explained_text;
 use crate::reason::reason_text;
-use collate_commands::ProgramError;
+use program_files::ProgramError;
 use icu_collator::Collator;
 use line_commands::print_text;
 use std::alloc::{AllocError, Global};

@@ -2,8 +2,8 @@
 
 use crate::named_errors::refused;
 use crate::progress::{ProgressReader, RunProgress};
-use collate_commands::ProgramError;
-use line_commands::append_input;
+use crate::program_error::ProgramError;
+use crate::input::append_input;
 use std::fs;
 use std::io::{Read, Write};
 use std::rt::{Clock, Files};
