@@ -27,7 +27,7 @@ METHOD = re.compile(r"(?:<[^(]*>)?\(\s*(?:&(?:'\w+ )?)?(?:mut )?self\b")
 VALUES = {"CollatorBorrowed": "as_borrowed"}
 # Programs, and crates of tests: what the driver asks about are libraries.
 OTHERS = {"cldr_collators", "collate", "collate_cldr", "collate_commands", "collate_index", "collate_words", "compiled_tables",
-          "counted_neighbours", "named_files", "sort_names", "test_checked_root", "test_contracts", "test_lists", "test_readers",
+          "counted_neighbours", "program_files", "sort_names", "test_checked_root", "test_contracts", "test_lists", "test_readers",
           "test_rule_steps", "test_table_files", "test_tailorings", "test_text_search", "test_types", DRIVER}
 KEY, CHECK, FILE, READ, LINE, INDEX = "`key`", "`check`", "`root`", "`next` and `whole`", "`line`", "`names`"
 # Calls to which no question comes: each request of this program, or of this crate, is refused or tested by itself; some are run by

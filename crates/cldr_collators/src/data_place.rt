@@ -1,7 +1,6 @@
 //! Where the data are.
 
-use program_files::ProgramError;
-use program_files::{joined, refused};
+use program_files::{ProgramError, joined, refused};
 use std::env::{self, VarError};
 use std::rt::Env;
 

@@ -8,12 +8,11 @@ ghost use Rattle.cldr_collators.specs.RootCollators.{ComparesAs};
 ghost use Rattle.program_files.specs.NamedErrors.{IsLineOf};
 
 use crate::choice::Chosen;
-use program_files::ProgramError;
 use icu_cldr::{CldrRoot, IdeographOrder, ReadError, read_root_by};
 use icu_collator::Collator;
 use icu_entries::{DataError, DataErrorKind};
 use icu_options::Strength;
-use program_files::{refused, refused_by};
+use program_files::{ProgramError, refused, refused_by};
 use std::alloc::Global;
 use std::fs;
 use std::io::BufReader;

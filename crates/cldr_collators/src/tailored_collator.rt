@@ -11,7 +11,6 @@ use crate::asked_locale::refused_locale;
 use crate::asked_rules::{LocaleRules, refused_rule};
 use crate::choice::Chosen;
 use crate::file_source::error_of;
-use program_files::ProgramError;
 use icu_checked_root::CheckedRoot;
 use icu_checks::CheckedTables;
 use icu_cldr::CldrRoot;
@@ -19,7 +18,7 @@ use icu_collator::Collator;
 use icu_entries::{DataError, DataErrorKind};
 use icu_options::Strength;
 use icu_rule_tables::{RuleRefusal, RuleTablesError, Tailoring};
-use program_files::refused_by;
+use program_files::{ProgramError, refused_by};
 use std::alloc::Global;
 use std::fmt::Display;
 

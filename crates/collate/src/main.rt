@@ -5,9 +5,8 @@ mod mini_source;
 pub mod program;
 
 use collate_commands::report;
-
-use program_files::{Input, words};
 use program::{run, wording};
+use program_files::{Input, words};
 use std::process::ExitCode;
 
 fn main(rt: HostRuntime) -> ExitCode {

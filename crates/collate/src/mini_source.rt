@@ -7,12 +7,11 @@ ghost use Rattle.collate.specs.Answers.{mini_compares};
 ghost use Rattle.collate.specs.MiniErrors.{IsForCause, mini_refuses};
 
 use collate_commands::CollatorSource;
-
-use program_files::ProgramError;
 use icu_collator::Collator;
 use icu_entries::{DataError, DataErrorKind};
 use icu_mini::mini::Mini;
 use icu_options::{CollatorOptions, CollatorPreferences, Strength};
+use program_files::ProgramError;
 use std::alloc::Global;
 
 /// Makes collators by Mini's tables.

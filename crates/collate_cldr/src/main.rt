@@ -8,9 +8,8 @@ mod program;
 mod reports;
 mod search_command;
 
-use program_files::Input;
-use program_files::WatchedOutput;
 use program::{Terminals, run};
+use program_files::{Input, WatchedOutput};
 use reports::report;
 use std::io::IsTerminal;
 use std::process::ExitCode;

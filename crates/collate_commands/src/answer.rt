@@ -15,13 +15,12 @@ ghost use Rattle.program_files.specs.Refusals.{IsUnread};
 ghost use Rattle.collate_commands.specs.inner.Shown.{shown};
 
 use crate::command::Command;
-use program_files::read_whole;
 use crate::key_line::key_line;
-use program_files::ProgramError;
 use icu_collator::Collator;
 use icu_index::NameIndex;
 use icu_index::laws::inserts_sort;
 use keyed_lines::lines_by;
+use program_files::{ProgramError, read_whole};
 use std::alloc::{AllocError, Global};
 use std::cmp::Ordering;
 use std::io::Read;

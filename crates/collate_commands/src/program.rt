@@ -10,9 +10,8 @@ ghost use Rattle.collate_commands.specs.inner.Stops.{Stops};
 
 use crate::answer::answer;
 use crate::command::Command;
-use program_files::{ProgramError, Wording};
 use crate::source::CollatorSource;
-use program_files::write_text;
+use program_files::{ProgramError, Wording, write_text};
 use std::alloc::Global;
 use std::io::{Read, Write};
 

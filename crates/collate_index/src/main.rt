@@ -11,8 +11,8 @@ mod one_run;
 mod outcome;
 mod refusals;
 
-use program_files::Input;
 use one_run::{report, run};
+use program_files::Input;
 use std::process::ExitCode;
 
 fn main(rt: HostRuntime) -> ExitCode {

@@ -1,7 +1,6 @@
 //! The version of CLDR's data.
 
-use program_files::ProgramError;
-use program_files::{joined, refused};
+use program_files::{ProgramError, joined, refused};
 use std::fs;
 use std::io::ErrorKind;
 use std::rt::Files;

@@ -17,9 +17,9 @@ use crate::line_keys_text::keys_text;
 use crate::sort_by::SortBy;
 use collate_commands::key_line::key_line;
 use collate_commands::{sign_line, sort_key};
-use program_files::{ProgramError, write_text};
 use icu_collator::Collator;
 use keyed_lines::{OrderedLines, SortRequest, lines_by};
+use program_files::{ProgramError, write_text};
 use std::alloc::Global;
 use std::io::Write;
 
