@@ -29,7 +29,7 @@ VALUES = {"CollatorBorrowed": "as_borrowed", "Mappings": "mappings", "Overlappin
           "WeightTreeBuilder": "tree"}
 # Programs, and crates of tests: what the driver asks about are libraries.
 OTHERS = {"cldr_collators", "collate", "collate_cldr", "collate_commands", "collate_index", "collate_words", "compiled_tables",
-          "counted_neighbours", "named_files", "sort_names", "test_contracts", DRIVER}
+          "counted_neighbours", "program_files", "sort_names", "test_contracts", DRIVER}
 KEY, CHECK, FILE, READ, LINE, INDEX = "`key`", "`check`", "`root`", "`next` and `whole`", "`line`", "`names`"
 # Calls to which no question comes: each request of this program is refused by itself, and some are made by tests in Rattle alone,
 # without a refusal.

@@ -1,9 +1,8 @@
 //! The locale that is asked for: by an option, or by the environment.
 
-use collate_commands::ProgramError;
 use icu_locale::{LanguageTag, TagError, TagSettings};
 use icu_locale_rules::CollationName;
-use named_files::refused;
+use program_files::{ProgramError, refused};
 use std::alloc::{AllocError, Global};
 use std::env::{self, VarError};
 use std::rt::Env;

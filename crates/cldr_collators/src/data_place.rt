@@ -1,7 +1,6 @@
 //! Where the data are.
 
-use collate_commands::ProgramError;
-use named_files::{joined, refused};
+use program_files::{ProgramError, joined, refused};
 use std::env::{self, VarError};
 use std::rt::Env;
 

@@ -1,9 +1,8 @@
 //! The locales that there are collations of, and their types.
 
 use crate::needed_files::add_files;
-use collate_commands::ProgramError;
 use icu_ldml::{Collation, LocaleFile, default_type_of, parent_of};
-use named_files::{joined, refused};
+use program_files::{ProgramError, joined, refused};
 use std::alloc::{AllocError, Global};
 use std::fs;
 use std::rt::Files;

@@ -9,10 +9,10 @@ use crate::asked_rules::{LocaleRules, rules_of};
 use crate::choice::Chosen;
 use crate::file_source::{read_file, root_collator};
 use crate::tailored_collator::tailored_collator;
-use collate_commands::ProgramError;
 use icu_collator::Collator;
 use icu_locale::TagSettings;
 use icu_options::Strength;
+use program_files::ProgramError;
 use std::rt::Files;
 
 /// A locale, and the folder of CLDR's data in which its rules are.

@@ -1,10 +1,9 @@
 //! The files of collations, as far as they are needed.
 
-use collate_commands::ProgramError;
 use icu_ldml::{CollationFile, LdmlError, LocaleFile, collation_of, parent_of};
 use icu_locale::{LanguageTag, TagError};
 use icu_locale_rules::{CollationName, import_tags, taken_collation};
-use named_files::{joined, refused, refused_by};
+use program_files::{ProgramError, joined, refused, refused_by};
 use std::alloc::{AllocError, Global};
 use std::fs;
 use std::io::{ErrorKind, Read};

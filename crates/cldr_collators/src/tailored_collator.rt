@@ -11,7 +11,6 @@ use crate::asked_locale::refused_locale;
 use crate::asked_rules::{LocaleRules, refused_rule};
 use crate::choice::Chosen;
 use crate::file_source::error_of;
-use collate_commands::ProgramError;
 use icu_checked_root::CheckedRoot;
 use icu_checks::checked_owned;
 use icu_cldr::CldrRoot;
@@ -20,7 +19,7 @@ use icu_entries::{DataError, DataErrorKind};
 use icu_options::Strength;
 use icu_rule_tables::{RuleRefusal, RuleTablesError, Tailoring};
 use icu_well_formed::CheckedTables;
-use named_files::refused_by;
+use program_files::{ProgramError, refused_by};
 use std::alloc::Global;
 use std::fmt::Display;
 

@@ -1,8 +1,8 @@
 -- What a refused collator says of its tables.
 use Rattle.std.proofs.Common.{◌≡◌, ℕ, List, string_bytes, Result, Ok, IfOk, subst}
-use Rattle.collate_commands.specs.CollatorErrors.{IsCollatorError}
-use Rattle.collate_commands.specs.declared.program_error.ProgramError.{ProgramError}
-use Rattle.collate_commands.specs.declared.program_error.ProgramError.TheVariants.{WrongWords, NoMemory, Refused, ReadFailed, WriteFailed}
+use Rattle.program_files.specs.Refusals.{IsCollatorError}
+use Rattle.program_files.specs.declared.program_error.ProgramError.{ProgramError}
+use Rattle.program_files.specs.declared.program_error.ProgramError.TheVariants.{WrongWords, NoMemory, Refused, ReadFailed, WriteFailed}
 
 -- what each line says of its cause holds of the error
 pub error_says : (P Q : List ℕ → Type 0) → ((line : List ℕ) → P line → Q line) → (error : ProgramError) → IsCollatorError P error → IsCollatorError Q error

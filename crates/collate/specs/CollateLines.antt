@@ -1,6 +1,6 @@
 -- What the program says of its errors.
 use Rattle.std.specs.Prelude.{ℕ, List, [], ◌∷◌, ◌++◌, codes}
-use Rattle.collate_commands.specs.ProgramErrors.{Lines}
+use Rattle.program_files.specs.ProgramErrors.{Lines}
 
 -- the lines that `collate` says of its errors
 abbrev pub collate_lines : Lines

@@ -1,10 +1,10 @@
 -- What a run takes of standard input and leaves on standard output and standard error, in the words of the commands
 -- that it has: by Mini's tables, with the program's own lines.
 use Rattle.collate_commands.specs.Commands.{Asked}
-use Rattle.collate_commands.specs.ProgramErrors.{line_of}
+use Rattle.program_files.specs.ProgramErrors.{line_of}
 use Rattle.collate_commands.specs.ProgramRuns as runs
-use Rattle.collate_commands.specs.PartialWrites.{AppendsBeginning}
-use Rattle.collate_commands.specs.declared.program_error.ProgramError.{ProgramError}
+use Rattle.program_files.specs.PartialWrites.{AppendsBeginning}
+use Rattle.program_files.specs.declared.program_error.ProgramError.{ProgramError}
 use Rattle.collate.specs.Answers.{mini_compares}
 use Rattle.collate.specs.CollateLines.{collate_lines}
 use Rattle.collate.specs.MiniErrors.{mini_refuses}

@@ -4,8 +4,9 @@
 mod mini_source;
 pub mod program;
 
-use collate_commands::{Input, report, words};
+use collate_commands::report;
 use program::{run, wording};
+use program_files::{Input, words};
 use std::process::ExitCode;
 
 fn main(rt: HostRuntime) -> ExitCode {

@@ -2,15 +2,16 @@
 ghost use Rattle.std.specs.Prelude.{◌≡◌, IfOk, IfErr};
 ghost use Rattle.icu_well_formed.specs.WellFormedTables.{IsWellFormedTables};
 ghost use Rattle.icu_collator.specs.Collators.{collation_kept, tables_kept};
-ghost use Rattle.collate_commands.specs.CollatorErrors.{IsCollatorError};
+ghost use Rattle.program_files.specs.Refusals.{IsCollatorError};
 ghost use Rattle.collate.specs.Answers.{mini_compares};
 ghost use Rattle.collate.specs.MiniErrors.{IsForCause, mini_refuses};
 
-use collate_commands::{CollatorSource, ProgramError};
+use collate_commands::CollatorSource;
 use icu_collator::Collator;
 use icu_entries::{DataError, DataErrorKind};
 use icu_mini::mini::Mini;
 use icu_options::{CollatorOptions, CollatorPreferences, Strength};
+use program_files::ProgramError;
 use std::alloc::Global;
 
 /// Makes collators by Mini's tables.

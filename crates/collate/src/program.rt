@@ -2,13 +2,13 @@
 ghost use Rattle.std.specs.Prelude.{◌≡◌, ◌≤◌, ◌↔◌, None, IfSome, map, string_bytes};
 ghost use Rattle.std.specs.Io.KnownBytes.{Keeps};
 ghost use Rattle.collate_commands.specs.Commands.{command_of};
-ghost use Rattle.collate_commands.specs.ProgramErrors.{lines_in};
-ghost use Rattle.collate_commands.specs.declared.program_error.ProgramError.TheVariants.{WrongWords};
+ghost use Rattle.program_files.specs.ProgramErrors.{lines_in};
+ghost use Rattle.program_files.specs.declared.program_error.ProgramError.TheVariants.{WrongWords};
 ghost use Rattle.collate.specs.CollateLines.{collate_lines};
 ghost use Rattle.collate.specs.MiniRuns.{Says, PrintsMiniAnswer, FailsOverMini};
 
 use crate::mini_source::MiniSource;
-use collate_commands::Wording;
+use program_files::Wording;
 use std::alloc::Global;
 use std::io::{Read, Write};
 

@@ -6,10 +6,10 @@ ghost use Rattle.icu_collator.specs.Collators.{tables_kept};
 
 use clap::ArgMatches;
 use cldr_collators::made_collator::made_collator;
-use collate_commands::ProgramError;
 use collate_words::{chosen_by, collator_request, strength_of};
 use compiled_tables::file_collator;
 use icu_collator::Collator;
+use program_files::ProgramError;
 use std::rt::{Env, Files};
 
 /// The collator that words ask for.

@@ -4,14 +4,13 @@ ghost use Rattle.std.specs.Prelude.{◌≤◌, IfOk};
 
 use crate::asked_collator::collator_by_words;
 use clap::ArgMatches;
-use collate_commands::{ProgramError, write_text};
 use collate_words::{column_words, csv_delimiter, csv_request_of, files_of, has_header};
 use csv_sorts::{
     CsvError, CsvRequest, column_disorder_text, columns_of_words, csv_error_said,
     first_column_disorder, print_sorted_by_columns, text_sorted_by_columns,
 };
 use icu_collator::Collator;
-use named_files::{RunProgress, read_inputs, replace_file};
+use program_files::{ProgramError, RunProgress, read_inputs, replace_file, write_text};
 use std::io::{Read, Write};
 use std::rt::{Clock, Env, Files};
 

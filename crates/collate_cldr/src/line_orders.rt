@@ -5,7 +5,6 @@ ghost use Rattle.std.specs.Prelude.{◌≤◌, IfOk};
 use crate::asked_collator::collator_by_words;
 use crate::reports::{DIFFERS, DONE};
 use clap::ArgMatches;
-use collate_commands::{ProgramError, write_text};
 use collate_words::{asks_for_fields, field_ends, files_of, keys_of, sort_request_of};
 use field_disorders::first_field_disorder;
 use field_sorts::{FieldSorts, print_sorted_by_fields, text_sorted_by_fields};
@@ -13,7 +12,7 @@ use icu_collator::Collator;
 use keyed_lines::SortRequest;
 use line_commands::{disorder_text, first_disorder, print_sorted, sorted_text};
 use line_fields::FieldEnds;
-use named_files::{RunProgress, read_inputs, replace_file};
+use program_files::{ProgramError, RunProgress, read_inputs, replace_file, write_text};
 use std::io::{Read, Write};
 use std::rt::{Clock, Env, Files};
 

@@ -8,15 +8,14 @@ mod program;
 mod reports;
 mod search_command;
 
-use collate_commands::Input;
-use named_files::WatchedOutput;
 use program::{Terminals, run};
+use program_files::{Input, WatchedOutput};
 use reports::report;
 use std::io::IsTerminal;
 use std::process::ExitCode;
 
 fn main(rt: HostRuntime) -> ExitCode {
-    let status = match collate_commands::words(&rt) {
+    let status = match program_files::words(&rt) {
         Ok(words) => run(
             &rt,
             words.as_slice(),

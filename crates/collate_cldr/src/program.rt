@@ -10,7 +10,6 @@ use crate::search_command::search;
 use clap::ArgMatches;
 use clap::error::{Error, ErrorKind};
 use cldr_collators::{cldr_folder, locale_lines, read_file, root_file};
-use collate_commands::{ProgramError, write_text};
 use collate_words::{
     CheckWanted, asks_for_csv, asks_for_fields, check_of, collator_request, files_of, program,
     say_wrong_field, separator_of, text_of, wrong_csv_words, wrong_field_word,
@@ -18,8 +17,10 @@ use collate_words::{
 use compiled_tables::{cldr_version, compiled_tables};
 use counted_neighbours::print_neighbours;
 use line_commands::{print_comparison, print_key, print_keys};
-use named_files::{RunProgress, WatchedOutput, read_inputs, replace_file};
 use order_reasons::{print_explanation, print_reason};
+use program_files::{
+    ProgramError, RunProgress, WatchedOutput, read_inputs, replace_file, write_text,
+};
 use std::io::{Read, Write};
 use std::rt::{Clock, Env, Files};
 

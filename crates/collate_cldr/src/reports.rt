@@ -2,7 +2,7 @@
 
 ghost use Rattle.std.specs.Prelude.{◌≤◌};
 
-use collate_commands::{ProgramError, write_text};
+use program_files::{ProgramError, write_text};
 use std::io::Write;
 
 /// The status of a run: nothing is wrong.

@@ -1,11 +1,8 @@
 -- What is read of the input.
 use Rattle.std.specs.Prelude.{ℕ, List, Option}
-use Rattle.std.specs.Io.KnownBytes.{Keeps, Consumes, IsAtEnd}
+use Rattle.std.specs.Io.KnownBytes.{Keeps}
 use Rattle.collate_commands.specs.Commands.{Asked, for_sorting}
-
--- the input was read to its end, and these bytes stood there
-abbrev pub TakesWhole : Option (List ℕ) → Option (List ℕ) → List ℕ → Type 0
-TakesWhole old new bytes = Consumes old new bytes × IsAtEnd new
+use Rattle.program_files.specs.Inputs.{TakesWhole}
 
 -- a sort reads the input to its end, and nothing else reads it
 abbrev pub ReadsFor : Asked → Option (List ℕ) → Option (List ℕ) → List ℕ → Type 0

@@ -3,8 +3,6 @@ pub mod Commands
 pub mod KeyText
 pub mod InputRead
 pub mod Answers
-pub mod ProgramErrors
 pub mod CollatorErrors
-pub mod PartialWrites
 pub mod ProgramRuns
 pub mod inner

@@ -5,9 +5,9 @@ use Rattle.std.specs.Io.KnownBytes.{Keeps, Appends}
 use Rattle.icu_options.specs.declared.settings.Strength.{Strength}
 use Rattle.collate_commands.specs.Answers.{Compares, IsAnswer}
 use Rattle.collate_commands.specs.Commands.{Asked, strength_of}
-use Rattle.collate_commands.specs.ProgramErrors.{Lines}
+use Rattle.program_files.specs.ProgramErrors.{Lines}
 use Rattle.collate_commands.specs.InputRead.{ReadsFor, AsksForInput}
-use Rattle.collate_commands.specs.PartialWrites.{AppendsBeginning}
+use Rattle.program_files.specs.PartialWrites.{AppendsBeginning}
 
 -- the bytes that a reader has left or a writer holds, where they are known
 abbrev pub Known : Type 0

@@ -3,16 +3,15 @@ ghost use Rattle.std.specs.Prelude.{◌≡◌, ◌≤◌, ◌↔◌, None, IfSom
 ghost use Rattle.std.specs.Io.KnownBytes.{Keeps};
 ghost use Rattle.collate_commands.specs.inner.Asked.{asked};
 ghost use Rattle.collate_commands.specs.Commands.{command_of};
-ghost use Rattle.collate_commands.specs.ProgramErrors.{line_of, lines_in, status_of};
+ghost use Rattle.program_files.specs.ProgramErrors.{line_of, lines_in, status_of};
 ghost use Rattle.collate_commands.specs.ProgramRuns.{PrintsAnswer, Fails};
-ghost use Rattle.collate_commands.specs.PartialWrites.{AppendsBeginning};
+ghost use Rattle.program_files.specs.PartialWrites.{AppendsBeginning};
 ghost use Rattle.collate_commands.specs.inner.Stops.{Stops};
 
 use crate::answer::answer;
 use crate::command::Command;
-use crate::program_error::{ProgramError, Wording};
 use crate::source::CollatorSource;
-use crate::writing::write_text;
+use program_files::{ProgramError, Wording, write_text};
 use std::alloc::Global;
 use std::io::{Read, Write};
 

@@ -4,11 +4,11 @@ ghost use Rattle.icu_well_formed.specs.WellFormedTables.{IsWellFormedTables};
 ghost use Rattle.icu_collator.specs.Collators.{collation_kept, tables_kept};
 ghost use Rattle.icu_options.specs.declared.settings.Strength.{Strength};
 ghost use Rattle.icu_text_order.specs.Collations.{Collation};
-ghost use Rattle.collate_commands.specs.CollatorErrors.{IsCollatorError};
+ghost use Rattle.program_files.specs.Refusals.{IsCollatorError};
 
-use crate::program_error::ProgramError;
 use icu_collator::Collator;
 use icu_options::Strength;
+use program_files::ProgramError;
 use std::alloc::Global;
 
 /// What makes the collators of a program, by the strength that its words name: the tables that it compiles in, or those

@@ -3,9 +3,9 @@
 use crate::named_collator::named_locale;
 use crate::refusals::{joined, refused};
 use clap::ArgMatches;
-use collate_commands::ProgramError;
 use icu_index_labels::{LabelsError, read_index_labels};
 use icu_ldml::parent_of;
+use program_files::ProgramError;
 use std::alloc::{AllocError, Global};
 use std::fs;
 use std::io::{ErrorKind, Read};

@@ -11,12 +11,12 @@ mod one_run;
 mod outcome;
 mod refusals;
 
-use collate_commands::Input;
 use one_run::{report, run};
+use program_files::Input;
 use std::process::ExitCode;
 
 fn main(rt: HostRuntime) -> ExitCode {
-    let status = match collate_commands::words(&rt) {
+    let status = match program_files::words(&rt) {
         Ok(words) => run(
             &rt,
             words.as_slice(),

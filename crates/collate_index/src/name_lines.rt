@@ -1,7 +1,7 @@
 //! Names as lines: each is a name, or a name, a tab and a payload.
 
-use collate_commands::ProgramError;
 use icu_store::StoredIndex;
+use program_files::ProgramError;
 use sqlite::{Alter, Error, Transaction};
 use std::alloc::Global;
 use std::io::Read;

@@ -5,9 +5,9 @@ use clap::ArgMatches;
 use cldr_collators::asked_locale::asked_by;
 use cldr_collators::made_collator::{CollatorRequest, PlacedLocale, made_collator};
 use cldr_collators::{Chosen, cldr_folder, root_file};
-use collate_commands::ProgramError;
 use icu_options::{AlternateHandling, CollationNumericOrdering, Strength};
 use icu_store::PrintedCollator;
+use program_files::ProgramError;
 use std::alloc::{AllocError, Global};
 use std::rt::{Env, Files};
 

@@ -3,7 +3,7 @@
 use crate::index_words::index_words;
 use crate::outcome::{DONE, FAILED, WRONG_WORDS, run_command};
 use clap::error::{Error as WordError, ErrorKind};
-use collate_commands::{ProgramError, write_text};
+use program_files::{ProgramError, write_text};
 use std::io::{Read, Write};
 
 /// Writes to standard error what kept the program from its end, and returns the status. That a write fails there

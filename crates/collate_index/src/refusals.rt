@@ -1,7 +1,7 @@
 //! What is said of a file where something is wrong with it.
 
-use collate_commands::ProgramError;
 use icu_store::OpenError;
+use program_files::ProgramError;
 use sqlite::{Error, ErrorCode};
 use std::alloc::{AllocError, Global};
 use std::fmt::Display;

@@ -5,7 +5,7 @@ use clap::ArgMatches;
 use cldr_collators::asked_locale::asked_locale;
 use cldr_collators::made_collator::{CollatorRequest, PlacedLocale};
 use cldr_collators::{cldr_folder, root_file};
-use collate_commands::ProgramError;
+use program_files::ProgramError;
 use std::rt::Env;
 
 /// The locale that is asked for, by the option `--locale` or the environment, and where its rules are.

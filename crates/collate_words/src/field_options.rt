@@ -2,9 +2,9 @@
 
 use crate::field_words::{ends_of, key_of_word};
 use clap::ArgMatches;
-use collate_commands::{ProgramError, write_text};
 use field_sorts::FieldSort;
 use line_fields::FieldEnds;
+use program_files::{ProgramError, write_text};
 use std::alloc::{AllocError, Global};
 use std::io::Write;
 

@@ -10,7 +10,6 @@ ghost use Rattle.compiled_tables.specs.CompiledFiles.{IsCompiled, tag_asked};
 use cldr_collators::made_collator::CollatorRequest;
 use cldr_collators::tailored_collator::{checked_root_tables, refused_by_check, tailoring_by};
 use cldr_collators::{LocaleRules, read_file, rules_of};
-use collate_commands::ProgramError;
 use icu_checked_root::CheckedRoot;
 use icu_checks::checked_set;
 use icu_entries::DataError;
@@ -18,6 +17,7 @@ use icu_provider::load_tables;
 use icu_rule_tables::Tailoring;
 use icu_table_file::{Origin, write};
 use icu_well_formed::CheckedTables;
+use program_files::ProgramError;
 use std::alloc::Global;
 use std::rt::Files;
 

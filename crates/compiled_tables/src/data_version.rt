@@ -1,7 +1,6 @@
 //! The version of CLDR's data.
 
-use collate_commands::ProgramError;
-use named_files::{joined, refused};
+use program_files::{ProgramError, joined, refused};
 use std::fs;
 use std::io::ErrorKind;
 use std::rt::Files;

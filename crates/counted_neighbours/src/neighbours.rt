@@ -9,9 +9,9 @@ ghost use Rattle.icu_collator.specs.Collators.{collation_kept};
 ghost use Rattle.counted_neighbours.specs.Neighbours.{is_greater, is_greater_key, one_more, HasOtherWord, SpellsLineText, CountsLines};
 ghost use Rattle.std.specs.Ordering.{is_gt};
 
-use collate_commands::ProgramError;
 use icu_cldr::hexadecimal::character;
 use icu_collator::Collator;
+use program_files::ProgramError;
 use std::alloc::{AllocError, Global};
 use std::cmp::Ordering;
 use std::io::{self, BufRead, BufReader, ErrorKind, Read};

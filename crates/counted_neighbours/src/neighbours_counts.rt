@@ -4,8 +4,8 @@ ghost use Rattle.std.specs.Prelude.{◌≡◌, ◌≤◌, IfOk, if◌then◌else
 ghost use Rattle.counted_neighbours.specs.Neighbours.{are_in_order};
 
 use crate::neighbours::{Counts, neighbours};
-use collate_commands::ProgramError;
 use icu_collator::Collator;
+use program_files::ProgramError;
 use std::alloc::Global;
 use std::io::{Read, Write};
 

@@ -1,7 +1,7 @@
 -- Where no write failed nothing was printed.
 use Rattle.std.proofs.Common.{◌≡◌, ◌≢◌, Err, IfErr, List, Ok, OnErr, Option, Result, subst, sym, ℕ}
 use Rattle.std.specs.Io.KnownBytes.{Keeps}
-use Rattle.collate_commands.specs.PartialWrites.{AppendsBeginning}
+use Rattle.program_files.specs.PartialWrites.{AppendsBeginning}
 use Rattle.csv_sorts.specs.CsvErrors.{ExplainsCsv}
 use Rattle.csv_sorts.specs.SortedRecords.{StopsCsv}
 use Rattle.csv_sorts.specs.declared.csv_request.CsvError.{CsvError}

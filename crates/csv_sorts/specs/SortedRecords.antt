@@ -3,7 +3,7 @@ use Rattle.std.specs.Prelude.{◌≡◌, ℕ, ◌-◌, List, ◌++◌, Option, l
 use Rattle.std.specs.List.{AllByRecursion}
 use Rattle.std.specs.Ordering.{is_eq}
 use Rattle.std.specs.Io.KnownBytes.{Keeps}
-use Rattle.collate_commands.specs.PartialWrites.{AppendsBeginning}
+use Rattle.program_files.specs.PartialWrites.{AppendsBeginning}
 use Rattle.csv.specs.Reading.{strip_bom}
 use Rattle.csv_records.specs.CsvCuts.{HasRecords}
 use Rattle.icu_index.specs.Listings.{IsStablySorted}

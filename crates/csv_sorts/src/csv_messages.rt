@@ -1,8 +1,8 @@
 //! What is said of records that can't be sorted.
 
 use crate::csv_request::CsvError;
-use collate_commands::ProgramError;
 use csv_records::line_of_record;
+use program_files::ProgramError;
 use std::alloc::{AllocError, Global};
 
 /// The line that says of a line of a source what is wrong there.

@@ -2,7 +2,7 @@
 
 ghost use Rattle.std.specs.Prelude.{◌≡◌, ◌≢◌, ◌++◌, IfErr, IfOk, OnErr, OnOk};
 ghost use Rattle.std.specs.Io.KnownBytes.{Appends};
-ghost use Rattle.collate_commands.specs.PartialWrites.{AppendsBeginning};
+ghost use Rattle.program_files.specs.PartialWrites.{AppendsBeginning};
 ghost use Rattle.csv.specs.Reading.{strip_bom};
 ghost use Rattle.csv_records.specs.CsvCuts.{HasRecords};
 ghost use Rattle.icu_collator.specs.Collators.{collation_kept};

@@ -7,10 +7,10 @@ ghost use Rattle.field_sorts.specs.FieldSortedInputs.{SortsByFields};
 
 use crate::field_sort::FieldSorts;
 use crate::line_key::keys_of_lines;
-use collate_commands::ProgramError;
 use icu_collator::Collator;
 use keyed_lines::{OrderedLines, SortRequest, lines_by};
 use line_commands::print_lines;
+use program_files::ProgramError;
 use std::alloc::Global;
 use std::io::Write;
 

@@ -1,4 +1,3 @@
-pub mod EndLemmas
 pub mod LineNameLemmas
 pub mod KeyFrontLemmas
 pub mod SortedInputLemmas

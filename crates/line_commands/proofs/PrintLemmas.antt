@@ -1,8 +1,8 @@
 -- What was printed of a text is printed of one that is so.
 use Rattle.std.proofs.Common.{◌≡◌, Err, IfErr, List, Ok, OnOk, Option, Result, sym, subst, ℕ}
 use Rattle.std.specs.Io.KnownBytes.{Appends}
-use Rattle.collate_commands.specs.declared.program_error.ProgramError.{ProgramError}
-use Rattle.collate_commands.specs.declared.program_error.ProgramError.TheVariants as errors
+use Rattle.program_files.specs.declared.program_error.ProgramError.{ProgramError}
+use Rattle.program_files.specs.declared.program_error.ProgramError.TheVariants as errors
 use Rattle.line_commands.specs.Printed.{Prints, StopsPrinting}
 
 module _ (is_text : List ℕ → Type 0) (text : List ℕ) (is : is_text text) (old new : Option (List ℕ)) where

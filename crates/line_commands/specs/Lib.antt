@@ -3,7 +3,6 @@ pub use Rattle.keyed_lines.specs.FirstLines
 pub use Rattle.keyed_lines.specs.InputLines
 pub use Rattle.keyed_lines.specs.KeyedOrders
 pub mod Disorders
-pub mod Inputs
 pub mod LineKeyTexts
 pub mod LineOrders
 pub mod Printed

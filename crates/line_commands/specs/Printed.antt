@@ -1,10 +1,10 @@
 -- What is printed, where it may be stopped.
 use Rattle.std.specs.Prelude.{ℕ, List}
 use Rattle.std.specs.Io.KnownBytes.{Appends, Keeps}
-use Rattle.collate_commands.specs.PartialWrites.{AppendsBeginning}
+use Rattle.program_files.specs.PartialWrites.{AppendsBeginning}
 use Rattle.collate_commands.specs.ProgramRuns.{Known}
-use Rattle.collate_commands.specs.declared.program_error.ProgramError.{ProgramError}
-use Rattle.collate_commands.specs.declared.program_error.ProgramError.TheVariants.{NoMemory, WriteFailed}
+use Rattle.program_files.specs.declared.program_error.ProgramError.{ProgramError}
+use Rattle.program_files.specs.declared.program_error.ProgramError.TheVariants.{NoMemory, WriteFailed}
 
 -- such a text was printed
 abbrev pub Prints : (List ℕ → Type 0) → Known → Known → Type 0

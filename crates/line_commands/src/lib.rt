@@ -3,7 +3,6 @@
 
 mod collated_lines;
 pub mod disorder;
-pub mod input;
 mod line_front;
 pub mod line_keys_text;
 pub mod printing;
@@ -13,7 +12,6 @@ mod sort_keys;
 pub mod sorted_lines;
 
 pub use disorder::{disorder_text, first_disorder};
-pub use input::append_input;
 pub use line_keys_text::keys_text;
 pub use printing::{
     print_comparison, print_key, print_keys, print_lines, print_sorted, print_text,

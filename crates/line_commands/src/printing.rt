@@ -16,9 +16,10 @@ ghost use Rattle.line_commands.specs.SortedInputs.{SortsInput};
 use crate::line_keys_text::keys_text;
 use crate::sort_by::SortBy;
 use collate_commands::key_line::key_line;
-use collate_commands::{ProgramError, sign_line, sort_key, write_text};
+use collate_commands::{sign_line, sort_key};
 use icu_collator::Collator;
 use keyed_lines::{OrderedLines, SortRequest, lines_by};
+use program_files::{ProgramError, write_text};
 use std::alloc::Global;
 use std::io::Write;
 

@@ -9,9 +9,9 @@ ghost use Rattle.line_searches.specs.WantedLines.{count_text, wanted_count, want
 
 use crate::search_request::SearchRequest;
 use crate::wanted_lines::{count_wanted, wanted_text};
-use collate_commands::ProgramError;
 use icu_text_search::Searcher;
 use line_commands::print_text;
+use program_files::ProgramError;
 use std::alloc::{AllocError, Global};
 use std::io::Write;
 

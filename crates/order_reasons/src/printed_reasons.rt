@@ -10,9 +10,9 @@ ghost use Rattle.order_reasons.specs.Reasons.{explained_text, reason_text};
 
 use crate::explained_levels::explained_text;
 use crate::reason::reason_text;
-use collate_commands::ProgramError;
 use icu_collator::Collator;
 use line_commands::print_text;
+use program_files::ProgramError;
 use std::alloc::{AllocError, Global};
 use std::io::Write;
 

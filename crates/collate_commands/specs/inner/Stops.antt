@@ -5,8 +5,8 @@ use Rattle.collate_commands.specs.Answers.{Compares}
 use Rattle.collate_commands.specs.Commands.{Asked, strength_of}
 use Rattle.collate_commands.specs.InputRead.{AsksForInput}
 use Rattle.collate_commands.specs.ProgramRuns.{Known, Refuses, PrintsBeginning}
-use Rattle.collate_commands.specs.declared.program_error.ProgramError.{ProgramError}
-use Rattle.collate_commands.specs.declared.program_error.ProgramError.TheVariants.{WrongWords, NoMemory, Refused, ReadFailed, WriteFailed}
+use Rattle.program_files.specs.declared.program_error.ProgramError.{ProgramError}
+use Rattle.program_files.specs.declared.program_error.ProgramError.TheVariants.{WrongWords, NoMemory, Refused, ReadFailed, WriteFailed}
 
 -- words that were right were answered by nothing, or by a beginning where a write failed
 abbrev pub Stops : Compares → Refuses → Asked → Known → Known → Known → Known → ProgramError → Type 0

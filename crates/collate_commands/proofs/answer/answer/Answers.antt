@@ -4,7 +4,7 @@ use Rattle.icu_text_order.specs.Collations.{Collation}
 use Rattle.icu_text_order.specs.TextOrder.{text_order}
 use Rattle.collate_commands.specs.Answers.{sign_of}
 use Rattle.collate_commands.specs.KeyText.{key_text}
-use Rattle.collate_commands.proofs.WritingLemmas.{Keeps_same}
+use Rattle.program_files.proofs.WritingLemmas.{Keeps_same}
 use Rattle.collate_commands.proofs.answer.answer.Goals as goal
 
 pub returns-in_ok-from_slice-in-Compare-clause-answer : goal.returns-in_ok-from_slice-in-Compare-clause-answer

@@ -1,7 +1,7 @@
 -- Whether the write fails or not, a beginning of the line stands there.
 use Rattle.std.proofs.Common.{◌∙◌, subst}
-use Rattle.collate_commands.specs.PartialWrites.{AppendsBeginning}
-use Rattle.collate_commands.proofs.WritingLemmas.{AppendsBeginning_either}
+use Rattle.program_files.specs.PartialWrites.{AppendsBeginning}
+use Rattle.program_files.proofs.WritingLemmas.{AppendsBeginning_either}
 use Rattle.collate_commands.proofs.program.report.Goals as goal
 
 pub returns-clause-said : goal.returns-clause-said

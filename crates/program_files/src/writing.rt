@@ -2,7 +2,7 @@
 ghost use Rattle.std.specs.Prelude.{OnOk, OnErr};
 ghost use Rattle.std.specs.Io.KnownBytes.{Appends, WriteAppends};
 ghost use Rattle.std.specs.Io.{WritesAtMost};
-ghost use Rattle.collate_commands.specs.PartialWrites.{AppendsBeginning};
+ghost use Rattle.program_files.specs.PartialWrites.{AppendsBeginning};
 
 use std::io::{Error, ErrorKind, Result, Write};
 

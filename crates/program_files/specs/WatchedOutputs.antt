@@ -1,6 +1,6 @@
 -- What an output holds that is watched.
 use Rattle.std.specs.Prelude.{ℕ, List, Option}
-use Rattle.named_files.specs.declared.watched_output.WatchedOutput.{WatchedOutput}
+use Rattle.program_files.specs.declared.watched_output.WatchedOutput.{WatchedOutput}
 
 -- what the output holds
 abbrev pub watched_contents : {W : Type 0} → (W → Option (List ℕ)) → WatchedOutput W → Option (List ℕ)

@@ -3,7 +3,7 @@ use Rattle.std.proofs.Common.{ℕ, ◌+◌, ◌≤◌, List, ◌++◌, Option, S
 use Rattle.std.proofs.lemmas.List.{take_rest}
 use Rattle.std.proofs.Math.Seq.{take-add, take-length}
 use Rattle.std.specs.Io.KnownBytes.{Appends, Keeps}
-use Rattle.collate_commands.specs.PartialWrites.{AppendsBeginning}
+use Rattle.program_files.specs.PartialWrites.{AppendsBeginning}
 
 pub Keeps_same : (known : Option (List ℕ)) → Keeps known known
 Keeps_same None = tt

@@ -1,7 +1,7 @@
 -- What was taken so far stands in the writer.
 use Rattle.std.proofs.Common.{◌≤◌, take, length}
 use Rattle.std.specs.Io.KnownBytes.{Appends}
-use Rattle.collate_commands.proofs.writing.write_text.Given as goal
+use Rattle.program_files.proofs.writing.write_text.Given as goal
 
 abbrev pub invariant-writing : goal.invariant-writing
 invariant-writing g l = record {

@@ -1,11 +1,12 @@
 //! The inputs that lines are read from.
 
 ghost use Rattle.std.specs.Prelude.{◌≡◌, ◌++◌, List, ℕ, IfErr, OnOk};
-ghost use Rattle.collate_commands.specs.CollatorErrors.{IsUnread};
-ghost use Rattle.collate_commands.specs.InputRead.{TakesWhole};
-ghost use Rattle.line_commands.specs.Inputs.{ended, ends_in};
+ghost use Rattle.program_files.specs.Refusals.{IsUnread};
+ghost use Rattle.program_files.specs.Inputs.{TakesWhole};
+ghost use Rattle.program_files.specs.Inputs.{ended, ends_in};
 
-use collate_commands::{ProgramError, read_whole};
+use crate::input_read::read_whole;
+use crate::program_error::ProgramError;
 use std::alloc::{AllocError, Global};
 use std::io::Read;
 

@@ -1,7 +1,8 @@
 //! A file that is written whole or not at all.
 
 use crate::named_errors::{joined, refused};
-use collate_commands::{ProgramError, write_text};
+use crate::program_error::ProgramError;
+use crate::writing::write_text;
 use std::fs;
 use std::rt::Files;
 

@@ -32,7 +32,7 @@ pub struct Wording {
 }
 
 impl ProgramError {
-    ghost use Rattle.collate_commands.specs.ProgramErrors.{status_of, line_of, lines_in};
+    ghost use Rattle.program_files.specs.ProgramErrors.{status_of, line_of, lines_in};
 
     /// The status that the program then ends with.
     pub fn status(&self) -> u8
@@ -63,7 +63,7 @@ impl ProgramError {
 }
 
 impl From<AllocError> for ProgramError {
-    ghost use Rattle.collate_commands.specs.declared.program_error.ProgramError.TheVariants.{NoMemory};
+    ghost use Rattle.program_files.specs.declared.program_error.ProgramError.TheVariants.{NoMemory};
 
     ghost from_gives = { λ _ error. error ≡ NoMemory };
 
@@ -73,7 +73,7 @@ impl From<AllocError> for ProgramError {
 }
 
 impl<T: Drop> From<AllocFailed<T>> for ProgramError {
-    ghost use Rattle.collate_commands.specs.declared.program_error.ProgramError.TheVariants.{NoMemory};
+    ghost use Rattle.program_files.specs.declared.program_error.ProgramError.TheVariants.{NoMemory};
 
     ghost from_gives = { λ _ error. error ≡ NoMemory };
 

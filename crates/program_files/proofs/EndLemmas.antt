@@ -1,6 +1,6 @@
 -- How bytes end.
 use Rattle.std.proofs.Common.{◌≡◌, ℕ, suc, ◌-◌, ◌<◌, true, List, [], ◌∷◌, get_or, length, nat_eq, refl, sym, ap, ◌∙◌, arith}
-use Rattle.line_commands.specs.Inputs.{ends_in}
+use Rattle.program_files.specs.Inputs.{ends_in}
 
 -- no bytes count as ended
 pub no_end : (separator : ℕ) (bytes : List ℕ) → length bytes ≡ 0 → ends_in separator bytes ≡ true

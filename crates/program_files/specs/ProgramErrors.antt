@@ -1,8 +1,8 @@
 -- What keeps a program from printing an answer: the status that it ends with, and what it says.
 use Rattle.std.specs.Prelude.{ℕ, List, string_bytes}
-use Rattle.collate_commands.specs.declared.program_error.ProgramError.{ProgramError}
-use Rattle.collate_commands.specs.declared.program_error.ProgramError.TheVariants.{WrongWords, NoMemory, Refused, ReadFailed, WriteFailed}
-use Rattle.collate_commands.specs.declared.program_error.Wording.{Wording}
+use Rattle.program_files.specs.declared.program_error.ProgramError.{ProgramError}
+use Rattle.program_files.specs.declared.program_error.ProgramError.TheVariants.{WrongWords, NoMemory, Refused, ReadFailed, WriteFailed}
+use Rattle.program_files.specs.declared.program_error.Wording.{Wording}
 
 -- the status that a program ends with for an error
 abbrev pub status_of : ProgramError → ℕ

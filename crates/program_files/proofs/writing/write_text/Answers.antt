@@ -1,6 +1,6 @@
 -- What was taken before, and then what the next write took.
-use Rattle.collate_commands.proofs.WritingLemmas.{Appends_further, within_more}
-use Rattle.collate_commands.proofs.writing.write_text.Goals as goal
+use Rattle.program_files.proofs.WritingLemmas.{Appends_further, within_more}
+use Rattle.program_files.proofs.writing.write_text.Goals as goal
 
 pub writing-preserved : goal.writing-preserved
 writing-preserved g c = record {

@@ -1,9 +1,9 @@
 //! Errors that name a file.
 ghost use Rattle.std.specs.Prelude.{◌≡◌, ◌++◌, ◌∷◌, [], codes, string_bytes, IfOk};
-ghost use Rattle.collate_commands.specs.CollatorErrors.{IsCollatorError};
-ghost use Rattle.named_files.specs.NamedErrors.{IsLineOf};
+ghost use Rattle.program_files.specs.Refusals.{IsCollatorError};
+ghost use Rattle.program_files.specs.NamedErrors.{IsLineOf};
 
-use collate_commands::ProgramError;
+use crate::program_error::ProgramError;
 use std::alloc::{AllocError, Global};
 use std::fmt::Display;
 

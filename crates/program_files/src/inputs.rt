@@ -1,9 +1,9 @@
 //! What lines are read from.
 
+use crate::input::append_input;
 use crate::named_errors::refused;
+use crate::program_error::ProgramError;
 use crate::progress::{ProgressReader, RunProgress};
-use collate_commands::ProgramError;
-use line_commands::append_input;
 use std::fs;
 use std::io::{Read, Write};
 use std::rt::{Clock, Files};

@@ -31,7 +31,7 @@ impl<W: Write> WatchedOutput<W> {
 }
 
 impl<W: Write> Write for WatchedOutput<W> {
-    ghost use Rattle.named_files.specs.WatchedOutputs.{watched_contents};
+    ghost use Rattle.program_files.specs.WatchedOutputs.{watched_contents};
 
     ghost contents = { watched_contents W.contents };
 

@@ -1,7 +1,7 @@
 //! The input.
 ghost use Rattle.std.specs.Prelude.{IfOk, IfErr};
-ghost use Rattle.collate_commands.specs.InputRead.{TakesWhole};
-ghost use Rattle.collate_commands.specs.CollatorErrors.{IsUnread};
+ghost use Rattle.program_files.specs.Inputs.{TakesWhole};
+ghost use Rattle.program_files.specs.Refusals.{IsUnread};
 
 use crate::program_error::ProgramError;
 use std::alloc::Global;

@@ -1,2 +1,0 @@
-pub mod NamedErrors
-pub mod WatchedOutputs
