@@ -125,6 +125,8 @@ def check_rattle_tests(report):
         report.say(f"tests/rattle: {name}", wrong.pop(name, []), 1)
     for name, said in wrong.items():
         report.say(f"tests/rattle: {name}", said, 1)
+    unnamed = [f"tests/rattle/crates lists {it}, which no test names" for it in libraries() if not re.search(rf"\b{it}\b", text())]
+    report.say("tests/rattle: the libraries that are listed are named", unnamed, len(libraries()))
     report.say("tests/rattle: a test that fails or isn't run is found", faults_missed(), len(PLANTED))
 
 
