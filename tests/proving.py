@@ -89,7 +89,8 @@ class Run:
     def announcement(self):
         how_long = expected.about(self.clock.seconds_left(time.monotonic()))
         what = f"{sum(self.functions.values())} functions in {len(self.names)} crates"
-        return f"{what}: {how_long} on {self.lanes} processors with no other work, less where earlier runs here proved some"
+        lanes = f"{self.lanes} crates at a time" if self.lanes > 1 else "a crate at a time"
+        return f"{what}: {how_long}, {lanes}, where nothing else works; less where earlier runs here proved some"
 
     def tell(self, what):
         """Says what has ended, or is under way, and how much is left."""
