@@ -107,7 +107,8 @@ class Run:
                 self.clock.start(name, now)
 
     def under_way(self):
-        return f"under way: {', '.join(sorted(it for it in self.clock.left if it in self.clock.began))}"
+        names = sorted(it for it in self.clock.left if it in self.clock.began)
+        return f"under way: {', '.join(names) or 'edits, tests and programs'}"
 
     def wait(self):
         if self.is_news and time.monotonic() - self.said >= FIRST:
@@ -180,7 +181,8 @@ class Run:
         named += [it[1] for it in (re.match(r"rt: must-fail (\w+)/\S+ BAD EDIT", line) for line in self.last) if it]
         for name in named:
             lines = [it[4:] for it in self.last if re.match(rf"rt: (must-fail )?{name}\b", it)]
-            self.faults.setdefault(name, [it for it in lines if "as it must be" not in it] or ["see the log"])
+            wrong = [it for it in lines if "as it must be" not in it and ": trying its" not in it]
+            self.faults.setdefault(name, wrong or ["see the log"])
 
     def place(self, name, built, begun):
         """Puts a program beside its sources, as old as the copy that it was proved from: a source that has changed since is newer."""
