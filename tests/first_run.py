@@ -47,8 +47,8 @@ TRIED = [
     ("collate-cldr", ["--version"], SWEDISH, b"", ["--", "--version"], b""),
 ]
 RT = """#!/bin/sh
-if [ "$1 $2 $3 $4 $5" != "try --steps 1 --seconds 900" ]; then exit 9; fi
-shift 5
+if [ "$1 $2 $3" != "try --seconds 900" ]; then exit 9; fi
+shift 3
 printf '%s\\n' "$@" === && cat
 """
 # What `rt ci` says of three crates, one of which is kept and one not proved, and what is to be said of that.
@@ -65,7 +65,7 @@ rt: FAILED: icu_entries
 """
 THREE = ["icu_options", "icu_levels", "icu_entries"]
 # How far the times of crates are from those that are kept, and how much the time that is left may be, of what is left.
-SPREAD, LEAST, MOST = 0.2, 2 / 3, 4 / 3
+SPREAD, LEAST, MOST = 0.15, 2 / 3, 4 / 3
 
 
 def run(program, words, variables, given, room):
@@ -122,12 +122,19 @@ def wrong_lines():
     return found + [f"{it.counts} are the counts"] * (it.counts != [2, 1])
 
 
-def estimates(chance, work, names, lanes):
+class Unlearning(expected.Clock):
+    """A clock that takes this machine for that of the kept costs."""
+
+    def pace(self):
+        return 1.0
+
+
+def estimates(chance, work, names, lanes, made=expected.Clock):
     """The time that is said to be left as a share of what is left, from the fifth crate on, where this machine is slower than that of
     the kept costs by a factor that isn't known, and each crate by one of its own."""
     slower = chance.uniform(0.5, 4)
     took = {it: work.of(it) * slower * chance.lognormvariate(0, SPREAD) for it in names}
-    clock, chains, waiting, running, now, said = expected.Clock(work, names, lanes), work.chains(names), {*names}, {}, 0.0, []
+    clock, chains, waiting, running, now, said = made(work, names, lanes), work.chains(names), {*names}, {}, 0.0, []
     while waiting or running:
         ready = [it for it in waiting if not (waiting | {*running}) & {*work.listed[it].deps}]
         for name in sorted(ready, key=lambda it: (-chains[it], it))[: lanes - len(running)]:
@@ -141,13 +148,13 @@ def estimates(chance, work, names, lanes):
     return [left / (now - at) for at, left in said[5:] if now - at > 60]
 
 
-def wrong_estimates():
+def wrong_estimates(made=expected.Clock):
     """Programs whose time is said wrongly more often than once in twenty."""
     listed, found = crates.listed(), []
     work, chance = expected.Work(listed), random.Random(5)
     for name in (it for it in listed if listed[it].is_program):
         names = [*crates.below(listed, name), name]
-        shares = [it for lanes in (2, 4, 4) for it in estimates(chance, work, names, lanes)]
+        shares = [it for lanes in (2, 4, 4) for it in estimates(chance, work, names, lanes, made)]
         wrong = [it for it in shares if not LEAST <= it <= MOST]
         if 20 * len(wrong) > len(shares):
             found.append(f"{name}: {len(wrong)} of {len(shares)} times that are said to be left are wrong, as {wrong[:3]}")
@@ -162,3 +169,4 @@ def check_first_run(report):
         report.say("what is run without a proof gets its words, files and input", wrong_tries(room), len(TRIED))
     report.say("what is said while a program is proved", wrong_lines())
     report.say("the time that is said to be left", wrong_estimates())
+    report.say("a clock that learns nothing of the machine is found", ["it isn't"] * (not wrong_estimates(Unlearning)))
