@@ -54,9 +54,9 @@ def prove(steps, listed, names):
         steps.tell(run.announcement())
         failed = run.prove()
     for name in affected:
-        edits = listed[name].edits() if name in names else 0
+        count = listed[name].edits() if name in names else 0
         more = [it for it, is_there in [("its tests", listed[name].has_tests()), ("its program", listed[name].is_program)] if is_there]
-        more += [f"its {edits} edits"] * bool(edits)
+        more += [f"its {count} edits"] * bool(count)
         steps.say(f"{name} is proved{', with ' if more else ''}{', '.join(more)}", failed.get(name, []))
     for name in failed:
         if name not in affected:
