@@ -1,12 +1,11 @@
 #!/usr/bin/env python3
-"""What a change of some crates needs, as `bin/test NAME ..` runs it, over the work that earlier checks kept: the comparisons of
-documents and comments with the sources; the proofs of these crates and of all that stand on them, with their programs built and
-run and their tests; the edits of these crates that must be refused; and rows and refused memory, by the programs that were built.
-It is less than the gate: what wasn't changed isn't proved anew, and hostile input isn't tried. The last line is
-`N passed, M failed`."""
+"""What a change of some crates needs, as `bin/test NAME ..` runs it: the comparisons of documents and comments with the sources;
+`rt ci` over these crates, all that stand on them and all below (`proving.py`), with their programs built and run, their tests, and
+the edits of these crates that must be refused; and rows and refused memory, by the programs that were built. It is less than the
+gate: other crates aren't proved, and hostile input isn't tried. What was proved on this machine before isn't proved again, and what
+is proved here counts at the gate. The last line is `N passed, M failed`."""
 import os
 import re
-import shutil
 import subprocess
 import sys
 import tempfile
@@ -49,56 +48,18 @@ def ran(words, folder, given=b""):
     return it.returncode, said
 
 
-def errors(said):
-    """The lines that say why something is not proved, or the last ones."""
-    lines = said.splitlines()
-    wanted = r".*:\d+:\d+: error|error|fn .*: (not proved|no proof|could not tell)|rt: |rattle: no verdict|.*not in the layout"
-    return [it for it in lines if re.match(wanted, it) and not it.startswith("rt: chose")] or lines[-12:]
-
-
-def beside(crate, name):
-    path = os.path.join(crate.folder, name)
-    if not os.path.isfile(path):
-        return None
-    with open(path, "rb") as it:
-        return it.read()
-
-
-def wrong_run(crate):
-    words = (beside(crate, "args") or b"").decode().splitlines()
-    status = int((beside(crate, "status") or b"0").strip() or 0)
-    with tempfile.TemporaryDirectory(prefix="program-") as room:
-        data = os.path.join(crate.folder, "data")
-        if os.path.isdir(data):
-            shutil.copytree(data, room, dirs_exist_ok=True)
-        how = {"cwd": room, "input": beside(crate, "stdin") or b"", "capture_output": True, "timeout": 120}
-        try:
-            it = subprocess.run([os.path.join(crate.folder, "out", crate.name), *words], **how)
-        except subprocess.TimeoutExpired:
-            return ["it had not ended after 120 seconds"]
-    if it.returncode != status:
-        return [f"it ended with status {it.returncode}, and not {status}: {it.stderr[-300:]!r}"]
-    return [] if it.stdout == (beside(crate, "stdout") or b"") else ["it wrote something else"]
-
-
 def prove(steps, listed, names):
-    """Proves these crates and those above them, and runs their programs and tests. Returns those that are not proved."""
+    """Proves these crates and those above them, with their tests, runs their programs, and tries the edits of these crates."""
     affected = crates.above(listed, names)
     with open(LOG, "a", encoding="utf-8", buffering=1) as log:
-        try:
-            run = proving.Run(affected, log, steps.tell)
-        except ImportError as error:
-            steps.say("the crates are proved", [f"{error}: `rt check` in each crate's folder, and bin/test alone, still work"])
-            return affected
+        run = proving.Run(affected, log, steps.tell, names)
         steps.tell(run.announcement())
         failed = run.prove()
     for name in affected:
-        steps.say(f"{name} is proved", failed.get(name, []))
-        if listed[name].is_program and name not in failed:
-            steps.say(f"{name} writes what its file stdout has", wrong_run(listed[name]))
-        if listed[name].has_tests() and name not in failed:
-            status, said = ran(["rt", "test"], listed[name].folder)
-            steps.say(f"the tests of {name}", errors(said) if status else [])
+        count = listed[name].edits() if name in names else 0
+        more = [it for it, is_there in [("its tests", listed[name].has_tests()), ("its program", listed[name].is_program)] if is_there]
+        more += [f"its {count} edits"] * bool(count)
+        steps.say(f"{name} is proved{', with ' if more else ''}{', '.join(more)}", failed.get(name, []))
     for name in failed:
         if name not in affected:
             steps.say(f"{name} is proved", failed[name])
@@ -111,18 +72,6 @@ def check_layout(steps, listed, names):
         files = [it for part in crates.PARTS for it in listed[name].files(part, (".rt", ".antt"))]
         status, said = ran([os.path.join(crates.kit(), "bin", "rattle"), "fmt", "--check", *files], crates.TOP)
         steps.say(f"{name} is laid out by rt fmt", said.splitlines() if status else [])
-
-
-def try_edits(steps, listed, names, unproved):
-    for name in names:
-        count = listed[name].edits()
-        if not count or name in unproved:
-            continue
-        _, said = ran(["rt", "must-fail", name], crates.TOP)
-        lines = [it[4:] for it in said.splitlines() if it.startswith("rt: must-fail ")]
-        faults = [it for it in lines if ": refused, as it must be" not in it]
-        faults += [f"{count} edits, and {len(lines)} tried"] * (len(lines) != count)
-        steps.say(f"the {count} edits of {name} are refused", faults)
 
 
 def run_programs(steps, affected, unproved):
@@ -161,7 +110,6 @@ def main(names):
         steps.passed, steps.failed = steps.passed + passed, steps.failed + failed
     check_layout(steps, listed, names)
     unproved = prove(steps, listed, names)
-    try_edits(steps, listed, names, unproved)
     stale = edits.stale([it for name in names for it in edits.of_crate(listed[name], ("wrong",))])
     if stale:
         steps.tell(f"{len(stale)} edits beside the gate are stale: bin/wrong --stale {' '.join(names)} lists them")

@@ -19,6 +19,7 @@ import tempfile
 import sweeps
 from calls import check_calls
 from cldr_program import check_collate_cldr, cut_lines, letter_lines, wrong_cuts
+from first_run import check_first_run
 from held_memory import check_memory
 from hostile import check_hostile
 from index_program import check_collate_index
@@ -344,6 +345,7 @@ def check_faults(report, room, shim):
 def check_all(report, room):
     shim = compiled(room, "refuse", "-shared", "-fPIC")
     report.also("programs that do wrong", check_faults, room, shim)
+    report.also("the first run of a program", check_first_run)
     report.also("collate", check_collate, room, shim)
     report.also("collate-cldr", check_collate_cldr, room, shim)
     report.also("collate-index", check_collate_index, room, built("collate_index"), compiled(room, "stop", "-shared", "-fPIC"))

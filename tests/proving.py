@@ -84,19 +84,20 @@ class Run:
         self.lanes = jobs()
         self.clock = expected.Clock(expected.Work(self.listed), self.names, self.lanes)
         self.faults, self.block, self.last, self.counts = {}, None, [], None
-        self.said, self.is_told = time.monotonic(), False
+        self.said, self.is_news = time.monotonic(), True
 
     def announcement(self):
         how_long = expected.about(self.clock.seconds_left(time.monotonic()))
         what = f"{sum(self.functions.values())} functions in {len(self.names)} crates"
-        return f"{what}: {how_long} on {self.lanes} processors with no other work, less where earlier runs here proved some"
+        lanes = f"{self.lanes} crates at a time" if self.lanes > 1 else "a crate at a time"
+        return f"{what}: {how_long}, {lanes}, where nothing else works; less where earlier runs here proved some"
 
     def tell(self, what):
         """Says what has ended, or is under way, and how much is left."""
-        self.said, self.is_told = time.monotonic(), True
-        done = sum(it for name, it in self.functions.items() if name not in self.clock.left)
-        left = expected.about(self.clock.seconds_left(self.said)) if self.clock.left else "the programs run"
-        self.say(f"{what}: {done} of {sum(self.functions.values())} functions, {left}{' left' if self.clock.left else ''}")
+        self.said, self.is_news = time.monotonic(), False
+        done = sum(it for name, it in self.functions.items() if name not in self.clock.left and name not in self.faults)
+        left = f"{expected.about(self.clock.seconds_left(self.said))} left" if self.clock.left else "the programs run"
+        self.say(f"{what}: {done} of {sum(self.functions.values())} functions, {left if self.clock.left or not self.faults else 'ended'}")
 
     def look(self, folder):
         """Notes which crates have begun: `rt ci` then makes the folder of what it builds."""
@@ -106,11 +107,12 @@ class Run:
                 self.clock.start(name, now)
 
     def under_way(self):
-        return f"under way: {', '.join(sorted(it for it in self.clock.left if it in self.clock.began))}"
+        names = sorted(it for it in self.clock.left if it in self.clock.began)
+        return f"under way: {', '.join(names) or 'edits, tests and programs'}"
 
     def wait(self):
-        if not self.is_told and time.monotonic() - self.said >= FIRST:
-            self.tell("begun" if self.clock.left == self.names else "proved by earlier runs")
+        if self.is_news and time.monotonic() - self.said >= FIRST:
+            self.tell("kept from earlier runs" if self.clock.left != self.names else "begun")
         elif time.monotonic() - self.said >= BEAT:
             self.tell(self.under_way())
 
@@ -119,6 +121,7 @@ class Run:
         kept, verdict = KEPT.match(line), VERDICT.match(line)
         if kept:
             self.clock.end(kept[1], time.monotonic(), True)
+            self.is_news = True
         elif COUNTS.match(line):
             self.counts = [int(it) for it in COUNTS.match(line).groups()]
         elif line.startswith("== "):
@@ -149,7 +152,8 @@ class Run:
             os.mkdir(folder)
             copy_repository(folder, self.listed, {*self.names}, self.edits)
             status = self.follow(folder)
-            if self.counts is None or (status and not self.faults and not self.failed_later()):
+            self.judge_last()
+            if self.counts is None or status and not self.faults:
                 self.faults["rt ci"] = self.last[-8:] or [f"it ended with status {status}"]
             for name in self.names:
                 if self.listed[name].is_program and name not in self.faults and self.counts:
@@ -171,13 +175,14 @@ class Run:
                     return ran.wait()
                 self.take(line)
 
-    def failed_later(self):
-        """Takes what went wrong with programs, tests and edits of crates that are proved, and returns how much that is."""
-        named = [it.partition(": ")[2] for it in self.last if it.startswith("rt: FAILED: ")]
-        for name in re.findall(r"\w+(?=/| \()", " ".join(named)):
+    def judge_last(self):
+        """Takes what is said at the end: which programs, tests and edits failed, and which edits can't be tried."""
+        named = [it for line in self.last if line.startswith("rt: FAILED: ") for it in re.findall(r"(\w+)(?:/| \()", line)]
+        named += [it[1] for it in (re.match(r"rt: must-fail (\w+)/\S+ BAD EDIT", line) for line in self.last) if it]
+        for name in named:
             lines = [it[4:] for it in self.last if re.match(rf"rt: (must-fail )?{name}\b", it)]
-            self.faults[name] = [it for it in lines if "as it must be" not in it] or ["see the log"]
-        return len(self.faults)
+            wrong = [it for it in lines if "as it must be" not in it and ": trying its" not in it]
+            self.faults.setdefault(name, wrong or ["see the log"])
 
     def place(self, name, built, begun):
         """Puts a program beside its sources, as old as the copy that it was proved from: a source that has changed since is newer."""
