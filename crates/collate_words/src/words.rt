@@ -88,7 +88,7 @@ fn text_command<'a>(
 ) -> Result<Command<'a>, AllocError> {
     let mut command = command(alloc, name, about)?;
     for text in texts {
-        let word = Arg::new(alloc, text)
+        let word = Arg::new(alloc, *text)
             .required(true)
             .allow_hyphen_values(true);
         command = command.arg(word)?;
