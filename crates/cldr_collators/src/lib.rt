@@ -13,7 +13,7 @@ mod rule_places;
 pub mod tailored_collator;
 
 pub use asked_rules::{LocaleRules, rules_of};
-pub use choice::Chosen;
+pub use choice::{Chosen, SettingWords, strength_by_word};
 pub use data_place::{cldr_folder, root_file};
 pub use file_source::{read_file, root_collator};
 pub use locale_list::locale_lines;

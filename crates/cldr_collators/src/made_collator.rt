@@ -4,16 +4,17 @@ ghost use Rattle.std.specs.Prelude.{IfOk};
 ghost use Rattle.icu_well_formed.specs.WellFormedTables.{IsWellFormedTables};
 ghost use Rattle.icu_collator.specs.Collators.{collation_kept, tables_kept};
 
-use crate::asked_locale::AskedLocale;
+use crate::asked_locale::{AskedLocale, asked_locale};
 use crate::asked_rules::{LocaleRules, rules_of};
 use crate::choice::Chosen;
+use crate::data_place::cldr_folder;
 use crate::file_source::{read_file, root_collator};
 use crate::tailored_collator::tailored_collator;
 use icu_collator::Collator;
 use icu_locale::TagSettings;
 use icu_options::Strength;
 use program_files::ProgramError;
-use std::rt::Files;
+use std::rt::{Env, Files};
 
 /// A locale, and the folder of CLDR's data in which its rules are.
 #[derive(Drop)]
@@ -35,6 +36,26 @@ pub struct CollatorRequest {
     pub chosen: Chosen,
     /// The strength that an option chooses.
     pub strength: Option<Strength>,
+}
+
+/// The locale that a tag names, or else the environment, and where its rules are: in the folder of CLDR's data, which may
+/// be named.
+///
+/// # Errors
+///
+/// Those of `asked_locale` and `cldr_folder`.
+pub fn placed_locale<R: Env + AllocGlobal>(
+    rt: &R,
+    tag: Option<&str>,
+    folder: Option<&str>,
+) -> Result<Option<PlacedLocale>, ProgramError> {
+    match asked_locale(rt, tag)? {
+        Some(asked) => {
+            let folder = cldr_folder(rt, folder)?;
+            Ok(Some(PlacedLocale { folder, asked }))
+        }
+        None => Ok(None),
+    }
 }
 
 /// The settings that options choose, and where they don't those of a locale's tag.

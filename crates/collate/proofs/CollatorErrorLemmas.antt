@@ -1,6 +1,6 @@
 -- What a refused collator says of its tables.
 use Rattle.std.proofs.Common.{◌≡◌, ℕ, List, string_bytes, Result, Ok, IfOk, subst}
-use Rattle.program_files.specs.Refusals.{IsCollatorError}
+use Rattle.program_files.specs.ProgramErrors.{IsCollatorError}
 use Rattle.program_files.specs.declared.program_error.ProgramError.{ProgramError}
 use Rattle.program_files.specs.declared.program_error.ProgramError.TheVariants.{WrongWords, NoMemory, Refused, ReadFailed, WriteFailed}
 

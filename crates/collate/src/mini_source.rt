@@ -2,7 +2,7 @@
 ghost use Rattle.std.specs.Prelude.{◌≡◌, IfOk, IfErr};
 ghost use Rattle.icu_well_formed.specs.WellFormedTables.{IsWellFormedTables};
 ghost use Rattle.icu_collator.specs.Collators.{collation_kept, tables_kept};
-ghost use Rattle.program_files.specs.Refusals.{IsCollatorError};
+ghost use Rattle.program_files.specs.ProgramErrors.{IsCollatorError};
 ghost use Rattle.collate.specs.Answers.{mini_compares};
 ghost use Rattle.collate.specs.MiniErrors.{IsForCause, mini_refuses};
 

@@ -4,9 +4,9 @@ ghost use Rattle.std.specs.Prelude.{◌≤◌, IfOk};
 
 use crate::asked_collator::collator_by_words;
 use clap::ArgMatches;
-use collate_words::{column_words, csv_delimiter, csv_request_of, files_of, has_header};
+use collate_words::{files_of, sort_request_of};
 use csv_sorts::{
-    CsvError, CsvRequest, column_disorder_text, columns_of_words, csv_error_said,
+    CsvError, CsvRequest, column_disorder_text, columns_of_words, csv_delimiter, csv_error_said,
     first_column_disorder, print_sorted_by_columns, text_sorted_by_columns,
 };
 use icu_collator::Collator;
@@ -32,9 +32,9 @@ fn refused_csv<R: AllocGlobal>(
     csv_error_said(
         rt.alloc(),
         source_of(matches),
-        csv_delimiter(matches),
+        csv_delimiter(matches.get_str("delimiter")),
         text,
-        column_words(matches),
+        matches.get_strs("column").unwrap_or_default(),
         error,
     )
 }
@@ -45,16 +45,28 @@ fn columns<R: AllocGlobal>(
     matches: &ArgMatches<'_>,
     text: &[u8],
 ) -> Result<Vec<usize>, ProgramError> {
-    let words = column_words(matches);
+    let words = matches.get_strs("column").unwrap_or_default();
     match columns_of_words(
         rt.alloc(),
-        csv_delimiter(matches),
-        has_header(matches),
+        csv_delimiter(matches.get_str("delimiter")),
+        matches.get_flag("header"),
         text,
         words,
     ) {
         Ok(columns) => Ok(columns),
         Err(error) => Err(refused_csv(rt, matches, text, error)),
+    }
+}
+
+/// How records are to be sorted by columns.
+fn csv_request_of<'c>(matches: &ArgMatches<'_>, columns: &'c [usize]) -> CsvRequest<'c> {
+    let request = sort_request_of(matches);
+    CsvRequest {
+        delimiter: csv_delimiter(matches.get_str("delimiter")),
+        has_header: matches.get_flag("header"),
+        columns,
+        direction: request.order.direction,
+        repeats: request.repeats,
     }
 }
 

@@ -3,16 +3,17 @@
 ghost use Rattle.std.specs.Prelude.{◌≤◌, IfOk};
 
 use crate::asked_collator::collator_by_words;
-use crate::reports::{DIFFERS, DONE};
+use crate::reports::DIFFERS;
 use clap::ArgMatches;
-use collate_words::{asks_for_fields, field_ends, files_of, keys_of, sort_request_of};
+use collate_words::{files_of, sort_request_of};
 use field_disorders::first_field_disorder;
-use field_sorts::{FieldSorts, print_sorted_by_fields, text_sorted_by_fields};
+use field_sorts::{
+    FieldSorts, field_ends, keys_of_words, print_sorted_by_fields, text_sorted_by_fields,
+};
 use icu_collator::Collator;
 use keyed_lines::SortRequest;
 use line_commands::{disorder_text, first_disorder, print_sorted, sorted_text};
-use line_fields::FieldEnds;
-use program_files::{ProgramError, RunProgress, read_inputs, replace_file, write_text};
+use program_files::{DONE, ProgramError, RunProgress, read_inputs, replace_file, write_text};
 use std::io::{Read, Write};
 use std::rt::{Clock, Env, Files};
 
@@ -43,9 +44,10 @@ fn write_sorted_by_fields<R: Files + AllocGlobal, W: Write>(
     request: SortRequest,
     output: &mut W,
 ) -> Result<(), ProgramError> {
-    let sorts = keys_of(rt.alloc(), matches)?;
+    let words = matches.get_strs("key").unwrap_or_default();
+    let sorts = keys_of_words(rt.alloc(), words, matches.get_flag("reverse"))?;
     let fields = FieldSorts {
-        ends: field_ends(matches).unwrap_or(FieldEnds::AtBlanks),
+        ends: field_ends(matches.get_str("field-separator")),
         sorts: sorts.as_slice(),
     };
     match matches.get_str("output") {
@@ -78,7 +80,7 @@ pub(crate) fn sort_lines<R: Files + Env + Clock + AllocGlobal, I: Read, W: Write
         progress,
         errors,
     )?;
-    if asks_for_fields(matches) {
+    if matches.get_strs("key").is_some() {
         write_sorted_by_fields(rt, matches, &collator, bytes.as_slice(), request, output)?;
     } else {
         let file = matches.get_str("output");
@@ -95,12 +97,13 @@ fn first_wrong<R: AllocGlobal>(
     bytes: &[u8],
     request: SortRequest,
 ) -> Result<Option<usize>, ProgramError> {
-    if !asks_for_fields(matches) {
+    if matches.get_strs("key").is_none() {
         return Ok(first_disorder(rt.alloc(), collator, bytes, request)?);
     }
-    let sorts = keys_of(rt.alloc(), matches)?;
+    let words = matches.get_strs("key").unwrap_or_default();
+    let sorts = keys_of_words(rt.alloc(), words, matches.get_flag("reverse"))?;
     let fields = FieldSorts {
-        ends: field_ends(matches).unwrap_or(FieldEnds::AtBlanks),
+        ends: field_ends(matches.get_str("field-separator")),
         sorts: sorts.as_slice(),
     };
     Ok(first_field_disorder(rt.alloc(), collator, fields, bytes, request)?)

@@ -9,8 +9,8 @@ mod reports;
 mod search_command;
 
 use program::{Terminals, run};
-use program_files::{Input, WatchedOutput};
-use reports::report;
+use program_files::{Input, WatchedOutput, report_failure};
+use reports::WORDING;
 use std::io::IsTerminal;
 use std::process::ExitCode;
 
@@ -27,7 +27,7 @@ fn main(rt: HostRuntime) -> ExitCode {
             &mut WatchedOutput::new(rt.stdout()),
             &mut rt.stderr(),
         ),
-        Err(error) => report(error, &mut rt.stderr()),
+        Err(error) => report_failure(error, WORDING, &mut rt.stderr()),
     };
     ExitCode::from(status)
 }

@@ -2,24 +2,25 @@
 
 ghost use Rattle.std.specs.Prelude.{◌≤◌, IfOk};
 
-use crate::asked_collator::collator_by_words;
+use crate::asked_collator::{collator_by_words, collator_request};
 use crate::csv_command::{check_csv, sort_csv};
 use crate::line_orders::{check_lines, sort_lines};
-use crate::reports::{DIFFERS, DONE, WRONG_WORDS, report, report_unless_closed};
+use crate::reports::{DIFFERS, WORDING, report_unless_closed};
 use crate::search_command::search;
 use clap::ArgMatches;
-use clap::error::{Error, ErrorKind};
 use cldr_collators::{cldr_folder, locale_lines, read_file, root_file};
 use collate_words::{
-    CheckWanted, asks_for_csv, asks_for_fields, check_of, collator_request, files_of, program,
-    say_wrong_field, separator_of, text_of, wrong_csv_words, wrong_field_word,
+    CheckWanted, answer_words, check_of, files_of, program, separator_of, text_of,
 };
-use compiled_tables::{cldr_version, compiled_tables};
+use compiled_tables::{cldr_version, compiled_tables, said_version};
 use counted_neighbours::print_neighbours;
+use csv_sorts::{CsvWords, wrong_csv_words};
+use field_sorts::wrong_field_word;
 use line_commands::{print_comparison, print_key, print_keys};
 use order_reasons::{print_explanation, print_reason};
 use program_files::{
-    ProgramError, RunProgress, WatchedOutput, read_inputs, replace_file, write_text,
+    DONE, ProgramError, RunProgress, WRONG_WORDS, WatchedOutput, read_inputs, replace_file,
+    report_failure, write_text,
 };
 use std::io::{Read, Write};
 use std::rt::{Clock, Env, Files};
@@ -37,22 +38,6 @@ fn print<W: Write>(text: &str, output: &mut W) -> Result<u8, ProgramError>
     }
 }
 
-/// Says what is wrong with the words, or prints the help that they ask for.
-fn answer_words<W: Write, E: Write>(
-    error: &Error,
-    text: &str,
-    output: &mut W,
-    errors: &mut E,
-) -> Result<u8, ProgramError>
-    ensures { IfOk result (λ status. status ≤ 3) }
-{
-    if error.use_stderr() {
-        let _ = write_text(errors, text.as_bytes());
-        return Ok(WRONG_WORDS);
-    }
-    print(text, output)
-}
-
 /// Prints the locales that there are collations of, with their types.
 fn print_locales<R: Files + Env + AllocGlobal + Clone + Drop, W: Write>(
     rt: &R,
@@ -64,14 +49,6 @@ fn print_locales<R: Files + Env + AllocGlobal + Clone + Drop, W: Write>(
     let folder = cldr_folder(rt, matches.get_str("cldr"))?;
     let text = locale_lines(rt, folder.as_str())?;
     print(text.as_str(), output)
-}
-
-/// What is said of a version that isn't known.
-const UNKNOWN: &str = "of an unknown version";
-
-/// A version, as it is said.
-fn said_version(version: &str) -> &str {
-    if version.is_empty() { UNKNOWN } else { version }
 }
 
 /// The version of CLDR that the data are of, empty where it isn't known, as where another file has the root's.
@@ -122,30 +99,37 @@ fn compile<R: Files + Env + AllocGlobal>(
 /// What is said where keys are asked for of records of CSV.
 const NO_KEYS_OF_RECORDS: &str = "collate-cldr: --key is for lines, and --column for --csv\n";
 
-/// Says what is wrong with the words for fields or for records of CSV, and returns whether something is.
+/// Says what is wrong with the words for fields or for records of CSV, and returns whether something is. That a write
+/// fails changes nothing.
 fn says_wrong_words<R: AllocGlobal, E: Write>(
     rt: &R,
     matches: &ArgMatches<'_>,
     errors: &mut E,
 ) -> Result<bool, ProgramError> {
-    if let Some(word) = wrong_field_word(matches) {
-        say_wrong_field(rt.alloc(), word, errors)?;
+    let keys = matches.get_strs("key");
+    let words = keys.unwrap_or_default();
+    let separator = matches.get_str("field-separator");
+    if let Some(word) = wrong_field_word(separator, words, matches.get_flag("reverse")) {
+        let text = format!(in rt.alloc();
+            "collate-cldr: '{word}' is no key F[.C][bnr][,F[.C][bnr]] and no separator of one character of ASCII; --help says more\n"
+        )?;
+        let _ = write_text(errors, text.as_bytes());
         return Ok(true);
     }
-    if asks_for_csv(matches) && asks_for_fields(matches) {
+    let is_csv = matches.get_flag("csv");
+    if is_csv && keys.is_some() {
         let _ = write_text(errors, NO_KEYS_OF_RECORDS.as_bytes());
         return Ok(true);
     }
-    says_wrong_csv(rt, matches, errors)
-}
-
-/// Says what is wrong with the words for records of CSV, and returns whether something is.
-fn says_wrong_csv<R: AllocGlobal, E: Write>(
-    rt: &R,
-    matches: &ArgMatches<'_>,
-    errors: &mut E,
-) -> Result<bool, ProgramError> {
-    match wrong_csv_words(rt.alloc(), matches)? {
+    let words = CsvWords {
+        is_csv,
+        has_header: matches.get_flag("header"),
+        columns: matches.get_strs("column").unwrap_or_default(),
+        delimiter: matches.get_str("delimiter"),
+        files: files_of(matches).len(),
+        is_zero_terminated: matches.get_flag("zero-terminated"),
+    };
+    match wrong_csv_words(rt.alloc(), &words)? {
         Some(said) => {
             let _ = write_text(errors, said.as_bytes());
             Ok(true)
@@ -154,30 +138,11 @@ fn says_wrong_csv<R: AllocGlobal, E: Write>(
     }
 }
 
-/// Checks lines, or records of CSV.
-fn check_asked<R: Files + Env + Clock + AllocGlobal, I: Read, E: Write>(
+/// Sorts or checks lines, or records of CSV.
+fn order_asked<R: Files + Env + Clock + AllocGlobal, I: Read, W: Write, E: Write>(
     rt: &R,
     matches: &ArgMatches<'_>,
-    is_quiet: bool,
-    progress: &mut RunProgress,
-    input: &mut I,
-    errors: &mut E,
-) -> Result<u8, ProgramError>
-    ensures { IfOk result (λ status. status ≤ 3) }
-{
-    if says_wrong_words(rt, matches, errors)? {
-        return Ok(WRONG_WORDS);
-    }
-    if asks_for_csv(matches) {
-        return check_csv(rt, matches, is_quiet, progress, input, errors);
-    }
-    check_lines(rt, matches, is_quiet, progress, input, errors)
-}
-
-/// Sorts lines, or records of CSV.
-fn sort_asked<R: Files + Env + Clock + AllocGlobal, I: Read, W: Write, E: Write>(
-    rt: &R,
-    matches: &ArgMatches<'_>,
+    check: CheckWanted,
     progress: &mut RunProgress,
     input: &mut I,
     output: &mut W,
@@ -188,91 +153,52 @@ fn sort_asked<R: Files + Env + Clock + AllocGlobal, I: Read, W: Write, E: Write>
     if says_wrong_words(rt, matches, errors)? {
         return Ok(WRONG_WORDS);
     }
-    if asks_for_csv(matches) {
-        return sort_csv(rt, matches, progress, input, output, errors);
-    }
-    sort_lines(rt, matches, progress, input, output, errors)
-}
-
-/// The command `sort`: to sort, or to check.
-fn sort_or_check<R: Files + Env + Clock + AllocGlobal, I: Read, W: Write, E: Write>(
-    rt: &R,
-    matches: &ArgMatches<'_>,
-    progress: &mut RunProgress,
-    input: &mut I,
-    output: &mut W,
-    errors: &mut E,
-) -> Result<u8, ProgramError>
-    ensures { IfOk result (λ status. status ≤ 3) }
-{
-    match check_of(matches) {
-        CheckWanted::No => sort_asked(rt, matches, progress, input, output, errors),
-        CheckWanted::Loudly => check_asked(rt, matches, false, progress, input, errors),
-        CheckWanted::Quietly => check_asked(rt, matches, true, progress, input, errors),
+    let is_quiet = check == CheckWanted::Quietly;
+    match (check, matches.get_flag("csv")) {
+        (CheckWanted::No, true) => sort_csv(rt, matches, progress, input, output, errors),
+        (CheckWanted::No, false) => sort_lines(rt, matches, progress, input, output, errors),
+        (_, true) => check_csv(rt, matches, is_quiet, progress, input, errors),
+        (_, false) => check_lines(rt, matches, is_quiet, progress, input, errors),
     }
 }
 
-/// Prints the order of two texts.
+/// Prints the order of two texts, and for the command `why` which level decides it.
 fn compare<R: Files + Env + AllocGlobal, W: Write>(
     rt: &R,
+    name: &str,
     matches: &ArgMatches<'_>,
     output: &mut W,
 ) -> Result<u8, ProgramError>
     ensures { IfOk result (λ status. status ≤ 3) }
 {
     let collator = collator_by_words(rt, matches)?;
-    let is_equal = print_comparison(
-        &collator,
-        text_of(matches, "A"),
-        text_of(matches, "B"),
-        output,
-    )?;
+    let left = text_of(matches, "A");
+    let right = text_of(matches, "B");
+    let is_equal = if name == "why" {
+        print_reason(rt.alloc(), &collator, left, right, output)?
+    } else {
+        print_comparison(&collator, left, right, output)?
+    };
     Ok(if is_equal { DONE } else { DIFFERS })
 }
 
-/// Prints the sort key of a text.
-fn key<R: Files + Env + AllocGlobal, W: Write>(
+/// Prints the sort key of a text, or for the command `explain` what its elements come from, and the levels of the key.
+fn show<R: Files + Env + AllocGlobal, W: Write>(
     rt: &R,
+    name: &str,
     matches: &ArgMatches<'_>,
     output: &mut W,
 ) -> Result<u8, ProgramError>
     ensures { IfOk result (λ status. status ≤ 3) }
 {
     let collator = collator_by_words(rt, matches)?;
-    print_key(rt.alloc(), &collator, text_of(matches, "TEXT"), output)?;
+    let text = text_of(matches, "TEXT");
+    if name == "explain" {
+        print_explanation(rt.alloc(), &collator, text, output)?;
+    } else {
+        print_key(rt.alloc(), &collator, text, output)?;
+    }
     Ok(DONE)
-}
-
-/// Prints what the elements of a text come from, and the levels of its sort key.
-fn explain<R: Files + Env + AllocGlobal, W: Write>(
-    rt: &R,
-    matches: &ArgMatches<'_>,
-    output: &mut W,
-) -> Result<u8, ProgramError>
-    ensures { IfOk result (λ status. status ≤ 3) }
-{
-    let collator = collator_by_words(rt, matches)?;
-    print_explanation(rt.alloc(), &collator, text_of(matches, "TEXT"), output)?;
-    Ok(DONE)
-}
-
-/// Prints which level decides the order of two texts.
-fn why<R: Files + Env + AllocGlobal, W: Write>(
-    rt: &R,
-    matches: &ArgMatches<'_>,
-    output: &mut W,
-) -> Result<u8, ProgramError>
-    ensures { IfOk result (λ status. status ≤ 3) }
-{
-    let collator = collator_by_words(rt, matches)?;
-    let is_equal = print_reason(
-        rt.alloc(),
-        &collator,
-        text_of(matches, "A"),
-        text_of(matches, "B"),
-        output,
-    )?;
-    Ok(if is_equal { DONE } else { DIFFERS })
 }
 
 /// Prints lines with their keys.
@@ -330,13 +256,25 @@ fn run_command<R: Files + Env + Clock + AllocGlobal, I: Read + Drop, W: Write, E
 {
     let mut progress = RunProgress::new(rt, terminals.errors);
     match name {
-        "sort" => sort_or_check(rt, matches, &mut progress, &mut input, output, errors),
-        "check" => {
-            let is_quiet = matches.get_flag("quiet");
-            check_asked(rt, matches, is_quiet, &mut progress, &mut input, errors)
+        "sort" | "check" => {
+            let check = if name == "sort" {
+                check_of(matches)
+            } else if matches.get_flag("quiet") {
+                CheckWanted::Quietly
+            } else {
+                CheckWanted::Loudly
+            };
+            order_asked(
+                rt,
+                matches,
+                check,
+                &mut progress,
+                &mut input,
+                output,
+                errors,
+            )
         }
-        "compare" => compare(rt, matches, output),
-        "why" => why(rt, matches, output),
+        "compare" | "why" => compare(rt, name, matches, output),
         "search" => {
             let is_coloured = terminals.output;
             search(
@@ -349,8 +287,7 @@ fn run_command<R: Files + Env + Clock + AllocGlobal, I: Read + Drop, W: Write, E
                 errors,
             )
         }
-        "key" => key(rt, matches, output),
-        "explain" => explain(rt, matches, output),
+        "key" | "explain" => show(rt, name, matches, output),
         "keys" => keys(rt, matches, &mut progress, &mut input, output, errors),
         "compile" => compile(rt, matches),
         _ => neighbours(rt, matches, input, output),
@@ -385,11 +322,16 @@ pub(crate) fn run<
     ensures { result ≤ 3 }
 {
     let Ok(command) = program(rt.alloc()) else {
-        return report(ProgramError::NoMemory, errors);
+        return report_failure(ProgramError::NoMemory, WORDING, errors);
     };
     let matches = match command.try_get_matches_from(words) {
         Ok(matches) => matches,
-        Err(error) => return run_wrong_words(rt, &error, output, errors),
+        Err(error) => {
+            return match answer_words(rt, &error, output, errors) {
+                Ok(status) => status,
+                Err(error) => report_unless_closed(error, output.is_closed(), errors),
+            };
+        }
     };
     let status = match matches.subcommand() {
         Some((name, inner)) => run_command(rt, name, inner, terminals, input, output, errors),
@@ -401,27 +343,6 @@ pub(crate) fn run<
         }
     };
     match status {
-        Ok(status) => status,
-        Err(error) => report_unless_closed(error, output.is_closed(), errors),
-    }
-}
-
-/// Says what is wrong with the words, or prints the help that they ask for, and returns the status.
-fn run_wrong_words<R: AllocGlobal, W: Write, E: Write>(
-    rt: &R,
-    error: &Error,
-    output: &mut WatchedOutput<W>,
-    errors: &mut E,
-) -> u8
-    ensures { result ≤ 3 }
-{
-    if error.kind() == ErrorKind::OutOfMemory {
-        return report(ProgramError::NoMemory, errors);
-    }
-    let Ok(text) = error.to_string(rt.alloc()) else {
-        return report(ProgramError::NoMemory, errors);
-    };
-    match answer_words(error, text.as_str(), output, errors) {
         Ok(status) => status,
         Err(error) => report_unless_closed(error, output.is_closed(), errors),
     }

@@ -3,32 +3,20 @@
 ghost use Rattle.std.specs.Prelude.{◌≤◌, IfOk};
 
 use crate::asked_collator::collator_by_words;
-use crate::reports::report;
+use crate::reports::WORDING;
 use clap::ArgMatches;
-use collate_words::{boundary_of, patterns_of, searched_files, separator_of, shown_of, wanted_of};
+use collate_words::{patterns_of, searched_files, separator_of};
 use icu_collator::Collator;
-use icu_text_search::Searcher;
+use icu_text_search::{Boundary, Searcher};
 use line_commands::print_text;
-use line_searches::{SearchRequest, count_wanted, print_count, print_wanted};
-use program_files::{ProgramError, RunProgress, read_input};
+use line_searches::{
+    SearchRequest, Shown, Wanted, count_wanted, name_and, prefix_of, print_count, print_wanted,
+    shown_name,
+};
+use program_files::{ProgramError, RunProgress, read_input, report_failure};
 use std::alloc::{AllocError, Global};
 use std::io::{Read, Write};
 use std::rt::{Clock, Env, Files};
-
-/// The name of standard input, where it stands before lines.
-const STANDARD: &str = "(standard input)";
-
-/// The name of an input, as it stands before lines.
-fn shown_name<'f>(file: &'f str) -> &'f str {
-    if file == "-" { STANDARD } else { file }
-}
-
-/// The name of an input and a byte behind it.
-fn named(alloc: Global, name: &str, behind: u8) -> Result<Vec<u8>, AllocError> {
-    let mut text = Vec::from_slice(alloc, name.as_bytes())?;
-    text.push(behind)?;
-    Ok(text)
-}
 
 /// Searches an input that was read, and returns whether lines were found.
 fn search_bytes<R: AllocGlobal, W: Write>(
@@ -45,7 +33,7 @@ fn search_bytes<R: AllocGlobal, W: Write>(
     if is_quiet || matches.get_flag("files-with-matches") {
         let is_found = count_wanted(alloc, searchers, bytes, request)? > 0;
         if is_found && !is_quiet {
-            print_text(named(alloc, name, b'\n')?.as_slice(), output)?;
+            print_text(name_and(alloc, name, b'\n')?.as_slice(), output)?;
         }
         return Ok(is_found);
     }
@@ -54,15 +42,6 @@ fn search_bytes<R: AllocGlobal, W: Write>(
         return Ok(count > 0);
     }
     print_wanted(alloc, searchers, bytes, request, output)
-}
-
-/// What stands before each line of an input: its name, where there are several.
-fn prefix_of(alloc: Global, file: &str, is_named: bool) -> Result<Vec<u8>, AllocError> {
-    if is_named {
-        named(alloc, shown_name(file), b':')
-    } else {
-        Ok(Vec::new(alloc))
-    }
 }
 
 /// What a search came to.
@@ -105,7 +84,7 @@ fn search_input<R: Files + Clock + AllocGlobal, I: Read, W: Write, E: Write>(
         Ok(bytes) => bytes,
         Err(ProgramError::NoMemory) => return Err(ProgramError::NoMemory),
         Err(error) => {
-            let _ = report(error, errors);
+            let _ = report_failure(error, WORDING, errors);
             return Ok(None);
         }
     };
@@ -170,12 +149,30 @@ fn searchers_of<'c>(
     Ok(searchers)
 }
 
-/// How lines are searched for and printed, by words.
+/// How lines are searched for and printed, by words: in colour where that is asked for, or on a terminal.
 fn request_of<'p>(matches: &ArgMatches<'_>, is_terminal: bool) -> SearchRequest<'p> {
+    let is_coloured = match matches.get_str("colour") {
+        Some("always") => true,
+        Some("never") => false,
+        _ => is_terminal,
+    };
     SearchRequest {
-        wanted: wanted_of(matches),
-        boundary: boundary_of(matches),
-        shown: shown_of(matches, is_terminal),
+        wanted: if matches.get_flag("invert-match") {
+            Wanted::WithoutMatch
+        } else {
+            Wanted::WithMatch
+        },
+        boundary: if matches.get_flag("word-regexp") {
+            Boundary::Words
+        } else {
+            Boundary::Letters
+        },
+        shown: match (matches.get_flag("only-matching"), is_coloured) {
+            (false, false) => Shown::Line,
+            (false, true) => Shown::ColouredLine,
+            (true, false) => Shown::Matches,
+            (true, true) => Shown::ColouredMatches,
+        },
         prefix: &[],
         is_numbered: matches.get_flag("line-number"),
         separator: separator_of(matches),

@@ -11,7 +11,7 @@ ghost use Rattle.keyed_lines.specs.InputLines.{lines_text};
 ghost use Rattle.collate_commands.specs.InputRead.{ReadsFor};
 ghost use Rattle.program_files.specs.Inputs.{TakesWhole};
 ghost use Rattle.collate_commands.specs.CollatorErrors.{IsUnanswered};
-ghost use Rattle.program_files.specs.Refusals.{IsUnread};
+ghost use Rattle.program_files.specs.ProgramErrors.{IsUnread};
 ghost use Rattle.collate_commands.specs.inner.Shown.{shown};
 
 use crate::command::Command;

@@ -4,7 +4,7 @@ ghost use Rattle.icu_well_formed.specs.WellFormedTables.{IsWellFormedTables};
 ghost use Rattle.icu_collator.specs.Collators.{collation_kept, tables_kept};
 ghost use Rattle.icu_options.specs.declared.settings.Strength.{Strength};
 ghost use Rattle.icu_text_order.specs.Collations.{Collation};
-ghost use Rattle.program_files.specs.Refusals.{IsCollatorError};
+ghost use Rattle.program_files.specs.ProgramErrors.{IsCollatorError};
 
 use icu_collator::Collator;
 use icu_options::Strength;

@@ -8,16 +8,11 @@ use crate::name_lines::add_lines;
 use icu_headings::{Heading, HeadingStart, Headings};
 use icu_store::{PrintedCollator, StoredIndex};
 use icu_stored_lines::push_rows;
-use sqlite::{Alter, Connection, Error, ErrorCode, Transaction};
+use sqlite::{Alter, Connection, Error, ErrorCode};
 use std::alloc::{AllocError, Global};
 
 /// What stands for a heading without a label.
 const NO_LABEL: &str = "\u{2026}";
-
-/// Commits what was done in a transaction.
-fn commit<S: Alter>(transaction: Transaction<'_, S>) -> Result<(), Error> {
-    transaction.commit()
-}
 
 /// Puts the names of lines into an index, all of them or none.
 pub(crate) fn add<S: Alter>(
@@ -30,17 +25,7 @@ pub(crate) fn add<S: Alter>(
     }
     let mut transaction = connection.transaction();
     add_lines(index, &mut transaction, text)?;
-    commit(transaction)
-}
-
-/// Puts one name into an index, with what is kept with it.
-pub(crate) fn add_one<S: Alter>(
-    index: &StoredIndex<'_>,
-    connection: &mut Connection<S>,
-    name: &str,
-    payload: &str,
-) -> Result<usize, Error> {
-    index.insert(connection, name.as_bytes(), payload.as_bytes())
+    transaction.commit()
 }
 
 /// Where headings with these labels start.
@@ -138,13 +123,4 @@ pub(crate) fn listed_between<S: Alter>(
     let mut rows = index.between(connection, from.as_bytes(), to.as_bytes())?;
     push_rows(&mut text, &[], &mut rows)?;
     Ok(text)
-}
-
-/// Removes a name, and returns how many there were.
-pub(crate) fn remove<S: Alter>(
-    index: &StoredIndex<'_>,
-    connection: &mut Connection<S>,
-    name: &str,
-) -> Result<usize, Error> {
-    index.remove(connection, name.as_bytes())
 }

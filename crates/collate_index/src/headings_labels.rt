@@ -1,11 +1,11 @@
 //! The labels that headings are asked for with.
 
 use crate::named_collator::named_locale;
-use crate::refusals::{joined, refused};
+use crate::refusals::refused;
 use clap::ArgMatches;
 use icu_index_labels::{LabelsError, read_index_labels};
 use icu_ldml::parent_of;
-use program_files::ProgramError;
+use program_files::{ProgramError, joined};
 use std::alloc::{AllocError, Global};
 use std::fs;
 use std::io::{ErrorKind, Read};

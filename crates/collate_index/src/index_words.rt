@@ -1,22 +1,8 @@
 //! The words of the program.
 
-use clap::{Arg, ArgAction, Command};
+use clap::{Arg, Command};
+use collate_words::{HANDLINGS, OptionRow, STRENGTHS, Takes, option_of, with_options};
 use std::alloc::{AllocError, Global};
-
-static STRENGTHS: [&str; 10] = [
-    "1",
-    "2",
-    "3",
-    "4",
-    "i",
-    "primary",
-    "secondary",
-    "tertiary",
-    "quaternary",
-    "identical",
-];
-
-static HANDLINGS: [&str; 3] = ["non-ignorable", "shifted", "blanked"];
 
 const ABOUT: &str =
     "Keeps an index of names in a database file of SQLite, in the order of a language, or of CLDR's root collation.";
@@ -43,18 +29,61 @@ unicode-cldr-core installs it. The rules of a locale stand in common/collation o
 
 Status: 0, 1 (no such name), 2 (wrong words), 3 (data, memory, the database, input or output).";
 
-/// An option without a value.
-fn flag<'a>(alloc: Global, id: &'a str, help: &'a str) -> Arg<'a> {
-    Arg::new(alloc, id)
-        .long(id)
-        .help(help)
-        .action(ArgAction::SetTrue)
-}
+/// The options of each command, in the order in which help shows them.
+static OPTIONS: [OptionRow; 6] = [
+    OptionRow {
+        id: "root",
+        letter: None,
+        takes: Takes::Value("ROOT"),
+        help: "The root's data, FractionalUCA.txt",
+    },
+    OptionRow {
+        id: "cldr",
+        letter: None,
+        takes: Takes::Value("DIR"),
+        help: "The folder of CLDR's data, which has common/uca, common/collation and common/main",
+    },
+    OptionRow {
+        id: "strength",
+        letter: None,
+        takes: Takes::OneOf("LEVEL", STRENGTHS),
+        help: "How many levels count; tertiary if none is said",
+    },
+    OptionRow {
+        id: "alternate",
+        letter: None,
+        takes: Takes::OneOf("HOW", HANDLINGS),
+        help: "How spaces and punctuation count",
+    },
+    OptionRow {
+        id: "numeric",
+        letter: None,
+        takes: Takes::Nothing,
+        help: "Digits count by the value of their number",
+    },
+    OptionRow {
+        id: "locale",
+        letter: Some('l'),
+        takes: Takes::Value("LOCALE"),
+        help: "The order of a locale, by CLDR's rules, and its labels: sv, zh_Hant, de-u-co-phonebk",
+    },
+];
 
-/// An option with a value.
-fn valued<'a>(alloc: Global, id: &'a str, value: &'a str, help: &'a str) -> Arg<'a> {
-    Arg::new(alloc, id).long(id).value_name(value).help(help)
-}
+/// The option for what is kept with a name.
+const PAYLOAD: OptionRow = OptionRow {
+    id: "payload",
+    letter: None,
+    takes: Takes::Value("TEXT"),
+    help: "What is kept with the name",
+};
+
+/// The option for labels of headings.
+const LABELS: OptionRow = OptionRow {
+    id: "labels",
+    letter: None,
+    takes: Takes::Value("LABELS"),
+    help: "The labels, as A,B,C",
+};
 
 /// A word that is asked for.
 fn asked<'a>(alloc: Global, id: &'a str) -> Arg<'a> {
@@ -63,43 +92,10 @@ fn asked<'a>(alloc: Global, id: &'a str) -> Arg<'a> {
 
 /// A command over a database.
 fn command<'a>(alloc: Global, name: &'a str, about: &'a str) -> Result<Command<'a>, AllocError> {
-    Command::new(alloc, name)
+    let command = Command::new(alloc, name)
         .about(about)
-        .args_override_self(true)
-        .arg(valued(alloc, "root", "ROOT", "The root's data, FractionalUCA.txt"))?
-        .arg(valued(
-            alloc,
-            "cldr",
-            "DIR",
-            "The folder of CLDR's data, which has common/uca, common/collation and common/main",
-        ))?
-        .arg(valued(
-            alloc,
-            "strength",
-            "LEVEL",
-            "How many levels count; tertiary if none is said",
-        )
-        .value_parser(STRENGTHS.as_slice()))?
-        .arg(valued(
-            alloc,
-            "alternate",
-            "HOW",
-            "How spaces and punctuation count",
-        )
-        .value_parser(HANDLINGS.as_slice()))?
-        .arg(flag(
-            alloc,
-            "numeric",
-            "Digits count by the value of their number",
-        ))?
-        .arg(valued(
-            alloc,
-            "locale",
-            "LOCALE",
-            "The order of a locale, by CLDR's rules, and its labels: sv, zh_Hant, de-u-co-phonebk",
-        )
-        .short('l'))?
-        .arg(Arg::new(alloc, "FILE").required(true))
+        .args_override_self(true);
+    with_options(alloc, command, OPTIONS.as_slice())?.arg(Arg::new(alloc, "FILE").required(true))
 }
 
 /// The command `add`.
@@ -110,7 +106,7 @@ fn add_command<'a>(alloc: Global) -> Result<Command<'a>, AllocError> {
         "Adds a name, or the names of standard input, all or none",
     )?
     .arg(Arg::new(alloc, "NAME").allow_hyphen_values(true))?
-    .arg(valued(alloc, "payload", "TEXT", "What is kept with the name"))
+    .arg(option_of(alloc, PAYLOAD))
 }
 
 /// The command `between`.
@@ -127,9 +123,7 @@ fn headings_command<'a>(alloc: Global) -> Result<Command<'a>, AllocError> {
         "headings",
         "Prints each name behind its heading and a tab",
     )?
-    .arg(valued(alloc, "labels", "LABELS", "The labels, as A,B,C").required_unless_present(
-        "locale",
-    )?)
+    .arg(option_of(alloc, LABELS).required_unless_present("locale")?)
 }
 
 /// The whole of the words that the program takes.

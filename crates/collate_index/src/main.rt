@@ -11,8 +11,8 @@ mod one_run;
 mod outcome;
 mod refusals;
 
-use one_run::{report, run};
-use program_files::Input;
+use one_run::{WORDING, run};
+use program_files::{Input, report_failure};
 use std::process::ExitCode;
 
 fn main(rt: HostRuntime) -> ExitCode {
@@ -24,7 +24,7 @@ fn main(rt: HostRuntime) -> ExitCode {
             &mut rt.stdout(),
             &mut rt.stderr(),
         ),
-        Err(error) => report(error, &mut rt.stderr()),
+        Err(error) => report_failure(error, WORDING, &mut rt.stderr()),
     };
     ExitCode::from(status)
 }

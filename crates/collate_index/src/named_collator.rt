@@ -1,13 +1,11 @@
 //! The collator that options ask for, with its fingerprint.
 
-use crate::refusals::joined;
 use clap::ArgMatches;
 use cldr_collators::asked_locale::asked_by;
 use cldr_collators::made_collator::{CollatorRequest, PlacedLocale, made_collator};
-use cldr_collators::{Chosen, cldr_folder, root_file};
-use icu_options::{AlternateHandling, CollationNumericOrdering, Strength};
+use cldr_collators::{Chosen, SettingWords, cldr_folder, root_file, strength_by_word};
 use icu_store::PrintedCollator;
-use program_files::ProgramError;
+use program_files::{ProgramError, joined};
 use std::alloc::{AllocError, Global};
 use std::rt::{Env, Files};
 
@@ -24,43 +22,6 @@ fn named_here(alloc: Global, error: ProgramError) -> ProgramError {
     match joined(alloc, "collate-index: ", what) {
         Ok(line) => ProgramError::Refused(line),
         Err(AllocError) => ProgramError::NoMemory,
-    }
-}
-
-/// The strength that an option names, if one does.
-fn strength_in(matches: &ArgMatches<'_>) -> Option<Strength> {
-    match matches.get_str("strength") {
-        Some("1" | "primary") => Some(Strength::Primary),
-        Some("2" | "secondary") => Some(Strength::Secondary),
-        Some("3" | "tertiary") => Some(Strength::Tertiary),
-        Some("4" | "quaternary") => Some(Strength::Quaternary),
-        Some("i" | "identical") => Some(Strength::Identical),
-        _ => None,
-    }
-}
-
-/// The handling of variable elements that an option names, if one does.
-fn handling_in(matches: &ArgMatches<'_>) -> Option<AlternateHandling> {
-    match matches.get_str("alternate") {
-        Some("non-ignorable") => Some(AlternateHandling::NonIgnorable),
-        Some("shifted") => Some(AlternateHandling::Shifted),
-        Some("blanked") => Some(AlternateHandling::Blanked),
-        _ => None,
-    }
-}
-
-/// The settings that options choose.
-fn chosen_in(matches: &ArgMatches<'_>) -> Chosen {
-    Chosen {
-        numeric: if matches.get_flag("numeric") {
-            Some(CollationNumericOrdering::True)
-        } else {
-            None
-        },
-        alternate_handling: handling_in(matches),
-        case_level: None,
-        max_variable: None,
-        case_first: None,
     }
 }
 
@@ -106,8 +67,17 @@ fn asked_collator<R: Files + Env + AllocGlobal>(
     let request = CollatorRequest {
         root: root_file(rt, matches.get_str("root"), matches.get_str("cldr"))?,
         locale: locale_in(rt, matches)?,
-        chosen: chosen_in(matches),
-        strength: strength_in(matches),
+        chosen: Chosen::by_words(SettingWords {
+            numeric: matches.get_flag("numeric"),
+            alternate: matches.get_str("alternate"),
+            case_level: false,
+            max_variable: None,
+            case_first: None,
+        }),
+        strength: match matches.get_str("strength") {
+            Some(word) => strength_by_word(word),
+            None => None,
+        },
     };
     let collator = made_collator(rt, &request)?;
     Ok(PrintedCollator::new(collator))

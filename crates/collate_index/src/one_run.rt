@@ -1,55 +1,18 @@
 //! One run of the program.
 
 use crate::index_words::index_words;
-use crate::outcome::{DONE, FAILED, WRONG_WORDS, run_command};
-use clap::error::{Error as WordError, ErrorKind};
-use program_files::{ProgramError, write_text};
+use crate::outcome::run_command;
+use collate_words::answer_words;
+use program_files::{ProgramError, WRONG_WORDS, Wording, report_failure, write_text};
 use std::io::{Read, Write};
 
-/// Writes to standard error what kept the program from its end, and returns the status. That a write fails there
-/// changes nothing.
-pub(crate) fn report<E: Write>(error: ProgramError, errors: &mut E) -> u8 {
-    match error {
-        ProgramError::WrongWords => {
-            let _ = write_text(errors, b"collate-index: an argument isn't in UTF-8\n");
-            return WRONG_WORDS;
-        }
-        ProgramError::NoMemory => {
-            let _ = write_text(errors, b"collate-index: no memory\n");
-        }
-        ProgramError::Refused(line) => {
-            let _ = write_text(errors, line.as_bytes());
-        }
-        ProgramError::ReadFailed => {
-            let _ = write_text(errors, b"collate-index: read failed\n");
-        }
-        ProgramError::WriteFailed => {
-            let _ = write_text(errors, b"collate-index: write failed\n");
-        }
-    }
-    FAILED
-}
-
-/// Says what is wrong with the words, or prints the help that they ask for.
-fn answer_words<W: Write, E: Write>(
-    rt: &HostRuntime,
-    error: &WordError,
-    output: &mut W,
-    errors: &mut E,
-) -> Result<u8, ProgramError> {
-    if error.kind() == ErrorKind::OutOfMemory {
-        return Err(ProgramError::NoMemory);
-    }
-    let text = error.to_string(rt.alloc())?;
-    if error.use_stderr() {
-        let _ = write_text(errors, text.as_bytes());
-        return Ok(WRONG_WORDS);
-    }
-    match write_text(output, text.as_bytes()) {
-        Ok(()) => Ok(DONE),
-        Err(_) => Err(ProgramError::WriteFailed),
-    }
-}
+/// What the program says of its errors.
+pub(crate) const WORDING: Wording = Wording {
+    usage: "collate-index: an argument isn't in UTF-8\n",
+    no_memory: "collate-index: no memory\n",
+    read_failed: "collate-index: read failed\n",
+    write_failed: "collate-index: write failed\n",
+};
 
 /// What is said where no command is named.
 const NO_COMMAND: &str = "collate-index: no command; --help says which there are\n";
@@ -93,6 +56,6 @@ pub(crate) fn run<I: Read, W: Write, E: Write>(
 ) -> u8 {
     match run_words(rt, words, input, output, errors) {
         Ok(status) => status,
-        Err(error) => report(error, errors),
+        Err(error) => report_failure(error, WORDING, errors),
     }
 }

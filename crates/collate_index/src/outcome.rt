@@ -3,34 +3,21 @@
 ghost use Rattle.std.specs.Prelude.{◌≡◌, IfOk};
 ghost use Rattle.icu_store.specs.Stores.{printed_collation, store_collation};
 
-use crate::commands::{add, add_one, found, headed, listed, listed_between, remove};
+use crate::commands::{add, found, headed, listed, listed_between};
 use crate::headings_labels::labels_asked;
 use crate::name_lines::read_all;
 use crate::named_collator::named_collator;
 use crate::refusals::{refused, refused_by, unopened};
 use clap::ArgMatches;
+use collate_words::text_of;
 use icu_store::{PrintedCollator, StoredIndex, open, rebuild};
-use program_files::{ProgramError, write_text};
+use program_files::{DONE, ProgramError, write_text};
 use sqlite::{Alter, Connection, Error, File, FileStore};
 use std::fs;
 use std::io::{Read, Write};
 
-/// The status of a run: nothing is wrong.
-pub(crate) const DONE: u8 = 0;
 /// There is no such name.
-pub(crate) const NO_NAME: u8 = 1;
-/// The words are wrong.
-pub(crate) const WRONG_WORDS: u8 = 2;
-/// Data, memory, the database, input or output are missing or fail.
-pub(crate) const FAILED: u8 = 3;
-
-/// A word that is required.
-fn word_of<'a>(matches: &ArgMatches<'a>, id: &str) -> &'a str {
-    match matches.get_str(id) {
-        Some(word) => word,
-        None => "",
-    }
-}
+const NO_NAME: u8 = 1;
 
 /// What a command came to in the database: the text that it prints, and its status.
 #[derive(Drop)]
@@ -84,7 +71,8 @@ fn add_asked<S: Alter>(
     let Some(name) = matches.get_str("NAME") else {
         return add(index, connection, lines);
     };
-    add_one(index, connection, name, word_of(matches, "payload"))?;
+    let payload = text_of(matches, "payload");
+    index.insert(connection, name.as_bytes(), payload.as_bytes())?;
     Ok(())
 }
 
@@ -102,13 +90,13 @@ fn looked_up<S: Alter>(
 {
     let alloc = rt.alloc();
     match name {
-        "find" => found(alloc, index, connection, word_of(matches, "BEGINNING")),
+        "find" => found(alloc, index, connection, text_of(matches, "BEGINNING")),
         "between" => listed_between(
             alloc,
             index,
             connection,
-            word_of(matches, "FROM"),
-            word_of(matches, "TO"),
+            text_of(matches, "FROM"),
+            text_of(matches, "TO"),
         ),
         "headings" => headed(alloc, index, connection, collator, labels),
         _ => listed(alloc, index, connection),
@@ -134,7 +122,8 @@ fn outcome<S: Alter>(
             Ok(nothing(rt, DONE))
         }
         "remove" => {
-            let removed = remove(index, connection, word_of(matches, "NAME"))?;
+            let name = text_of(matches, "NAME");
+            let removed = index.remove(connection, name.as_bytes())?;
             Ok(nothing(rt, if removed == 0 { NO_NAME } else { DONE }))
         }
         _ => {
@@ -225,7 +214,7 @@ fn outcome_in(
     collator: &PrintedCollator,
     given: &CommandInput,
 ) -> Result<CommandOutput, ProgramError> {
-    let file = word_of(matches, "FILE");
+    let file = text_of(matches, "FILE");
     let mut connection = connect(rt, name, file)?;
     let index = opened(rt, name, file, &mut connection, collator)?;
     let done = match outcome(rt, name, matches, &index, &mut connection, collator, given) {

@@ -3,15 +3,8 @@
 use icu_store::OpenError;
 use program_files::ProgramError;
 use sqlite::{Error, ErrorCode};
-use std::alloc::{AllocError, Global};
+use std::alloc::Global;
 use std::fmt::Display;
-
-/// One text, and then another.
-pub(crate) fn joined(alloc: Global, first: &str, second: &str) -> Result<String, AllocError> {
-    let mut text = first.to_string(alloc)?;
-    text.push_str(second)?;
-    Ok(text)
-}
 
 /// An error that says of a file what is wrong with it.
 pub(crate) fn refused<E: Display>(alloc: Global, file: &str, what: &E) -> ProgramError {

@@ -12,32 +12,24 @@ pub fn separator_of(matches: &ArgMatches<'_>) -> u8 {
     }
 }
 
-/// The direction of an order.
-fn direction_of(matches: &ArgMatches<'_>) -> Direction {
-    if matches.get_flag("reverse") {
-        Direction::Descending
-    } else {
-        Direction::Ascending
-    }
-}
-
-/// What lines that are equal stand by: their bytes, unless they are to stand as they came, or the first alone counts.
-fn ties_of(matches: &ArgMatches<'_>) -> Ties {
-    if matches.get_flag("stable") || matches.get_flag("unique") {
-        Ties::AsTheyCame
-    } else {
-        Ties::ByBytes
-    }
-}
-
-/// How lines are to be sorted.
+/// How lines are to be sorted. Lines that are equal stand by their bytes, unless they are to stand as they came, or the
+/// first alone counts.
 pub fn sort_request_of(matches: &ArgMatches<'_>) -> SortRequest {
+    let is_unique = matches.get_flag("unique");
     SortRequest {
         order: LineOrder {
-            direction: direction_of(matches),
-            ties: ties_of(matches),
+            direction: if matches.get_flag("reverse") {
+                Direction::Descending
+            } else {
+                Direction::Ascending
+            },
+            ties: if is_unique || matches.get_flag("stable") {
+                Ties::AsTheyCame
+            } else {
+                Ties::ByBytes
+            },
         },
-        repeats: if matches.get_flag("unique") {
+        repeats: if is_unique {
             Repeats::FirstOnly
         } else {
             Repeats::All

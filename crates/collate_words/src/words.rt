@@ -1,30 +1,11 @@
-//! The commands of the program, and their options.
+//! The commands of the program.
 
+use crate::option_rows::{
+    CHECKS, DATA, LOCALES, ORDERS, QUESTIONS, QUIET, SEARCHES, SEPARATORS, SETTINGS, SORTS,
+};
+use crate::options::{OptionRow, Takes, option_of, with_options};
 use clap::{Arg, ArgAction, ArgMatches, Command};
 use std::alloc::{AllocError, Global};
-
-static STRENGTHS: [&str; 10] = [
-    "1",
-    "2",
-    "3",
-    "4",
-    "i",
-    "primary",
-    "secondary",
-    "tertiary",
-    "quaternary",
-    "identical",
-];
-
-static HANDLINGS: [&str; 3] = ["non-ignorable", "shifted", "blanked"];
-
-static CASES: [&str; 3] = ["off", "lower", "upper"];
-
-static CHECKS: [&str; 3] = ["diagnose-first", "quiet", "silent"];
-
-static COLOURS: [&str; 3] = ["auto", "always", "never"];
-
-static GROUPS: [&str; 4] = ["space", "punctuation", "symbol", "currency"];
 
 const ABOUT: &str =
     "Compares texts, and sorts, checks, searches and shows lines, by the Unicode Collation Algorithm with CLDR's \
@@ -52,112 +33,67 @@ unicode-cldr-core installs it; the rules of languages stand in common/collation 
 
 Status: 0, 1 (not in order, texts differ, nothing found), 2 (wrong words), 3 (data, memory, input or output).";
 
-/// An option without a value.
-fn flag<'a>(alloc: Global, id: &'a str, help: &'a str) -> Arg<'a> {
-    Arg::new(alloc, id)
-        .long(id)
-        .help(help)
-        .action(ArgAction::SetTrue)
-}
+/// The option for a table file.
+const TABLES: OptionRow = OptionRow {
+    id: "tables",
+    letter: None,
+    takes: Takes::Value("FILE"),
+    help: "A table file that compile wrote, in place of CLDR's data and of a language",
+};
 
-/// An option of one letter, without a value.
-fn letter<'a>(alloc: Global, id: &'a str, short: char, help: &'a str) -> Arg<'a> {
-    flag(alloc, id, help).short(short)
-}
+/// The option that checks lines in place of sorting them, as GNU sort has it.
+const CHECK: OptionRow = OptionRow {
+    id: "check",
+    letter: Some('c'),
+    takes: Takes::OneOf("HOW", &["diagnose-first", "quiet", "silent"]),
+    help: "As the command check: whether lines are in order, with the first that isn't, or quietly",
+};
 
-/// An option with a value.
-fn valued<'a>(alloc: Global, id: &'a str, value: &'a str, help: &'a str) -> Arg<'a> {
-    Arg::new(alloc, id).long(id).value_name(value).help(help)
-}
+/// The option for colours.
+const COLOUR: OptionRow = OptionRow {
+    id: "colour",
+    letter: None,
+    takes: Takes::OneOf("WHEN", &["auto", "always", "never"]),
+    help: "Whether matches are in colour; auto, if none is said: on a terminal",
+};
 
-/// A command with the options that say where the data are.
-fn with_data<'a>(alloc: Global, command: Command<'a>) -> Result<Command<'a>, AllocError> {
-    command
-        .arg(valued(alloc, "root", "FILE", "The root's data, FractionalUCA.txt"))?
-        .arg(valued(
-            alloc,
-            "cldr",
-            "DIR",
-            "The folder of CLDR's data, which has common/uca and common/collation",
-        ))
-}
-
-/// A command with the option for a table file.
-fn with_tables<'a>(alloc: Global, command: Command<'a>) -> Result<Command<'a>, AllocError> {
-    let tables = valued(
-        alloc,
-        "tables",
-        "FILE",
-        "A table file that compile wrote, in place of CLDR's data and of a language",
-    );
-    command.arg(
-        tables
-            .conflicts_with("root")?
-            .conflicts_with("cldr")?
-            .conflicts_with("locale")?,
-    )
-}
-
-/// The option for a language.
-fn locale<'a>(alloc: Global) -> Arg<'a> {
-    valued(
-        alloc,
-        "locale",
-        "TAG",
-        "The language, a type and settings, as in sv, de-u-co-phonebk or en-u-kn-ks-level1",
-    )
-    .short('l')
-}
-
-/// A command with the options for settings of the order.
-fn with_settings<'a>(alloc: Global, command: Command<'a>) -> Result<Command<'a>, AllocError> {
-    command
-        .arg(locale(alloc))?
-        .arg(valued(
-            alloc,
-            "strength",
-            "LEVEL",
-            "How many levels count; tertiary if none is said",
-        )
-        .value_parser(STRENGTHS.as_slice()))?
-        .arg(valued(
-            alloc,
-            "alternate",
-            "HOW",
-            "How spaces and punctuation count",
-        )
-        .value_parser(HANDLINGS.as_slice()))?
-        .arg(valued(
-            alloc,
-            "max-variable",
-            "GROUP",
-            "The last group that the option --alternate is for",
-        )
-        .value_parser(GROUPS.as_slice()))?
-        .arg(valued(alloc, "case-first", "CASE", "Which case comes first").value_parser(
-            CASES.as_slice(),
-        ))?
-        .arg(flag(alloc, "case-level", "Case counts on a level of its own"))?
-        .arg(flag(
-            alloc,
-            "numeric",
-            "Digits count by the value of their number",
-        ))
-}
+/// The option for the file that tables are written to.
+const OUT: OptionRow = OptionRow {
+    id: "output",
+    letter: Some('o'),
+    takes: Takes::Value("OUT"),
+    help: "Writes to this file",
+};
 
 /// A command over texts, by its name.
 fn command<'a>(alloc: Global, name: &'a str, about: &'a str) -> Result<Command<'a>, AllocError> {
     let command = Command::new(alloc, name)
         .about(about)
         .args_override_self(true);
-    let command = with_data(alloc, command)?;
-    let command = with_tables(alloc, command)?;
-    with_settings(alloc, command)
+    let tables = option_of(alloc, TABLES)
+        .conflicts_with("root")?
+        .conflicts_with("cldr")?
+        .conflicts_with("locale")?;
+    let command = with_options(alloc, command, DATA.as_slice())?.arg(tables)?;
+    let command = with_options(alloc, command, LOCALES.as_slice())?;
+    with_options(alloc, command, SETTINGS.as_slice())
 }
 
-/// A text that is asked for.
-fn text<'a>(alloc: Global, id: &'a str) -> Arg<'a> {
-    Arg::new(alloc, id).required(true).allow_hyphen_values(true)
+/// A command over some texts, by its name.
+fn text_command<'a>(
+    alloc: Global,
+    name: &'a str,
+    about: &'a str,
+    texts: &[&'a str],
+) -> Result<Command<'a>, AllocError> {
+    let mut command = command(alloc, name, about)?;
+    for text in texts {
+        let word = Arg::new(alloc, *text)
+            .required(true)
+            .allow_hyphen_values(true);
+        command = command.arg(word)?;
+    }
+    Ok(command)
 }
 
 /// The files that lines are read from.
@@ -174,168 +110,30 @@ fn line_command<'a>(
     name: &'a str,
     about: &'a str,
 ) -> Result<Command<'a>, AllocError> {
-    command(alloc, name, about)?
-        .arg(letter(
-            alloc,
-            "zero-terminated",
-            'z',
-            "Lines end with a zero byte in place of a line feed",
-        ))?
-        .arg(files(alloc))
-}
-
-/// A command with the options for records of CSV.
-fn with_csv<'a>(alloc: Global, command: Command<'a>) -> Result<Command<'a>, AllocError> {
-    command
-        .arg(flag(
-            alloc,
-            "csv",
-            "The input has records of CSV (RFC 4180), and not lines; each keeps its own bytes",
-        ))?
-        .arg(flag(
-            alloc,
-            "header",
-            "The first record of --csv names the columns, and stays first",
-        ))?
-        .arg(valued(
-            alloc,
-            "column",
-            "NAME|N",
-            "Compares this column of --csv, by its name or its number; further ones where the first are equal",
-        )
-        .action(ArgAction::Append))?
-        .arg(valued(
-            alloc,
-            "delimiter",
-            "C",
-            "Stands between two fields of --csv; a comma if none is said",
-        )
-        .allow_hyphen_values(true))
-}
-
-/// A command with the options for keys of lines.
-fn with_keys<'a>(alloc: Global, command: Command<'a>) -> Result<Command<'a>, AllocError> {
-    command
-        .arg(
-            valued(
-                alloc,
-                "key",
-                "POS1[,POS2]",
-                "Compares this part of lines, from one place F[.C] up to another; further ones where the first are equal",
-            )
-            .short('k')
-            .action(ArgAction::Append),
-        )?
-        .arg(
-            valued(
-                alloc,
-                "field-separator",
-                "C",
-                "Ends a field; where none is said, blanks belong to the field behind them",
-            )
-            .short('t')
-            .allow_hyphen_values(true),
-        )
-}
-
-/// A command over lines in an order.
-fn ordering_command<'a>(
-    alloc: Global,
-    name: &'a str,
-    about: &'a str,
-) -> Result<Command<'a>, AllocError> {
-    let command = line_command(alloc, name, about)?;
-    with_keys(alloc, with_csv(alloc, command)?)?
-        .arg(letter(alloc, "reverse", 'r', "The greatest line first"))?
-        .arg(letter(
-            alloc,
-            "unique",
-            'u',
-            "Of lines that are equal the first alone",
-        ))?
-        .arg(letter(
-            alloc,
-            "stable",
-            's',
-            "Lines that are equal stand as they came, and not by their bytes",
-        ))
-}
-
-/// The option that checks lines in place of sorting them, as GNU sort has it.
-fn check_option<'a>(alloc: Global) -> Arg<'a> {
-    valued(
-        alloc,
-        "check",
-        "HOW",
-        "As the command check: whether lines are in order, with the first that isn't, or quietly",
-    )
-    .short('c')
-    .num_args(0..=1)
-    .require_equals(true)
-    .default_missing_value("diagnose-first")
-    .value_parser(CHECKS.as_slice())
+    with_options(alloc, command(alloc, name, about)?, SEPARATORS.as_slice())?.arg(files(alloc))
 }
 
 /// The command `sort`.
 fn sort_command<'a>(alloc: Global) -> Result<Command<'a>, AllocError> {
-    ordering_command(alloc, "sort", "Prints the lines of files in order")?
-        .arg(valued(
-            alloc,
-            "output",
-            "OUT",
-            "Writes to this file, which may be one that is read",
-        )
-        .short('o'))?
-        .arg(letter(
-            alloc,
-            "merge",
-            'm',
-            "The lines of each file are in order already",
-        ))?
-        .arg(check_option(alloc))?
-        .arg(letter(alloc, "check-quietly", 'C', "As the command check --quiet"))
+    let command = line_command(alloc, "sort", "Prints the lines of files in order")?;
+    let command = with_options(alloc, command, ORDERS.as_slice())?;
+    let check = option_of(alloc, CHECK)
+        .num_args(0..=1)
+        .require_equals(true)
+        .default_missing_value("diagnose-first");
+    let command = with_options(alloc, command, SORTS.as_slice())?.arg(check)?;
+    with_options(alloc, command, CHECKS.as_slice())
 }
 
 /// The command `check`.
 fn check_command<'a>(alloc: Global) -> Result<Command<'a>, AllocError> {
-    ordering_command(
+    let command = line_command(
         alloc,
         "check",
         "Whether lines are in order: status 1 and the first that isn't, if one isn't",
-    )?
-    .arg(letter(alloc, "quiet", 'q', "Prints nothing"))
-}
-
-/// The command `compare`.
-fn compare_command<'a>(alloc: Global) -> Result<Command<'a>, AllocError> {
-    command(
-        alloc,
-        "compare",
-        "Prints the order of two texts, <, = or >: status 0 if they are equal, else 1",
-    )?
-    .arg(text(alloc, "A"))?
-    .arg(text(alloc, "B"))
-}
-
-/// The command `why`.
-fn why_command<'a>(alloc: Global) -> Result<Command<'a>, AllocError> {
-    command(
-        alloc,
-        "why",
-        "Prints the order of two texts, and the level that decides: status 0 if they are equal, else 1",
-    )?
-    .arg(text(alloc, "A"))?
-    .arg(text(alloc, "B"))
-}
-
-/// The command `explain`.
-fn explain_command<'a>(alloc: Global) -> Result<Command<'a>, AllocError> {
-    command(
-        alloc,
-        "explain",
-        "Prints the characters of a text with their collation elements, and its sort key level by level",
-    )?
-    .arg(text(alloc, "TEXT"))
+    )?;
+    let command = with_options(alloc, command, ORDERS.as_slice())?;
+    with_options(alloc, command, QUIET.as_slice())
 }
 
 /// The command `search`.
@@ -350,95 +148,9 @@ fn search_command<'a>(alloc: Global) -> Result<Command<'a>, AllocError> {
         "Prints the lines that hold a match of a pattern: status 0 if there are some, else 1",
     )?
     .arg(pattern)?
-    .arg(files(alloc))?
-    .arg(letter(
-        alloc,
-        "zero-terminated",
-        'z',
-        "Lines end with a zero byte in place of a line feed",
-    ))?;
-    with_search_options(alloc, with_pattern_options(alloc, command)?)
-}
-
-/// A command with the options that say what is searched for.
-fn with_pattern_options<'a>(
-    alloc: Global,
-    command: Command<'a>,
-) -> Result<Command<'a>, AllocError> {
-    command
-        .arg(
-            valued(
-                alloc,
-                "regexp",
-                "PATTERN",
-                "Searches for this text, in place of the first word; further ones too",
-            )
-            .short('e')
-            .allow_hyphen_values(true)
-            .action(ArgAction::Append),
-        )?
-        .arg(letter(
-            alloc,
-            "ignore-case",
-            'i',
-            "Case doesn't count: two levels count where no strength is said",
-        ))
-}
-
-/// A command with the options of a search.
-fn with_search_options<'a>(alloc: Global, command: Command<'a>) -> Result<Command<'a>, AllocError> {
-    command
-        .arg(letter(alloc, "count", 'c', "Prints how many lines there are"))?
-        .arg(letter(
-            alloc,
-            "quiet",
-            'q',
-            "Prints nothing, and ends with the first file that has such a line",
-        ))?
-        .arg(letter(alloc, "invert-match", 'v', "The lines that hold no match"))?
-        .arg(letter(
-            alloc,
-            "line-number",
-            'n',
-            "Prints the number of each line before it",
-        ))?
-        .arg(letter(
-            alloc,
-            "only-matching",
-            'o',
-            "Prints each match that isn't empty on a line of its own",
-        ))?
-        .arg(flag(
-            alloc,
-            "files-with-matches",
-            "Prints the names of the files that have such lines",
-        ))?
-        .arg(letter(
-            alloc,
-            "word-regexp",
-            'w',
-            "A match begins and ends at boundaries of words",
-        ))?
-        .arg(
-            valued(
-                alloc,
-                "colour",
-                "WHEN",
-                "Whether matches are in colour; auto, if none is said: on a terminal",
-            )
-            .visible_alias("color")?
-            .value_parser(COLOURS.as_slice()),
-        )
-}
-
-/// The command `key`.
-fn key_command<'a>(alloc: Global) -> Result<Command<'a>, AllocError> {
-    command(
-        alloc,
-        "key",
-        "Prints the sort key of a text, byte by byte in hexadecimal digits",
-    )?
-    .arg(text(alloc, "TEXT"))
+    .arg(files(alloc))?;
+    let colour = option_of(alloc, COLOUR).visible_alias("color")?;
+    with_options(alloc, command, SEARCHES.as_slice())?.arg(colour)
 }
 
 /// The command `compile`.
@@ -448,20 +160,8 @@ fn compile_command<'a>(alloc: Global) -> Result<Command<'a>, AllocError> {
             "Writes the tables of a language, checked, to a file that --tables takes, and that is read at once",
         )
         .args_override_self(true);
-    with_data(alloc, command)?.arg(locale(alloc))?.arg(
-        valued(alloc, "output", "OUT", "Writes to this file")
-            .short('o')
-            .required(true),
-    )
-}
-
-/// The command `neighbours`, for CLDR's test files.
-fn neighbours_command<'a>(alloc: Global) -> Result<Command<'a>, AllocError> {
-    command(
-        alloc,
-        "neighbours",
-        "Counts lines of characters' numbers, as in CLDR's tests, that are out of order",
-    )
+    let command = with_options(alloc, command, DATA.as_slice())?;
+    with_options(alloc, command, LOCALES.as_slice())?.arg(option_of(alloc, OUT).required(true))
 }
 
 /// A text that is required.
@@ -483,35 +183,49 @@ pub fn files_of<'m, 'a>(matches: &'m ArgMatches<'a>) -> &'m [&'a str] {
 ///
 /// Fails only where an allocation does.
 pub fn program<'a>(alloc: Global) -> Result<Command<'a>, AllocError> {
-    let command = Command::new(alloc, "collate-cldr")
+    let program = Command::new(alloc, "collate-cldr")
         .no_binary_name(true)
         .bin_name("collate-cldr")?
         .about(ABOUT)
         .after_help(AFTER);
-    with_data(alloc, command)?
-        .arg(letter(
-            alloc,
-            "version",
-            'V',
-            "Prints the versions of the program, of CLDR, and of Unicode in the root's data",
-        ))?
-        .arg(flag(
-            alloc,
-            "list-locales",
-            "Prints the locales that there are collations of, with their types, the default one first",
-        ))?
+    let program = with_options(alloc, program, DATA.as_slice())?;
+    with_options(alloc, program, QUESTIONS.as_slice())?
         .subcommand(sort_command(alloc)?)?
         .subcommand(check_command(alloc)?)?
-        .subcommand(compare_command(alloc)?)?
-        .subcommand(why_command(alloc)?)?
+        .subcommand(text_command(
+            alloc,
+            "compare",
+            "Prints the order of two texts, <, = or >: status 0 if they are equal, else 1",
+            &["A", "B"],
+        )?)?
+        .subcommand(text_command(
+            alloc,
+            "why",
+            "Prints the order of two texts, and the level that decides: status 0 if they are equal, else 1",
+            &["A", "B"],
+        )?)?
         .subcommand(search_command(alloc)?)?
-        .subcommand(key_command(alloc)?)?
-        .subcommand(explain_command(alloc)?)?
+        .subcommand(text_command(
+            alloc,
+            "key",
+            "Prints the sort key of a text, byte by byte in hexadecimal digits",
+            &["TEXT"],
+        )?)?
+        .subcommand(text_command(
+            alloc,
+            "explain",
+            "Prints the characters of a text with their collation elements, and its sort key level by level",
+            &["TEXT"],
+        )?)?
         .subcommand(line_command(
             alloc,
             "keys",
             "Prints each line behind its sort key in hexadecimal digits and a tab",
         )?)?
         .subcommand(compile_command(alloc)?)?
-        .subcommand(neighbours_command(alloc)?)
+        .subcommand(command(
+            alloc,
+            "neighbours",
+            "Counts lines of characters' numbers, as in CLDR's tests, that are out of order",
+        )?)
 }

@@ -36,3 +36,11 @@ pub fn cldr_version<R: Files + AllocGlobal>(rt: &R, folder: &str) -> Result<Stri
         None => Ok(String::new(rt.alloc())),
     }
 }
+
+/// What is said of a version that isn't known.
+const UNKNOWN: &str = "of an unknown version";
+
+/// A version, as it is said: an empty one isn't known.
+pub fn said_version(version: &str) -> &str {
+    if version.is_empty() { UNKNOWN } else { version }
+}

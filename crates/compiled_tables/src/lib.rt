@@ -7,5 +7,5 @@ pub mod data_version;
 pub mod tables_collator;
 
 pub use compiled::compiled_tables;
-pub use data_version::cldr_version;
+pub use data_version::{cldr_version, said_version};
 pub use tables_collator::file_collator;

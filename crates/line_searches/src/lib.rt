@@ -2,6 +2,7 @@
 //! those that don't.
 #![tactic(auto)]
 
+pub mod input_names;
 mod joined_matches;
 pub mod line_matches;
 pub mod printed_searches;
@@ -9,6 +10,7 @@ pub mod search_request;
 mod shown_matches;
 pub mod wanted_lines;
 
+pub use input_names::{name_and, prefix_of, shown_name};
 pub use line_matches::{LineMatches, matches_of_line};
 pub use printed_searches::{print_count, print_wanted};
 pub use search_request::{SearchRequest, Shown, Wanted};

@@ -2,5 +2,4 @@ pub mod Inputs
 pub mod NamedErrors
 pub mod PartialWrites
 pub mod ProgramErrors
-pub mod Refusals
 pub mod WatchedOutputs

@@ -1,5 +1,5 @@
 -- What keeps a program from printing an answer: the status that it ends with, and what it says.
-use Rattle.std.specs.Prelude.{ℕ, List, string_bytes}
+use Rattle.std.specs.Prelude.{◌≡◌, ◌⊎◌, ℕ, List, string_bytes}
 use Rattle.program_files.specs.declared.program_error.ProgramError.{ProgramError}
 use Rattle.program_files.specs.declared.program_error.ProgramError.TheVariants.{WrongWords, NoMemory, Refused, ReadFailed, WriteFailed}
 use Rattle.program_files.specs.declared.program_error.Wording.{Wording}
@@ -32,3 +32,13 @@ line_of lines NoMemory = lines.no_memory
 line_of lines (Refused line) = string_bytes line
 line_of lines ReadFailed = lines.read_failed
 line_of lines WriteFailed = lines.write_failed
+
+-- why there is no collator: an allocation failed, or it is refused, by one of these lines
+abbrev pub IsCollatorError : (List ℕ → Type 0) → ProgramError → Type 0
+IsCollatorError refuses NoMemory = Unit {0}
+IsCollatorError refuses (Refused line) = refuses (string_bytes line)
+IsCollatorError refuses _ = ⊥
+
+-- why the input isn't read to its end: an allocation failed, or a read
+abbrev pub IsUnread : ProgramError → Type 0
+IsUnread error = (error ≡ NoMemory) ⊎ (error ≡ ReadFailed)

@@ -1,7 +1,7 @@
 //! The inputs that lines are read from.
 
 ghost use Rattle.std.specs.Prelude.{◌≡◌, ◌++◌, List, ℕ, IfErr, OnOk};
-ghost use Rattle.program_files.specs.Refusals.{IsUnread};
+ghost use Rattle.program_files.specs.ProgramErrors.{IsUnread};
 ghost use Rattle.program_files.specs.Inputs.{TakesWhole};
 ghost use Rattle.program_files.specs.Inputs.{ended, ends_in};
 

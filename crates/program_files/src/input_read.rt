@@ -1,7 +1,7 @@
 //! The input.
 ghost use Rattle.std.specs.Prelude.{IfOk, IfErr};
 ghost use Rattle.program_files.specs.Inputs.{TakesWhole};
-ghost use Rattle.program_files.specs.Refusals.{IsUnread};
+ghost use Rattle.program_files.specs.ProgramErrors.{IsUnread};
 
 use crate::program_error::ProgramError;
 use std::alloc::Global;

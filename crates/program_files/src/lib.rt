@@ -3,6 +3,7 @@
 #![tactic(auto)]
 
 pub mod arguments;
+pub mod endings;
 pub mod input;
 pub mod input_read;
 pub mod inputs;
@@ -14,6 +15,7 @@ pub mod watched_output;
 pub mod writing;
 
 pub use arguments::{Input, words};
+pub use endings::{DONE, FAILED, WRONG_WORDS, report_failure};
 pub use input::append_input;
 pub use input_read::read_whole;
 pub use inputs::{read_input, read_inputs};

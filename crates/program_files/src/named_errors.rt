@@ -1,6 +1,6 @@
 //! Errors that name a file.
 ghost use Rattle.std.specs.Prelude.{◌≡◌, ◌++◌, ◌∷◌, [], codes, string_bytes, IfOk};
-ghost use Rattle.program_files.specs.Refusals.{IsCollatorError};
+ghost use Rattle.program_files.specs.ProgramErrors.{IsCollatorError};
 ghost use Rattle.program_files.specs.NamedErrors.{IsLineOf};
 
 use crate::program_error::ProgramError;

@@ -1,11 +1,12 @@
 //! The words that say by which fields lines are sorted: `-t C` and `-k POS1[,POS2]` (POSIX, "sort").
 
-use field_sorts::{FieldOrder, FieldSort};
+use crate::field_sort::{FieldOrder, FieldSort};
 use keyed_lines::Direction;
 use line_fields::{FieldEnds, FieldKey, KeyPlace, KeyStop};
+use std::alloc::{AllocError, Global};
 
 /// The byte that the word behind `-t` names: a character of ASCII, or `\0`.
-pub(crate) fn ends_of(word: &str) -> Option<FieldEnds> {
+fn ends_of(word: &str) -> Option<FieldEnds> {
     match word.as_bytes() {
         [byte] => Some(FieldEnds::AtByte(*byte)),
         [b'\\', b'0'] => Some(FieldEnds::AtByte(0)),
@@ -194,7 +195,7 @@ fn key_between(
 }
 
 /// The key that the word behind `-k` names, `POS1[,POS2]`, beside a whole order that may be reversed.
-pub(crate) fn key_of_word(word: &str, is_whole_reversed: bool) -> Option<FieldSort> {
+fn key_of_word(word: &str, is_whole_reversed: bool) -> Option<FieldSort> {
     match word.split_once(',') {
         None => key_between(position_of(word)?, None, is_whole_reversed),
         Some((first, last)) => key_between(
@@ -203,4 +204,55 @@ pub(crate) fn key_of_word(word: &str, is_whole_reversed: bool) -> Option<FieldSo
             is_whole_reversed,
         ),
     }
+}
+
+/// What ends a field, by the word behind `-t`: blanks where there is none, or a wrong one.
+pub fn field_ends(word: Option<&str>) -> FieldEnds {
+    match word {
+        Some(word) => ends_of(word).unwrap_or(FieldEnds::AtBlanks),
+        None => FieldEnds::AtBlanks,
+    }
+}
+
+/// The keys that words name beside a whole order that may be reversed, as far as the words are right.
+///
+/// # Errors
+///
+/// Fails only where an allocation does.
+pub fn keys_of_words(
+    alloc: Global,
+    words: &[&str],
+    is_reversed: bool,
+) -> Result<Vec<FieldSort>, AllocError> {
+    let mut sorts = Vec::new(alloc);
+    for word in words {
+        if let Some(sort) = key_of_word(word, is_reversed) {
+            sorts.push(sort)?;
+        }
+    }
+    Ok(sorts)
+}
+
+/// The first word that names no key.
+fn first_wrong<'a>(words: &[&'a str], is_reversed: bool) -> Option<&'a str> {
+    for word in words {
+        if key_of_word(word, is_reversed).is_none() {
+            return Some(*word);
+        }
+    }
+    None
+}
+
+/// The first word for fields that is wrong: the one behind `-t`, or one behind `-k`.
+pub fn wrong_field_word<'a>(
+    separator: Option<&'a str>,
+    words: &[&'a str],
+    is_reversed: bool,
+) -> Option<&'a str> {
+    if let Some(word) = separator
+        && ends_of(word).is_none()
+    {
+        return Some(word);
+    }
+    first_wrong(words, is_reversed)
 }

@@ -1,29 +1,22 @@
-//! How records of CSV are sorted, by options.
+//! The words that say how records of CSV are sorted.
 
-use crate::sort_options::sort_request_of;
-use crate::words::files_of;
-use clap::ArgMatches;
-use csv_sorts::CsvRequest;
 use std::alloc::{AllocError, Global};
 
-/// The words of an option that may stand several times, none where it doesn't stand.
-fn words_of<'m, 'a>(matches: &'m ArgMatches<'a>, id: &str) -> &'m [&'a str] {
-    matches.get_strs(id).unwrap_or_default()
-}
-
-/// Whether records of CSV are asked for.
-pub fn asks_for_csv(matches: &ArgMatches<'_>) -> bool {
-    matches.get_flag("csv")
-}
-
-/// The words that name columns.
-pub fn column_words<'m, 'a>(matches: &'m ArgMatches<'a>) -> &'m [&'a str] {
-    words_of(matches, "column")
-}
-
-/// Whether the first record names the columns.
-pub fn has_header(matches: &ArgMatches<'_>) -> bool {
-    matches.get_flag("header")
+/// The words for records of CSV, and those that don't go with them.
+#[derive(Clone, Copy)]
+pub struct CsvWords<'w, 'a> {
+    /// Whether records are asked for, by `--csv`.
+    pub is_csv: bool,
+    /// Whether the first record names the columns, by `--header`.
+    pub has_header: bool,
+    /// The words that name columns.
+    pub columns: &'w [&'a str],
+    /// The word for the byte between two fields.
+    pub delimiter: Option<&'a str>,
+    /// How many files are named.
+    pub files: usize,
+    /// Whether lines end with a zero byte.
+    pub is_zero_terminated: bool,
 }
 
 /// The byte that a word names as the one between two fields: a character of ASCII that is no quote and ends no line.
@@ -36,41 +29,27 @@ fn delimiter_of(word: &str) -> Option<u8> {
 }
 
 /// The byte between two fields, a comma where none is said, or rightly.
-pub fn csv_delimiter(matches: &ArgMatches<'_>) -> u8 {
-    match matches.get_str("delimiter") {
+pub fn csv_delimiter(word: Option<&str>) -> u8 {
+    match word {
         Some(word) => delimiter_of(word).unwrap_or(b','),
         None => b',',
     }
 }
 
-/// How records are to be sorted by columns.
-pub fn csv_request_of<'c>(matches: &ArgMatches<'_>, columns: &'c [usize]) -> CsvRequest<'c> {
-    let request = sort_request_of(matches);
-    CsvRequest {
-        delimiter: csv_delimiter(matches),
-        has_header: has_header(matches),
-        columns,
-        direction: request.order.direction,
-        repeats: request.repeats,
-    }
-}
-
 /// Whether an option stands that is for records of CSV alone.
-fn has_csv_option(matches: &ArgMatches<'_>) -> bool {
-    !column_words(matches).is_empty()
-        || has_header(matches)
-        || matches.get_str("delimiter").is_some()
+fn has_csv_option(words: &CsvWords<'_, '_>) -> bool {
+    !words.columns.is_empty() || words.has_header || words.delimiter.is_some()
 }
 
 /// What is wrong with options beside `--csv`.
-fn wrong_beside(matches: &ArgMatches<'_>) -> Option<&'static str> {
-    if column_words(matches).is_empty() {
+fn wrong_beside(words: &CsvWords<'_, '_>) -> Option<&'static str> {
+    if words.columns.is_empty() {
         return Some("--csv needs --column");
     }
-    if files_of(matches).len() > 1 {
+    if words.files > 1 {
         return Some("--csv takes one file");
     }
-    if matches.get_flag("zero-terminated") {
+    if words.is_zero_terminated {
         return Some("--zero-terminated isn't for --csv");
     }
     None
@@ -98,17 +77,17 @@ fn said(alloc: Global, what: &str) -> Result<String, AllocError> {
 }
 
 /// What is wrong with the words for a delimiter or columns.
-fn wrong_values(alloc: Global, matches: &ArgMatches<'_>) -> Result<Option<String>, AllocError> {
-    if let Some(word) = matches.get_str("delimiter")
+fn wrong_values(alloc: Global, words: &CsvWords<'_, '_>) -> Result<Option<String>, AllocError> {
+    if let Some(word) = words.delimiter
         && delimiter_of(word).is_none()
     {
         let line = word_said(alloc, word, "is no delimiter, one character of ASCII")?;
         return Ok(Some(line));
     }
-    if has_header(matches) {
+    if words.has_header {
         return Ok(None);
     }
-    match first_name(column_words(matches)) {
+    match first_name(words.columns) {
         Some(word) => {
             let line = word_said(
                 alloc,
@@ -128,18 +107,18 @@ fn wrong_values(alloc: Global, matches: &ArgMatches<'_>) -> Result<Option<String
 /// Fails only where an allocation does.
 pub fn wrong_csv_words(
     alloc: Global,
-    matches: &ArgMatches<'_>,
+    words: &CsvWords<'_, '_>,
 ) -> Result<Option<String>, AllocError> {
-    if !asks_for_csv(matches) {
-        if has_csv_option(matches) {
+    if !words.is_csv {
+        if has_csv_option(words) {
             let line = said(alloc, "--column, --header and --delimiter are for --csv")?;
             return Ok(Some(line));
         }
         return Ok(None);
     }
-    if let Some(what) = wrong_beside(matches) {
+    if let Some(what) = wrong_beside(words) {
         let line = said(alloc, what)?;
         return Ok(Some(line));
     }
-    wrong_values(alloc, matches)
+    wrong_values(alloc, words)
 }

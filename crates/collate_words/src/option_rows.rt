@@ -1,0 +1,266 @@
+//! The options of the program's commands, in the order in which help shows them.
+
+use crate::options::{OptionRow, Takes};
+
+/// The words for strengths, by their numbers and by their names.
+pub const STRENGTHS: &[&str] = &[
+    "1",
+    "2",
+    "3",
+    "4",
+    "i",
+    "primary",
+    "secondary",
+    "tertiary",
+    "quaternary",
+    "identical",
+];
+
+/// The words for how variable elements count.
+pub const HANDLINGS: &[&str] = &["non-ignorable", "shifted", "blanked"];
+
+const CASES: &[&str] = &["off", "lower", "upper"];
+
+const GROUPS: &[&str] = &["space", "punctuation", "symbol", "currency"];
+
+/// Those that say where the data are.
+pub(crate) static DATA: [OptionRow; 2] = [
+    OptionRow {
+        id: "root",
+        letter: None,
+        takes: Takes::Value("FILE"),
+        help: "The root's data, FractionalUCA.txt",
+    },
+    OptionRow {
+        id: "cldr",
+        letter: None,
+        takes: Takes::Value("DIR"),
+        help: "The folder of CLDR's data, which has common/uca and common/collation",
+    },
+];
+
+/// That for a language.
+pub(crate) static LOCALES: [OptionRow; 1] = [OptionRow {
+    id: "locale",
+    letter: Some('l'),
+    takes: Takes::Value("TAG"),
+    help: "The language, a type and settings, as in sv, de-u-co-phonebk or en-u-kn-ks-level1",
+}];
+
+/// Those for settings of the order.
+pub(crate) static SETTINGS: [OptionRow; 6] = [
+    OptionRow {
+        id: "strength",
+        letter: None,
+        takes: Takes::OneOf("LEVEL", STRENGTHS),
+        help: "How many levels count; tertiary if none is said",
+    },
+    OptionRow {
+        id: "alternate",
+        letter: None,
+        takes: Takes::OneOf("HOW", HANDLINGS),
+        help: "How spaces and punctuation count",
+    },
+    OptionRow {
+        id: "max-variable",
+        letter: None,
+        takes: Takes::OneOf("GROUP", GROUPS),
+        help: "The last group that the option --alternate is for",
+    },
+    OptionRow {
+        id: "case-first",
+        letter: None,
+        takes: Takes::OneOf("CASE", CASES),
+        help: "Which case comes first",
+    },
+    OptionRow {
+        id: "case-level",
+        letter: None,
+        takes: Takes::Nothing,
+        help: "Case counts on a level of its own",
+    },
+    OptionRow {
+        id: "numeric",
+        letter: None,
+        takes: Takes::Nothing,
+        help: "Digits count by the value of their number",
+    },
+];
+
+/// That for what ends a line.
+pub(crate) static SEPARATORS: [OptionRow; 1] = [OptionRow {
+    id: "zero-terminated",
+    letter: Some('z'),
+    takes: Takes::Nothing,
+    help: "Lines end with a zero byte in place of a line feed",
+}];
+
+/// Those for records of CSV, for keys of lines, and for how equal lines and all lines stand.
+pub(crate) static ORDERS: [OptionRow; 9] = [
+    OptionRow {
+        id: "csv",
+        letter: None,
+        takes: Takes::Nothing,
+        help: "The input has records of CSV (RFC 4180), and not lines; each keeps its own bytes",
+    },
+    OptionRow {
+        id: "header",
+        letter: None,
+        takes: Takes::Nothing,
+        help: "The first record of --csv names the columns, and stays first",
+    },
+    OptionRow {
+        id: "column",
+        letter: None,
+        takes: Takes::Values("NAME|N"),
+        help: "Compares this column of --csv, by its name or its number; further ones where the first are equal",
+    },
+    OptionRow {
+        id: "delimiter",
+        letter: None,
+        takes: Takes::AnyValue("C"),
+        help: "Stands between two fields of --csv; a comma if none is said",
+    },
+    OptionRow {
+        id: "key",
+        letter: Some('k'),
+        takes: Takes::Values("POS1[,POS2]"),
+        help: "Compares this part of lines, from one place F[.C] up to another; further ones where the first are equal",
+    },
+    OptionRow {
+        id: "field-separator",
+        letter: Some('t'),
+        takes: Takes::AnyValue("C"),
+        help: "Ends a field; where none is said, blanks belong to the field behind them",
+    },
+    OptionRow {
+        id: "reverse",
+        letter: Some('r'),
+        takes: Takes::Nothing,
+        help: "The greatest line first",
+    },
+    OptionRow {
+        id: "unique",
+        letter: Some('u'),
+        takes: Takes::Nothing,
+        help: "Of lines that are equal the first alone",
+    },
+    OptionRow {
+        id: "stable",
+        letter: Some('s'),
+        takes: Takes::Nothing,
+        help: "Lines that are equal stand as they came, and not by their bytes",
+    },
+];
+
+/// Those of the command `sort` alone, before the one that checks.
+pub(crate) static SORTS: [OptionRow; 2] = [
+    OptionRow {
+        id: "output",
+        letter: Some('o'),
+        takes: Takes::Value("OUT"),
+        help: "Writes to this file, which may be one that is read",
+    },
+    OptionRow {
+        id: "merge",
+        letter: Some('m'),
+        takes: Takes::Nothing,
+        help: "The lines of each file are in order already",
+    },
+];
+
+/// That of the command `sort` alone, behind the one that checks.
+pub(crate) static CHECKS: [OptionRow; 1] = [OptionRow {
+    id: "check-quietly",
+    letter: Some('C'),
+    takes: Takes::Nothing,
+    help: "As the command check --quiet",
+}];
+
+/// That of the command `check` alone.
+pub(crate) static QUIET: [OptionRow; 1] = [OptionRow {
+    id: "quiet",
+    letter: Some('q'),
+    takes: Takes::Nothing,
+    help: "Prints nothing",
+}];
+
+/// Those of the command `search`.
+pub(crate) static SEARCHES: [OptionRow; 10] = [
+    OptionRow {
+        id: "zero-terminated",
+        letter: Some('z'),
+        takes: Takes::Nothing,
+        help: "Lines end with a zero byte in place of a line feed",
+    },
+    OptionRow {
+        id: "regexp",
+        letter: Some('e'),
+        takes: Takes::AnyValues("PATTERN"),
+        help: "Searches for this text, in place of the first word; further ones too",
+    },
+    OptionRow {
+        id: "ignore-case",
+        letter: Some('i'),
+        takes: Takes::Nothing,
+        help: "Case doesn't count: two levels count where no strength is said",
+    },
+    OptionRow {
+        id: "count",
+        letter: Some('c'),
+        takes: Takes::Nothing,
+        help: "Prints how many lines there are",
+    },
+    OptionRow {
+        id: "quiet",
+        letter: Some('q'),
+        takes: Takes::Nothing,
+        help: "Prints nothing, and ends with the first file that has such a line",
+    },
+    OptionRow {
+        id: "invert-match",
+        letter: Some('v'),
+        takes: Takes::Nothing,
+        help: "The lines that hold no match",
+    },
+    OptionRow {
+        id: "line-number",
+        letter: Some('n'),
+        takes: Takes::Nothing,
+        help: "Prints the number of each line before it",
+    },
+    OptionRow {
+        id: "only-matching",
+        letter: Some('o'),
+        takes: Takes::Nothing,
+        help: "Prints each match that isn't empty on a line of its own",
+    },
+    OptionRow {
+        id: "files-with-matches",
+        letter: None,
+        takes: Takes::Nothing,
+        help: "Prints the names of the files that have such lines",
+    },
+    OptionRow {
+        id: "word-regexp",
+        letter: Some('w'),
+        takes: Takes::Nothing,
+        help: "A match begins and ends at boundaries of words",
+    },
+];
+
+/// Those that stand in place of a command.
+pub(crate) static QUESTIONS: [OptionRow; 2] = [
+    OptionRow {
+        id: "version",
+        letter: Some('V'),
+        takes: Takes::Nothing,
+        help: "Prints the versions of the program, of CLDR, and of Unicode in the root's data",
+    },
+    OptionRow {
+        id: "list-locales",
+        letter: None,
+        takes: Takes::Nothing,
+        help: "Prints the locales that there are collations of, with their types, the default one first",
+    },
+];

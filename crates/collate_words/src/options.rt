@@ -1,0 +1,71 @@
+//! Options of commands, as rows of tables.
+
+use clap::{Arg, ArgAction, Command};
+use std::alloc::{AllocError, Global};
+
+/// What an option takes. The first text is the name by which help shows a value.
+#[derive(Clone, Copy)]
+pub enum Takes {
+    /// It stands alone.
+    Nothing,
+    /// A value.
+    Value(&'static str),
+    /// A value that may begin with a hyphen.
+    AnyValue(&'static str),
+    /// One of these values.
+    OneOf(&'static str, &'static [&'static str]),
+    /// A value each time that it stands.
+    Values(&'static str),
+    /// A value each time that it stands, which may begin with a hyphen.
+    AnyValues(&'static str),
+}
+
+/// An option of a command.
+#[derive(Clone, Copy)]
+pub struct OptionRow {
+    /// The name, which stands behind two hyphens.
+    pub id: &'static str,
+    /// The letter, which stands behind one hyphen.
+    pub letter: Option<char>,
+    /// What it takes.
+    pub takes: Takes,
+    /// What help says of it.
+    pub help: &'static str,
+}
+
+/// The option of a row.
+pub fn option_of<'a>(alloc: Global, row: OptionRow) -> Arg<'a> {
+    let plain = Arg::new(alloc, row.id).long(row.id).help(row.help);
+    let arg = match row.letter {
+        Some(letter) => plain.short(letter),
+        None => plain,
+    };
+    match row.takes {
+        Takes::Nothing => arg.action(ArgAction::SetTrue),
+        Takes::Value(name) => arg.value_name(name),
+        Takes::AnyValue(name) => arg.value_name(name).allow_hyphen_values(true),
+        Takes::OneOf(name, values) => arg.value_name(name).value_parser(values),
+        Takes::Values(name) => arg.value_name(name).action(ArgAction::Append),
+        Takes::AnyValues(name) => arg
+            .value_name(name)
+            .allow_hyphen_values(true)
+            .action(ArgAction::Append),
+    }
+}
+
+/// A command with the options of rows.
+///
+/// # Errors
+///
+/// Fails only where an allocation does.
+pub fn with_options<'a>(
+    alloc: Global,
+    command: Command<'a>,
+    rows: &[OptionRow],
+) -> Result<Command<'a>, AllocError> {
+    let mut whole = command;
+    for row in rows {
+        whole = whole.arg(option_of(alloc, *row))?;
+    }
+    Ok(whole)
+}
