@@ -38,8 +38,8 @@ pub struct CollatorRequest {
     pub strength: Option<Strength>,
 }
 
-/// The locale that a tag names, or else the environment, and where its rules are: in the folder of CLDR's data, which may
-/// be named.
+/// The locale that a tag names, or else the environment, and where its rules are: in the folder of CLDR's data, which
+/// may be named.
 ///
 /// # Errors
 ///

@@ -4,14 +4,14 @@
 
 pub mod answers;
 pub mod option_rows;
-pub mod options;
+pub mod option_table;
 pub mod search_options;
 pub mod sort_options;
 pub mod words;
 
 pub use answers::answer_words;
 pub use option_rows::{HANDLINGS, STRENGTHS};
-pub use options::{OptionRow, Takes, option_of, with_options};
+pub use option_table::{OptionRow, Takes, option_of, with_options};
 pub use search_options::{patterns_of, searched_files};
 pub use sort_options::{CheckWanted, check_of, separator_of, sort_request_of};
 pub use words::{files_of, program, text_of};

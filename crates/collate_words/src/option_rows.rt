@@ -1,6 +1,6 @@
 //! The options of the program's commands, in the order in which help shows them.
 
-use crate::options::{OptionRow, Takes};
+use crate::option_table::{OptionRow, Takes};
 
 /// The words for strengths, by their numbers and by their names.
 pub const STRENGTHS: &[&str] = &[

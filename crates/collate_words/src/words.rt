@@ -3,7 +3,7 @@
 use crate::option_rows::{
     CHECKS, DATA, LOCALES, ORDERS, QUESTIONS, QUIET, SEARCHES, SEPARATORS, SETTINGS, SORTS,
 };
-use crate::options::{OptionRow, Takes, option_of, with_options};
+use crate::option_table::{OptionRow, Takes, option_of, with_options};
 use clap::{Arg, ArgAction, ArgMatches, Command};
 use std::alloc::{AllocError, Global};
 
