@@ -28,7 +28,7 @@ Row = namedtuple("Row", "group operation name limit settings pairs")
 Settings = namedtuple("Settings", "strength numeric shifted case_level normalized", defaults=(2, 0, 0, 0, 0))
 TERTIARY = Settings()
 
-# What needs no table but Mini's, the small one of `icu_mini`.
+# What needs no table but Mini's, the small one of `icu_table_mini`.
 MINI_GROUPS = ("latin", "korean", "digits", "long")
 
 # What has ideographs, which the peer orders by radical and stroke, and the library by code point.

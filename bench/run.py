@@ -10,7 +10,7 @@ usage: bench/run.py [--group GROUP ..] [--list] [--rounds N] [--seed N] [--both-
 --seed N          the seed of the texts (1)
 --both-seeds      measure the texts of the seed and of the next one, and say where their ratios differ by more than a tenth
 --root FILE       FractionalUCA.txt of CLDR (where Debian's package unicode-cldr-core installs it)
---mini            measure by Mini, the small table of icu_mini: the groups that need no other
+--mini            measure by Mini, the small table of icu_table_mini: the groups that need no other
 --folder FOLDER   where proofs, programs and texts are kept, outside of the repository (collation-bench in the user's cache)
 --jobs N          passed on to `rt`
 --shift N         link the library so many bytes further (0)

@@ -50,7 +50,7 @@ class Programs:
 
     def __init__(self, program, folder):
         self.ours = os.path.abspath(program)
-        self.peer = compiled(folder, "icu_sort", "icu-i18n", "icu-uc")
+        self.peer = compiled(folder, "icu_collator", "icu-i18n", "icu-uc")
         self.timer = compiled(folder, "cost")
         self.figures = os.path.join(folder, "figures")
 
@@ -127,8 +127,8 @@ def print_starts(locale, words, programs, folder):
         it.write("a\n")
     tables = tables_of(programs.ours, locale, words, folder)
     runs = ([programs.ours, "sort", "--cldr", words.cldr, "-l", locale], [programs.ours, "sort", "--tables", tables], [programs.peer, peer_locale(locale)])
-    text, compiled_tables, peer = map(shown, programs.least(words.rounds, line, *((it, ours) for it in runs)))
-    say(f"one line by {locale}: {text} by CLDR's text, {compiled_tables} by a table file, {peer} by ICU4C's program")
+    text, cldr_collators, peer = map(shown, programs.least(words.rounds, line, *((it, ours) for it in runs)))
+    say(f"one line by {locale}: {text} by CLDR's text, {cldr_collators} by a table file, {peer} by ICU4C's program")
 
 
 def has_locale():

@@ -53,17 +53,17 @@ printf '%s\\n' "$@" === && cat
 """
 # What `rt ci` says of three crates, one of which is kept and one not proved, and what is to be said of that.
 SAID = """rt: icu_options is kept: an earlier run on this machine proved the same files over the same libraries
-== icu_levels
+== icu_order_levels
 logic=proved functions=9
-rt: icu_levels proved
-== icu_entries
+rt: icu_order_levels proved
+== icu_table_entries
 src/lib.rt:3:1: error: not proved
 logic=not-proved
-rt: icu_entries NOT PROVED
-rt: FAILED: icu_entries
+rt: icu_table_entries NOT PROVED
+rt: FAILED: icu_table_entries
 2 passed, 1 failed
 """
-THREE = ["icu_options", "icu_levels", "icu_entries"]
+THREE = ["icu_options", "icu_order_levels", "icu_table_entries"]
 # How far the times of crates are from those that are kept, and how much the time that is left may be, of what is left.
 SPREAD, LEAST, MOST = 0.15, 2 / 3, 4 / 3
 
@@ -116,8 +116,8 @@ def wrong_lines():
         it.take(line)
     whole = sum(it.functions.values())
     counts = f"{sum(it.functions[name] for name in THREE[:2])} of {whole} functions, "
-    wanted = [f"icu_levels is proved: {counts}less than a minute left", f"icu_entries is NOT PROVED: {counts}ended"]
-    faults = {"icu_entries": ["src/lib.rt:3:1: error: not proved", "logic=not-proved"]}
+    wanted = [f"icu_order_levels is proved: {counts}less than a minute left", f"icu_table_entries is NOT PROVED: {counts}ended"]
+    faults = {"icu_table_entries": ["src/lib.rt:3:1: error: not proved", "logic=not-proved"]}
     found = [f"{said}, and not {wanted}"] * (said != wanted) + [f"{it.faults}, and not {faults}"] * (it.faults != faults)
     return found + [f"{it.counts} are the counts"] * (it.counts != [2, 1])
 

@@ -159,7 +159,7 @@ def copied(folder):
         listed = it.read()
     libraries = " ".join(rattle_tests.libraries())
     with open(os.path.join(folder, "crates.txt"), "w", encoding="utf-8") as it:
-        it.write(f"{listed}\n{NAME}: anyhow icu_cldr icu_keys {libraries}\n")
+        it.write(f"{listed}\n{NAME}: anyhow icu_cldr_root icu_key_writers {libraries}\n")
     shutil.copy(os.path.join(TOP, "HANDLES"), folder)
     crate = os.path.join(folder, "crates", NAME)
     for part in ("src", "specs", "proofs"):

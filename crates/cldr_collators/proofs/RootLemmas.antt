@@ -1,6 +1,6 @@
 -- A collator that is made of a root has the chosen settings.
 use Rattle.std.proofs.Common.{◌≡◌, false, Option, Some, ap, ◌∙◌, unwrap_or, option_map}
-use Rattle.icu_cldr.specs.Roots.{IsRoot}
+use Rattle.icu_cldr_root.specs.Roots.{IsRoot}
 use Rattle.icu_options.specs.Conversions.{is_numeric, is_on}
 use Rattle.icu_options.specs.Merge.{merge}
 use Rattle.icu_options.specs.Metadata.{metadata_settings}
@@ -13,7 +13,7 @@ use Rattle.icu_options.specs.declared.settings.CollationCaseFirst.TheVariants as
 use Rattle.icu_options.specs.declared.settings.CollationNumericOrdering.{CollationNumericOrdering}
 use Rattle.icu_options.specs.declared.settings.MaxVariable.TheVariants.{Punctuation}
 use Rattle.icu_options.specs.declared.settings.Strength.{Strength}
-use Rattle.icu_text_order.specs.Collations.{Collation}
+use Rattle.icu_order_texts.specs.Collations.{Collation}
 use Rattle.cldr_collators.specs.RootCollators.{chosen_settings}
 use Rattle.cldr_collators.specs.declared.choice.Chosen.{Chosen}
 

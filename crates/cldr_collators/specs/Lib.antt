@@ -1,2 +1,3 @@
 pub mod RootCollators
 pub mod RuledCollators
+pub mod compiled_tables

@@ -1,13 +1,13 @@
 -- What collators by the root compare by.
 use Rattle.std.specs.Prelude.{◌≡◌, false, option_map, unwrap_or}
-use Rattle.icu_cldr.specs.Roots.{IsRoot}
+use Rattle.icu_cldr_root.specs.Roots.{IsRoot}
 use Rattle.icu_options.specs.Conversions.{is_numeric, is_on}
 use Rattle.icu_options.specs.Settings.{Settings}
 use Rattle.icu_options.specs.declared.settings.Strength.{Strength}
 use Rattle.icu_options.specs.declared.settings.AlternateHandling.TheVariants.{NonIgnorable}
 use Rattle.icu_options.specs.declared.settings.CollationCaseFirst.TheVariants as case_first
 use Rattle.icu_options.specs.declared.settings.MaxVariable.TheVariants.{Punctuation}
-use Rattle.icu_text_order.specs.Collations.{Collation}
+use Rattle.icu_order_texts.specs.Collations.{Collation}
 use Rattle.cldr_collators.specs.declared.choice.Chosen.{Chosen}
 
 -- the settings that were chosen, at a strength, and those of the root where none was

@@ -5,12 +5,12 @@ use Rattle.icu_options.specs.Metadata.{metadata_settings}
 use Rattle.icu_options.specs.declared.options.CollatorOptions.{CollatorOptions}
 use Rattle.icu_options.specs.declared.options.CollatorPreferences.{CollatorPreferences}
 use Rattle.icu_options.specs.declared.settings.Strength.{Strength}
-use Rattle.icu_provider.specs.CollatorTables.{CollatorTables}
-use Rattle.icu_provider.specs.TableSets.{loads_of}
-use Rattle.icu_checked_root.specs.declared.checked_root.CheckedRoot.{CheckedRoot}
-use Rattle.icu_checked_root.specs.CheckedRoots.{IsRootOf}
-use Rattle.icu_checked_root.specs.StoredRoots.{stored_root}
-use Rattle.icu_rules.specs.declared.rules.PlacedStatement.{PlacedStatement}
+use Rattle.icu_table_provider.specs.CollatorTables.{CollatorTables}
+use Rattle.icu_table_provider.specs.TableSets.{loads_of}
+use Rattle.icu_rule_root.specs.declared.checked_root.CheckedRoot.{CheckedRoot}
+use Rattle.icu_rule_root.specs.CheckedRoots.{IsRootOf}
+use Rattle.icu_rule_root.specs.StoredRoots.{stored_root}
+use Rattle.icu_rule_parser.specs.declared.rules.PlacedStatement.{PlacedStatement}
 use Rattle.icu_rule_tables.specs.Tailorings.{SaysRules, tailored_tables}
 use Rattle.icu_rule_tables.specs.declared.tailoring.Tailoring.{Tailoring}
 use Rattle.icu_collator.specs.Collators.{loaded_for, settings_kept, tables_kept}

@@ -1,7 +1,7 @@
 //! The locale that is asked for: by an option, or by the environment.
 
-use icu_locale::{LanguageTag, TagError, TagSettings};
-use icu_locale_rules::CollationName;
+use icu_cldr_locales::locale_rules::CollationName;
+use icu_cldr_locales::{LanguageTag, TagError, TagSettings};
 use program_files::{ProgramError, refused};
 use std::alloc::{AllocError, Global};
 use std::env::{self, VarError};

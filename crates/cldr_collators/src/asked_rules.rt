@@ -3,9 +3,11 @@
 use crate::asked_locale::AskedLocale;
 use crate::needed_files::{collation_file, files_of_collation};
 use crate::rule_places::{line_at, push_shortened};
-use icu_ldml::{FoundCollation, LocaleFile};
-use icu_locale_rules::{rules_of_collation, taken_collation, with_backward, with_reordering};
-use icu_rules::{Rules, RulesError};
+use icu_cldr_files::{FoundCollation, LocaleFile};
+use icu_cldr_locales::locale_rules::{
+    rules_of_collation, taken_collation, with_backward, with_reordering,
+};
+use icu_rule_parser::{Rules, RulesError};
 use program_files::{ProgramError, joined};
 use std::alloc::{AllocError, Global};
 use std::fmt::Display;

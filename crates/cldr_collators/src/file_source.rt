@@ -1,17 +1,17 @@
 //! The tables of a file, and collators by them.
 ghost use Rattle.std.specs.Prelude.{IfOk, IfErr};
-ghost use Rattle.icu_cldr.specs.Roots.{IsRoot, root_tables};
-ghost use Rattle.icu_well_formed.specs.WellFormedTables.{IsWellFormedTables};
+ghost use Rattle.icu_cldr_root.specs.Roots.{IsRoot, root_tables};
+ghost use Rattle.icu_table_provider.specs.well_formed.WellFormedTables.{IsWellFormedTables};
 ghost use Rattle.icu_collator.specs.Collators.{collation_kept, tables_kept};
 ghost use Rattle.program_files.specs.ProgramErrors.{IsCollatorError};
 ghost use Rattle.cldr_collators.specs.RootCollators.{ComparesAs};
 ghost use Rattle.program_files.specs.NamedErrors.{IsLineOf};
 
 use crate::choice::Chosen;
-use icu_cldr::{CldrRoot, IdeographOrder, ReadError, read_root_by};
+use icu_cldr_root::{CldrRoot, IdeographOrder, ReadError, read_root_by};
 use icu_collator::Collator;
-use icu_entries::{DataError, DataErrorKind};
 use icu_options::Strength;
+use icu_table_entries::{DataError, DataErrorKind};
 use program_files::{ProgramError, refused, refused_by};
 use std::alloc::Global;
 use std::fs;

@@ -4,6 +4,7 @@
 pub mod asked_locale;
 pub mod asked_rules;
 pub mod choice;
+pub mod compiled_tables;
 pub mod data_place;
 pub mod file_source;
 pub mod locale_list;

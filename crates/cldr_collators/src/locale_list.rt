@@ -1,7 +1,7 @@
 //! The locales that there are collations of, and their types.
 
 use crate::needed_files::add_files;
-use icu_ldml::{Collation, LocaleFile, default_type_of, parent_of};
+use icu_cldr_files::{Collation, LocaleFile, default_type_of, parent_of};
 use program_files::{ProgramError, joined, refused};
 use std::alloc::{AllocError, Global};
 use std::fs;

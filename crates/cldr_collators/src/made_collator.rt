@@ -1,7 +1,7 @@
 //! The collator that is asked for.
 
 ghost use Rattle.std.specs.Prelude.{IfOk};
-ghost use Rattle.icu_well_formed.specs.WellFormedTables.{IsWellFormedTables};
+ghost use Rattle.icu_table_provider.specs.well_formed.WellFormedTables.{IsWellFormedTables};
 ghost use Rattle.icu_collator.specs.Collators.{collation_kept, tables_kept};
 
 use crate::asked_locale::{AskedLocale, asked_locale};
@@ -10,8 +10,8 @@ use crate::choice::Chosen;
 use crate::data_place::cldr_folder;
 use crate::file_source::{read_file, root_collator};
 use crate::tailored_collator::tailored_collator;
+use icu_cldr_locales::TagSettings;
 use icu_collator::Collator;
-use icu_locale::TagSettings;
 use icu_options::Strength;
 use program_files::ProgramError;
 use std::rt::{Env, Files};

@@ -1,8 +1,8 @@
 //! The files of collations, as far as they are needed.
 
-use icu_ldml::{CollationFile, LdmlError, LocaleFile, collation_of, parent_of};
-use icu_locale::{LanguageTag, TagError};
-use icu_locale_rules::{CollationName, import_tags, taken_collation};
+use icu_cldr_files::{CollationFile, LdmlError, LocaleFile, collation_of, parent_of};
+use icu_cldr_locales::locale_rules::{CollationName, import_tags, taken_collation};
+use icu_cldr_locales::{LanguageTag, TagError};
 use program_files::{ProgramError, joined, refused, refused_by};
 use std::alloc::{AllocError, Global};
 use std::fs;

@@ -1,24 +1,24 @@
 //! A collator by the rules of a locale.
 ghost use Rattle.std.specs.Prelude.{◌≡◌, IfOk};
-ghost use Rattle.icu_cldr.specs.Roots.{root_tables};
+ghost use Rattle.icu_cldr_root.specs.Roots.{root_tables};
 ghost use Rattle.icu_rule_tables.specs.Tailorings.{SaysRules};
-ghost use Rattle.icu_well_formed.specs.WellFormedTables.{IsWellFormedTables};
+ghost use Rattle.icu_table_provider.specs.well_formed.WellFormedTables.{IsWellFormedTables};
 ghost use Rattle.icu_collator.specs.Collators.{tables_kept};
-ghost use Rattle.icu_well_formed.specs.Checked.{checked_tables};
+ghost use Rattle.icu_table_provider.specs.well_formed.Checked.{checked_tables};
 ghost use Rattle.cldr_collators.specs.RuledCollators.{ComparesByRules, ComparesByTables};
 
 use crate::asked_locale::refused_locale;
 use crate::asked_rules::{LocaleRules, refused_rule};
 use crate::choice::Chosen;
 use crate::file_source::error_of;
-use icu_checked_root::CheckedRoot;
-use icu_checks::checked_owned;
-use icu_cldr::CldrRoot;
+use icu_cldr_root::CldrRoot;
 use icu_collator::Collator;
-use icu_entries::{DataError, DataErrorKind};
 use icu_options::Strength;
+use icu_rule_root::CheckedRoot;
 use icu_rule_tables::{RuleRefusal, RuleTablesError, Tailoring};
-use icu_well_formed::CheckedTables;
+use icu_table_check::checked_owned;
+use icu_table_entries::{DataError, DataErrorKind};
+use icu_table_provider::well_formed::CheckedTables;
 use program_files::{ProgramError, refused_by};
 use std::alloc::Global;
 use std::fmt::Display;

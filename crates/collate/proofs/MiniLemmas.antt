@@ -1,21 +1,21 @@
 -- What Mini returns: its tables say what they are to say.
 use Rattle.std.proofs.Common.{◌≡◌, ℕ, List, Option, Some, None, Result, Ok, Err, IfOk, refl, sym, ap, ◌∙◌, subst}
 use Rattle.std.specs.Option.{option_map}
-use Rattle.icu_entries.specs.declared.error.DataError.{DataError}
-use Rattle.icu_provider.specs.Loads.{Loads, answer}
-use Rattle.icu_provider.specs.Metadata.{is_tailored, has_reordering}
-use Rattle.icu_provider.specs.Requests.{Request}
-use Rattle.icu_provider.specs.SpecialPrimaries.{SpecialPrimaries}
-use Rattle.icu_collation_data.specs.Data.{Data}
-use Rattle.icu_provider.specs.CollatorTables.{CollatorTables}
-use Rattle.icu_provider.specs.LoadedTables.{then_load, or_else, typed_first, if_named, diacritics_request, loaded_tables}
-use Rattle.icu_mini.specs.declared.mini.Mini.{Mini}
-use Rattle.icu_provider.specs.declared.fixed_provider.FixedLoads.{FixedLoads}
-use Rattle.icu_provider.specs.FixedLoads.{fixed_loads}
-use Rattle.icu_table_builder.specs.declared.data_vectors.DataVectors.{DataVectors}
-use Rattle.icu_table_builder.specs.OwnedData.{vectors_data}
-use Rattle.icu_mini.specs.Mini.{IsMini, special_held, SaysAny}
-use Rattle.icu_mini.specs.Provider.{LoadsMini}
+use Rattle.icu_table_entries.specs.declared.error.DataError.{DataError}
+use Rattle.icu_table_provider.specs.Loads.{Loads, answer}
+use Rattle.icu_table_provider.specs.Metadata.{is_tailored, has_reordering}
+use Rattle.icu_table_provider.specs.Requests.{Request}
+use Rattle.icu_table_provider.specs.SpecialPrimaries.{SpecialPrimaries}
+use Rattle.icu_table_data.specs.Data.{Data}
+use Rattle.icu_table_provider.specs.CollatorTables.{CollatorTables}
+use Rattle.icu_table_provider.specs.LoadedTables.{then_load, or_else, typed_first, if_named, diacritics_request, loaded_tables}
+use Rattle.icu_table_mini.specs.declared.mini.Mini.{Mini}
+use Rattle.icu_table_provider.specs.declared.fixed_provider.FixedLoads.{FixedLoads}
+use Rattle.icu_table_provider.specs.FixedLoads.{fixed_loads}
+use Rattle.icu_table_provider.specs.declared.builder.data_vectors.DataVectors.{DataVectors}
+use Rattle.icu_table_provider.specs.builder.OwnedData.{vectors_data}
+use Rattle.icu_table_mini.specs.Mini.{IsMini, special_held, SaysAny}
+use Rattle.icu_table_mini.specs.Provider.{LoadsMini}
 use Rattle.collate.specs.Answers.{mini_tables}
 
 -- ---- what is returned

@@ -12,9 +12,9 @@ use Rattle.icu_options.specs.declared.settings.CollationCaseFirst.{CollationCase
 use Rattle.icu_options.specs.declared.settings.CollationCaseFirst.TheVariants as case_first
 use Rattle.icu_options.specs.declared.settings.CollationNumericOrdering.{CollationNumericOrdering}
 use Rattle.icu_options.specs.declared.settings.MaxVariable.TheVariants.{Punctuation}
-use Rattle.icu_provider.specs.CollatorTables.{CollatorTables}
-use Rattle.icu_mini.specs.declared.mini.Mini.{Mini}
-use Rattle.icu_text_order.specs.Collations.{Collation}
+use Rattle.icu_table_provider.specs.CollatorTables.{CollatorTables}
+use Rattle.icu_table_mini.specs.declared.mini.Mini.{Mini}
+use Rattle.icu_order_texts.specs.Collations.{Collation}
 use Rattle.collate.specs.Answers.{ComparesBy, mini_tables}
 
 -- options that set a strength alone

@@ -5,10 +5,10 @@ use Rattle.icu_options.specs.declared.settings.Strength.{Strength}
 use Rattle.icu_options.specs.declared.settings.AlternateHandling.TheVariants.{NonIgnorable}
 use Rattle.icu_options.specs.declared.settings.CollationCaseFirst.TheVariants as case_first
 use Rattle.icu_options.specs.declared.settings.MaxVariable.TheVariants.{Punctuation}
-use Rattle.icu_provider.specs.CollatorTables.{CollatorTables}
-use Rattle.icu_mini.specs.declared.mini.Mini.{Mini}
-use Rattle.icu_mini.specs.Mini.{IsMini, collator_tables, special_held}
-use Rattle.icu_text_order.specs.Collations.{Collation}
+use Rattle.icu_table_provider.specs.CollatorTables.{CollatorTables}
+use Rattle.icu_table_mini.specs.declared.mini.Mini.{Mini}
+use Rattle.icu_table_mini.specs.Mini.{IsMini, collator_tables, special_held}
+use Rattle.icu_order_texts.specs.Collations.{Collation}
 
 -- all of Mini's tables: its metadata names neither a tailoring nor a reordering
 abbrev pub mini_tables : Mini → CollatorTables

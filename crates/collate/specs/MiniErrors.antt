@@ -1,17 +1,17 @@
 -- Tables that are refused for cause.
 use Rattle.std.specs.Prelude.{◌≡◌, ℕ, List, Ok}
-use Rattle.icu_entries.specs.declared.error.DataErrorKind.{DataErrorKind}
-use Rattle.icu_entries.specs.declared.error.DataErrorKind.TheVariants.{NoMemory}
+use Rattle.icu_table_entries.specs.declared.error.DataErrorKind.{DataErrorKind}
+use Rattle.icu_table_entries.specs.declared.error.DataErrorKind.TheVariants.{NoMemory}
 use Rattle.icu_options.specs.declared.settings.Strength.{Strength}
-use Rattle.icu_provider.specs.CollatorTables.{CollatorTables}
-use Rattle.icu_well_formed.specs.WellFormedTables.{IsWellFormedTables}
-use Rattle.icu_provider.specs.LoadedTables.{loaded_tables}
-use Rattle.icu_provider.specs.Requests.{Request}
-use Rattle.icu_mini.specs.declared.mini.Mini.{Mini}
-use Rattle.icu_provider.specs.declared.fixed_provider.FixedLoads.{FixedLoads}
-use Rattle.icu_provider.specs.FixedLoads.{fixed_loads}
-use Rattle.icu_mini.specs.Mini.{IsMini}
-use Rattle.icu_mini.specs.Provider.{LoadsMini}
+use Rattle.icu_table_provider.specs.CollatorTables.{CollatorTables}
+use Rattle.icu_table_provider.specs.well_formed.WellFormedTables.{IsWellFormedTables}
+use Rattle.icu_table_provider.specs.LoadedTables.{loaded_tables}
+use Rattle.icu_table_provider.specs.Requests.{Request}
+use Rattle.icu_table_mini.specs.declared.mini.Mini.{Mini}
+use Rattle.icu_table_provider.specs.declared.fixed_provider.FixedLoads.{FixedLoads}
+use Rattle.icu_table_provider.specs.FixedLoads.{fixed_loads}
+use Rattle.icu_table_mini.specs.Mini.{IsMini}
+use Rattle.icu_table_mini.specs.Provider.{LoadsMini}
 use Rattle.collate.specs.CollateLines.{refused_line}
 
 -- Mini's tables are not all returned, or those that are returned don't meet the conditions on the tables of a collator.

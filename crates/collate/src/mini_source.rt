@@ -1,6 +1,6 @@
 //! Mini's tables as a source of collators.
 ghost use Rattle.std.specs.Prelude.{◌≡◌, IfOk, IfErr};
-ghost use Rattle.icu_well_formed.specs.WellFormedTables.{IsWellFormedTables};
+ghost use Rattle.icu_table_provider.specs.well_formed.WellFormedTables.{IsWellFormedTables};
 ghost use Rattle.icu_collator.specs.Collators.{collation_kept, tables_kept};
 ghost use Rattle.program_files.specs.ProgramErrors.{IsCollatorError};
 ghost use Rattle.collate.specs.Answers.{mini_compares};
@@ -8,9 +8,9 @@ ghost use Rattle.collate.specs.MiniErrors.{IsForCause, mini_refuses};
 
 use collate_commands::CollatorSource;
 use icu_collator::Collator;
-use icu_entries::{DataError, DataErrorKind};
-use icu_mini::mini::Mini;
 use icu_options::{CollatorOptions, CollatorPreferences, Strength};
+use icu_table_entries::{DataError, DataErrorKind};
+use icu_table_mini::mini::Mini;
 use program_files::ProgramError;
 use std::alloc::Global;
 

@@ -1,13 +1,13 @@
 //! The collator that words ask for.
 
 ghost use Rattle.std.specs.Prelude.{IfOk};
-ghost use Rattle.icu_well_formed.specs.WellFormedTables.{IsWellFormedTables};
+ghost use Rattle.icu_table_provider.specs.well_formed.WellFormedTables.{IsWellFormedTables};
 ghost use Rattle.icu_collator.specs.Collators.{tables_kept};
 
 use clap::ArgMatches;
+use cldr_collators::compiled_tables::file_collator;
 use cldr_collators::made_collator::{CollatorRequest, made_collator, placed_locale};
 use cldr_collators::{Chosen, SettingWords, root_file, strength_by_word};
-use compiled_tables::file_collator;
 use icu_collator::Collator;
 use icu_options::Strength;
 use program_files::ProgramError;

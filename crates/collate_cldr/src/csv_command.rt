@@ -4,13 +4,13 @@ ghost use Rattle.std.specs.Prelude.{◌≤◌, IfOk};
 
 use crate::asked_collator::collator_by_words;
 use clap::ArgMatches;
-use collate_words::{files_of, sort_request_of};
-use csv_sorts::{
+use icu_collator::Collator;
+use line_commands::csv_sorts::{
     CsvError, CsvRequest, column_disorder_text, columns_of_words, csv_delimiter, csv_error_said,
     first_column_disorder, print_sorted_by_columns, text_sorted_by_columns,
 };
-use icu_collator::Collator;
 use program_files::{ProgramError, RunProgress, read_inputs, replace_file, write_text};
+use program_words::{files_of, sort_request_of};
 use std::io::{Read, Write};
 use std::rt::{Clock, Env, Files};
 

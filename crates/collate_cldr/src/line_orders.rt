@@ -5,15 +5,15 @@ ghost use Rattle.std.specs.Prelude.{◌≤◌, IfOk};
 use crate::asked_collator::collator_by_words;
 use crate::reports::DIFFERS;
 use clap::ArgMatches;
-use collate_words::{files_of, sort_request_of};
-use field_disorders::first_field_disorder;
-use field_sorts::{
+use icu_collator::Collator;
+use line_commands::field_disorders::first_field_disorder;
+use line_commands::field_sorts::{
     FieldSorts, field_ends, keys_of_words, print_sorted_by_fields, text_sorted_by_fields,
 };
-use icu_collator::Collator;
-use keyed_lines::SortRequest;
 use line_commands::{disorder_text, first_disorder, print_sorted, sorted_text};
+use line_sorts::SortRequest;
 use program_files::{DONE, ProgramError, RunProgress, read_inputs, replace_file, write_text};
+use program_words::{files_of, sort_request_of};
 use std::io::{Read, Write};
 use std::rt::{Clock, Env, Files};
 

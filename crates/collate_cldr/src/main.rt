@@ -2,6 +2,7 @@
 #![tactic(auto)]
 
 mod asked_collator;
+mod counted_neighbours;
 mod csv_command;
 mod line_orders;
 mod program;

@@ -3,27 +3,27 @@
 ghost use Rattle.std.specs.Prelude.{◌≤◌, IfOk};
 
 use crate::asked_collator::{collator_by_words, collator_request};
+use crate::counted_neighbours::print_neighbours;
 use crate::csv_command::{check_csv, sort_csv};
 use crate::line_orders::{check_lines, sort_lines};
 use crate::reports::{DIFFERS, WORDING, report_unless_closed};
 use crate::search_command::search;
 use clap::ArgMatches;
+use cldr_collators::compiled_tables::{cldr_version, compiled_tables, said_version};
 use cldr_collators::{cldr_folder, locale_lines, read_file, root_file};
-use collate_words::{
-    CheckWanted, answer_words, check_of, files_of, program, separator_of, text_of,
-};
-use compiled_tables::{cldr_version, compiled_tables, said_version};
-use counted_neighbours::print_neighbours;
-use csv_sorts::{CsvWords, wrong_csv_words};
-use field_sorts::wrong_field_word;
+use line_commands::csv_sorts::{CsvWords, wrong_csv_words};
+use line_commands::field_sorts::wrong_field_word;
 use line_commands::{print_comparison, print_key, print_keys};
-use order_reasons::{print_explanation, print_reason};
 use program_files::{
     DONE, ProgramError, RunProgress, WRONG_WORDS, WatchedOutput, read_inputs, replace_file,
     report_failure, write_text,
 };
+use program_words::{
+    CheckWanted, answer_words, check_of, files_of, program, separator_of, text_of,
+};
 use std::io::{Read, Write};
 use std::rt::{Clock, Env, Files};
+use text_reasons::order_reasons::{print_explanation, print_reason};
 
 /// The version of the program.
 const VERSION: &str = "0.1";

@@ -5,15 +5,15 @@ ghost use Rattle.std.specs.Prelude.{◌≤◌, IfOk};
 use crate::asked_collator::collator_by_words;
 use crate::reports::WORDING;
 use clap::ArgMatches;
-use collate_words::{patterns_of, searched_files, separator_of};
 use icu_collator::Collator;
-use icu_text_search::{Boundary, Searcher};
+use icu_search::{Boundary, Searcher};
 use line_commands::print_text;
 use line_searches::{
     SearchRequest, Shown, Wanted, count_wanted, name_and, prefix_of, print_count, print_wanted,
     shown_name,
 };
 use program_files::{ProgramError, RunProgress, read_input, report_failure};
+use program_words::{patterns_of, searched_files, separator_of};
 use std::alloc::{AllocError, Global};
 use std::io::{Read, Write};
 use std::rt::{Clock, Env, Files};

@@ -1,4 +1,4 @@
-pub use Rattle.keyed_lines.specs.InputLines
+pub use Rattle.line_sorts.specs.InputLines
 pub mod Commands
 pub mod KeyText
 pub mod InputRead

@@ -1,13 +1,13 @@
 //! The answer to a command, by a collator.
 ghost use Rattle.std.specs.Prelude.{◌≡◌, ℕ, List, IfOk, IfErr, ◌++◌, ◌∷◌, [], chars, map};
-ghost use Rattle.icu_well_formed.specs.WellFormedTables.{IsWellFormedTables};
+ghost use Rattle.icu_table_provider.specs.well_formed.WellFormedTables.{IsWellFormedTables};
 ghost use Rattle.icu_collator.specs.Collators.{collation_kept, tables_kept};
 ghost use Rattle.icu_index.specs.Listings.{listing_of, name_order};
 ghost use Rattle.icu_index.specs.NameIndexes.{index_collation, listing};
-ghost use Rattle.icu_text_order.specs.TextOrder.{text_key};
+ghost use Rattle.icu_order_texts.specs.TextOrder.{text_key};
 ghost use Rattle.collate_commands.specs.Answers.{IsAnswerBy, SortsLines, sign_of};
 ghost use Rattle.collate_commands.specs.inner.Asked.{asked};
-ghost use Rattle.keyed_lines.specs.InputLines.{lines_text};
+ghost use Rattle.line_sorts.specs.InputLines.{lines_text};
 ghost use Rattle.collate_commands.specs.InputRead.{ReadsFor};
 ghost use Rattle.program_files.specs.Inputs.{TakesWhole};
 ghost use Rattle.collate_commands.specs.CollatorErrors.{IsUnanswered};
@@ -19,7 +19,7 @@ use crate::key_line::key_line;
 use icu_collator::Collator;
 use icu_index::NameIndex;
 use icu_index::laws::inserts_sort;
-use keyed_lines::lines_by;
+use line_sorts::lines_by;
 use program_files::{ProgramError, read_whole};
 use std::alloc::{AllocError, Global};
 use std::cmp::Ordering;

@@ -1,9 +1,9 @@
 //! Where the collators of a program come from.
 ghost use Rattle.std.specs.Prelude.{IfOk, IfErr, ℕ, List};
-ghost use Rattle.icu_well_formed.specs.WellFormedTables.{IsWellFormedTables};
+ghost use Rattle.icu_table_provider.specs.well_formed.WellFormedTables.{IsWellFormedTables};
 ghost use Rattle.icu_collator.specs.Collators.{collation_kept, tables_kept};
 ghost use Rattle.icu_options.specs.declared.settings.Strength.{Strength};
-ghost use Rattle.icu_text_order.specs.Collations.{Collation};
+ghost use Rattle.icu_order_texts.specs.Collations.{Collation};
 ghost use Rattle.program_files.specs.ProgramErrors.{IsCollatorError};
 
 use icu_collator::Collator;

@@ -1,13 +1,13 @@
 //! The commands, over an index that is open.
 
 ghost use Rattle.std.specs.Prelude.{◌≡◌};
-ghost use Rattle.icu_headings.specs.Headed.{headings_collation};
-ghost use Rattle.icu_store.specs.Stores.{printed_collation, store_collation};
+ghost use Rattle.icu_index.specs.headings.Headed.{headings_collation};
+ghost use Rattle.icu_index_store.specs.Stores.{printed_collation, store_collation};
 
 use crate::name_lines::add_lines;
-use icu_headings::{Heading, HeadingStart, Headings};
-use icu_store::{PrintedCollator, StoredIndex};
-use icu_stored_lines::push_rows;
+use icu_index::headings::{Heading, HeadingStart, Headings};
+use icu_index_store::stored_lines::push_rows;
+use icu_index_store::{PrintedCollator, StoredIndex};
 use sqlite::{Alter, Connection, Error, ErrorCode};
 use std::alloc::{AllocError, Global};
 

@@ -3,8 +3,8 @@
 use crate::named_collator::named_locale;
 use crate::refusals::refused;
 use clap::ArgMatches;
-use icu_index_labels::{LabelsError, read_index_labels};
-use icu_ldml::parent_of;
+use icu_cldr_files::index_labels::{LabelsError, read_index_labels};
+use icu_cldr_files::parent_of;
 use program_files::{ProgramError, joined};
 use std::alloc::{AllocError, Global};
 use std::fs;

@@ -1,7 +1,7 @@
 //! The words of the program.
 
 use clap::{Arg, Command};
-use collate_words::{HANDLINGS, OptionRow, STRENGTHS, Takes, option_of, with_options};
+use program_words::{HANDLINGS, OptionRow, STRENGTHS, Takes, option_of, with_options};
 use std::alloc::{AllocError, Global};
 
 const ABOUT: &str =

@@ -1,6 +1,6 @@
 //! Names as lines: each is a name, or a name, a tab and a payload.
 
-use icu_store::StoredIndex;
+use icu_index_store::StoredIndex;
 use program_files::ProgramError;
 use sqlite::{Alter, Error, Transaction};
 use std::alloc::Global;

@@ -4,7 +4,7 @@ use clap::ArgMatches;
 use cldr_collators::asked_locale::asked_by;
 use cldr_collators::made_collator::{CollatorRequest, PlacedLocale, made_collator};
 use cldr_collators::{Chosen, SettingWords, cldr_folder, root_file, strength_by_word};
-use icu_store::PrintedCollator;
+use icu_index_store::PrintedCollator;
 use program_files::{ProgramError, joined};
 use std::alloc::{AllocError, Global};
 use std::rt::{Env, Files};

@@ -2,8 +2,8 @@
 
 use crate::index_words::index_words;
 use crate::outcome::run_command;
-use collate_words::answer_words;
 use program_files::{ProgramError, WRONG_WORDS, Wording, report_failure, write_text};
+use program_words::answer_words;
 use std::io::{Read, Write};
 
 /// What the program says of its errors.

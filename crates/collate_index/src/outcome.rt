@@ -1,7 +1,7 @@
 //! What a command does to a database, and what it prints.
 
 ghost use Rattle.std.specs.Prelude.{◌≡◌, IfOk};
-ghost use Rattle.icu_store.specs.Stores.{printed_collation, store_collation};
+ghost use Rattle.icu_index_store.specs.Stores.{printed_collation, store_collation};
 
 use crate::commands::{add, found, headed, listed, listed_between};
 use crate::headings_labels::labels_asked;
@@ -9,9 +9,9 @@ use crate::name_lines::read_all;
 use crate::named_collator::named_collator;
 use crate::refusals::{refused, refused_by, unopened};
 use clap::ArgMatches;
-use collate_words::text_of;
-use icu_store::{PrintedCollator, StoredIndex, open, rebuild};
+use icu_index_store::{PrintedCollator, StoredIndex, open, rebuild};
 use program_files::{DONE, ProgramError, write_text};
+use program_words::text_of;
 use sqlite::{Alter, Connection, Error, File, FileStore};
 use std::fs;
 use std::io::{Read, Write};

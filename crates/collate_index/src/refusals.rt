@@ -1,6 +1,6 @@
 //! What is said of a file where something is wrong with it.
 
-use icu_store::OpenError;
+use icu_index_store::OpenError;
 use program_files::ProgramError;
 use sqlite::{Error, ErrorCode};
 use std::alloc::Global;

@@ -2,27 +2,27 @@
 use Rattle.std.proofs.Common.{◌≡◌, ℕ, List, [], ◌∷◌, map, Option, Some, None, IfSome, Ordering, Less, Equal, Greater, option_map, refl, sym, ap, ap₂, subst, ◌∙◌}
 use Rattle.std.specs.Ordering.{ordering_then}
 use Rattle.unicode_normalization.specs.Forms.{nfd}
-use Rattle.icu_entries.specs.Elements.{Element}
-use Rattle.icu_levels.specs.ListOrder.{list_order}
-use Rattle.icu_levels.specs.Keys.{characters_order}
-use Rattle.icu_levels.specs.declared.forms.TertiaryForm.{TertiaryForm}
-use Rattle.icu_levels.proofs.Order.{same_front}
-use Rattle.icu_levels.proofs.Orderings.{then_equal}
-use Rattle.icu_elements.specs.TextElements.{elements_of, elements_after}
-use Rattle.icu_cursor.specs.declared.facts_cursor.FactsCursor.{FactsCursor}
-use Rattle.icu_cursor.specs.FactsCursors.{facts_give, GivesNextOrEnds}
-use Rattle.icu_weighting.specs.Collations.{Collation}
-use Rattle.icu_weighting.specs.Forms.{form_by, last_variable_by}
-use Rattle.icu_weighting.specs.Handled.{HandledElement, stayed}
-use Rattle.icu_weighting.specs.HandledSources.{handled_as}
-use Rattle.icu_weighting.specs.declared.handled_element.Handled.{Handled}
-use Rattle.icu_weighting.specs.declared.handled_element.Handled.TheVariants.{Stayed}
-use Rattle.icu_text_order.specs.TextOrder.{handled_by, lists_by, reading_by, text_order}
+use Rattle.icu_table_entries.specs.Elements.{Element}
+use Rattle.icu_order_levels.specs.ListOrder.{list_order}
+use Rattle.icu_order_levels.specs.Keys.{characters_order}
+use Rattle.icu_order_levels.specs.declared.forms.TertiaryForm.{TertiaryForm}
+use Rattle.icu_order_levels.proofs.Order.{same_front}
+use Rattle.icu_order_levels.proofs.Orderings.{then_equal}
+use Rattle.icu_element_reading.specs.TextElements.{elements_of, elements_after}
+use Rattle.icu_element_cursor.specs.declared.facts_cursor.FactsCursor.{FactsCursor}
+use Rattle.icu_element_cursor.specs.FactsCursors.{facts_give, GivesNextOrEnds}
+use Rattle.icu_order_texts.specs.weighting.Collations.{Collation}
+use Rattle.icu_order_texts.specs.weighting.Forms.{form_by, last_variable_by}
+use Rattle.icu_order_texts.specs.weighting.Handled.{HandledElement, stayed}
+use Rattle.icu_order_texts.specs.weighting.HandledSources.{handled_as}
+use Rattle.icu_order_texts.specs.declared.weighting.handled_element.Handled.{Handled}
+use Rattle.icu_order_texts.specs.declared.weighting.handled_element.Handled.TheVariants.{Stayed}
+use Rattle.icu_order_texts.specs.TextOrder.{handled_by, lists_by, reading_by, text_order}
 use Rattle.icu_collator.specs.declared.forward_levels.Level.{Level}
 use Rattle.icu_collator.specs.declared.forward_levels.Level.TheVariants.{Primary, Tertiary}
-use Rattle.icu_provider.specs.CollatorTables.{reorder_by}
-use Rattle.icu_provider.specs.StoredTables.{reordering_of}
-use Rattle.icu_provider.specs.declared.reordering.CollationReordering.{CollationReordering}
+use Rattle.icu_table_provider.specs.CollatorTables.{reorder_by}
+use Rattle.icu_table_provider.specs.StoredTables.{reordering_of}
+use Rattle.icu_table_provider.specs.declared.reordering.CollationReordering.{CollationReordering}
 use Rattle.icu_collator.specs.inner.ElementOrders.{ReadsElementsAlone, elements_order, leading_order}
 use Rattle.icu_collator.specs.inner.FactsInStep.{StepsOn, WeighsOn, plain_left, weights_from}
 use Rattle.icu_collator.specs.inner.InStep.{from_first, order_on, three_order, three_levels, ThreeLevels, IsThreeLevel, StepBoth, StepsBy, DecidesOn}

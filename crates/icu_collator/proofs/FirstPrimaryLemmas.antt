@@ -7,25 +7,25 @@ use Rattle.std.proofs.lemmas.Bool.Decides.{nat_tests}
 use Rattle.unicode_normalization.specs.Forms.{nfd}
 use Rattle.icu_options.specs.declared.settings.AlternateHandling.{AlternateHandling}
 use Rattle.icu_options.specs.declared.settings.AlternateHandling.TheVariants.{NonIgnorable, Shifted, Blanked}
-use Rattle.icu_entries.specs.ElementConditions.{separator_primary}
-use Rattle.icu_levels.specs.CommonBeginnings.{ReadsForward}
-use Rattle.icu_levels.specs.ListOrder.{list_order}
-use Rattle.icu_levels.proofs.Order.{less_number, more_number, same_front}
-use Rattle.icu_entries.specs.Elements.{Element}
-use Rattle.icu_provider.specs.CollatorTables.{reorder}
-use Rattle.icu_elements.specs.TextElements.{Reading, elements_of, elements_after, elements_along}
-use Rattle.icu_boundaries.proofs.NfdLemmas.{nfd-nil}
-use Rattle.icu_boundaries.specs.ReadingLaws.{FirstStartersLead}
-use Rattle.icu_facts.specs.KeptFacts.{HasLeadingPrimary}
-use Rattle.icu_cursor.specs.declared.facts_cursor.FactsCursor.{FactsCursor}
-use Rattle.icu_cursor.specs.FactsCursors.{GoesOn, facts_give}
-use Rattle.icu_facts.specs.BoundaryTables.{HasBoundaryBefore}
-use Rattle.icu_weighting.specs.Collations.{Collation}
-use Rattle.icu_weighting.specs.Forms.{form_by, last_variable_by}
-use Rattle.icu_weighting.specs.Handled.{HandledElement, stayed, handled, handled_variable, is_variable, stayed_elements}
-use Rattle.icu_weighting.specs.Levels.{weights, primaries}
-use Rattle.icu_text_order.specs.TextCuts.{begins_with_primary, IsRest, CommonBeginningsDoNotCount}
-use Rattle.icu_text_order.specs.TextOrder.{reading_by, lists_by, text_order}
+use Rattle.icu_table_entries.specs.ElementConditions.{separator_primary}
+use Rattle.icu_order_levels.specs.CommonBeginnings.{ReadsForward}
+use Rattle.icu_order_levels.specs.ListOrder.{list_order}
+use Rattle.icu_order_levels.proofs.Order.{less_number, more_number, same_front}
+use Rattle.icu_table_entries.specs.Elements.{Element}
+use Rattle.icu_table_provider.specs.CollatorTables.{reorder}
+use Rattle.icu_element_reading.specs.TextElements.{Reading, elements_of, elements_after, elements_along}
+use Rattle.icu_element_reading.proofs.boundaries.NfdLemmas.{nfd-nil}
+use Rattle.icu_element_reading.specs.boundaries.ReadingLaws.{FirstStartersLead}
+use Rattle.icu_element_facts.specs.KeptFacts.{HasLeadingPrimary}
+use Rattle.icu_element_cursor.specs.declared.facts_cursor.FactsCursor.{FactsCursor}
+use Rattle.icu_element_cursor.specs.FactsCursors.{GoesOn, facts_give}
+use Rattle.icu_element_facts.specs.BoundaryTables.{HasBoundaryBefore}
+use Rattle.icu_order_texts.specs.weighting.Collations.{Collation}
+use Rattle.icu_order_texts.specs.weighting.Forms.{form_by, last_variable_by}
+use Rattle.icu_order_texts.specs.weighting.Handled.{HandledElement, stayed, handled, handled_variable, is_variable, stayed_elements}
+use Rattle.icu_order_texts.specs.weighting.Levels.{weights, primaries}
+use Rattle.icu_order_texts.specs.TextCuts.{begins_with_primary, IsRest, CommonBeginningsDoNotCount}
+use Rattle.icu_order_texts.specs.TextOrder.{reading_by, lists_by, text_order}
 use Rattle.icu_collator.specs.inner.FirstPrimaries.{IsFirst, LeadsWith, Decides, GivesPrimaries, GivesPrimary, ReadsOn, primaries_given, primaries_of, unequal_order}
 
 -- ---- the first element

@@ -3,20 +3,20 @@ use Rattle.std.proofs.Common.{◌≡◌, ◌≢◌, ◌<◌, ◌≤◌, arith, l
 use Rattle.std.specs.Prelude.{option_to_list}
 use Rattle.std.specs.Ordering.{nat_cmp, ordering_then}
 use Rattle.std.proofs.lemmas.Bool.{cases_order as number_cases}
-use Rattle.icu_levels.specs.ListOrder.{list_order}
-use Rattle.icu_levels.proofs.Order.{less_number, more_number, same_front, same_lists_order}
-use Rattle.icu_levels.proofs.Orderings.{then_assoc, then_equal}
-use Rattle.icu_weighting.specs.Collations.{Collation}
-use Rattle.icu_weighting.specs.Handled.{HandledElement}
-use Rattle.icu_weighting.specs.declared.handled_element.Handled.{Handled}
-use Rattle.icu_weighting.specs.HandledSources.{handled_as, GivesNext}
-use Rattle.icu_levels.specs.Keys.{LevelLists, secondaries_order, cases_order, tertiaries_order, quaternaries_order}
-use Rattle.icu_levels.specs.declared.forms.KeyForm.{KeyForm}
-use Rattle.icu_levels.specs.declared.forms.TertiaryForm.{TertiaryForm}
-use Rattle.icu_provider.specs.StoredTables.{reordering_of}
-use Rattle.icu_provider.specs.declared.reordering.CollationReordering.{CollationReordering}
-use Rattle.icu_weighting.specs.Forms.{form_by}
-use Rattle.icu_text_order.specs.TextOrder.{handled_by, lists_by}
+use Rattle.icu_order_levels.specs.ListOrder.{list_order}
+use Rattle.icu_order_levels.proofs.Order.{less_number, more_number, same_front, same_lists_order}
+use Rattle.icu_order_levels.proofs.Orderings.{then_assoc, then_equal}
+use Rattle.icu_order_texts.specs.weighting.Collations.{Collation}
+use Rattle.icu_order_texts.specs.weighting.Handled.{HandledElement}
+use Rattle.icu_order_texts.specs.declared.weighting.handled_element.Handled.{Handled}
+use Rattle.icu_order_texts.specs.weighting.HandledSources.{handled_as, GivesNext}
+use Rattle.icu_order_levels.specs.Keys.{LevelLists, secondaries_order, cases_order, tertiaries_order, quaternaries_order}
+use Rattle.icu_order_levels.specs.declared.forms.KeyForm.{KeyForm}
+use Rattle.icu_order_levels.specs.declared.forms.TertiaryForm.{TertiaryForm}
+use Rattle.icu_table_provider.specs.StoredTables.{reordering_of}
+use Rattle.icu_table_provider.specs.declared.reordering.CollationReordering.{CollationReordering}
+use Rattle.icu_order_texts.specs.weighting.Forms.{form_by}
+use Rattle.icu_order_texts.specs.TextOrder.{handled_by, lists_by}
 use Rattle.icu_collator.proofs.TieLemmas.{same_elements}
 use Rattle.icu_collator.proofs.LevelLemmas.{primaries_read, secondaries_read, tertiaries_read}
 use Rattle.icu_collator.specs.declared.forward_levels.Level.TheVariants.{Primary, Secondary, Tertiary}

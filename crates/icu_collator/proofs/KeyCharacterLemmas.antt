@@ -7,8 +7,8 @@ use Rattle.ucd_normal.specs.CanonicalCombiningClass.{canonical_combining_class a
 use Rattle.unicode_normalization.specs.Decompose.{decompose}
 use Rattle.unicode_normalization.specs.Forms.{nfd}
 use Rattle.unicode_normalization.specs.Order.{is_starter, is_reorderable}
-use Rattle.icu_boundaries.specs.Alone.{stays_first, all_stay}
-use Rattle.icu_boundaries.proofs.NfdLemmas.{nfd-nil, nfd-starters, stays_first-starter}
+use Rattle.icu_element_reading.specs.boundaries.Alone.{stays_first, all_stay}
+use Rattle.icu_element_reading.proofs.boundaries.NfdLemmas.{nfd-nil, nfd-starters, stays_first-starter}
 use Rattle.icu_collator.specs.inner.KeyCharacters.{EndsMarks}
 
 or_true : (b : Bool) → ((b || true) && true) ≡ true

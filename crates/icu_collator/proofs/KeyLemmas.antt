@@ -5,21 +5,21 @@ use Rattle.std.specs.List.{AllByRecursion}
 use Rattle.std.proofs.lemmas.Bool.{and_parts}
 use Rattle.std.proofs.Math.Utf8.{scalar, scalars}
 use Rattle.unicode_normalization.specs.Forms.{nfd}
-use Rattle.icu_provider.specs.CollatorTables.{reorder}
-use Rattle.icu_levels.specs.Identical.{identical_level}
-use Rattle.icu_levels.specs.Keys.{LevelLists, LevelPart, opened, key_bytes, secondary_part, case_part, tertiary_part, quaternary_part, identical_part, parts_bytes}
-use Rattle.icu_levels.specs.Primaries.{Compression, primary_level}
-use Rattle.icu_levels.specs.declared.forms.CaseForm.{CaseForm}
-use Rattle.icu_levels.specs.declared.forms.KeyForm.{KeyForm}
-use Rattle.icu_levels.specs.declared.forms.QuaternaryForm.{QuaternaryForm}
-use Rattle.icu_levels.specs.declared.forms.SecondaryForm.{SecondaryForm}
-use Rattle.icu_levels.specs.declared.forms.SecondaryForm.TheVariants.{Forward, Backward}
-use Rattle.icu_levels.specs.declared.forms.TertiaryForm.{TertiaryForm}
-use Rattle.icu_weighting.specs.Collations.{Collation}
-use Rattle.icu_weighting.specs.Handled.{HandledElement}
-use Rattle.icu_weighting.specs.Levels.{level_lists}
-use Rattle.icu_text_order.specs.TextOrder.{handled_by, lists_by, text_key}
-use Rattle.icu_weighting.specs.Forms.{compression_of, form_by}
+use Rattle.icu_table_provider.specs.CollatorTables.{reorder}
+use Rattle.icu_order_levels.specs.Identical.{identical_level}
+use Rattle.icu_order_levels.specs.Keys.{LevelLists, LevelPart, opened, key_bytes, secondary_part, case_part, tertiary_part, quaternary_part, identical_part, parts_bytes}
+use Rattle.icu_order_levels.specs.Primaries.{Compression, primary_level}
+use Rattle.icu_order_levels.specs.declared.forms.CaseForm.{CaseForm}
+use Rattle.icu_order_levels.specs.declared.forms.KeyForm.{KeyForm}
+use Rattle.icu_order_levels.specs.declared.forms.QuaternaryForm.{QuaternaryForm}
+use Rattle.icu_order_levels.specs.declared.forms.SecondaryForm.{SecondaryForm}
+use Rattle.icu_order_levels.specs.declared.forms.SecondaryForm.TheVariants.{Forward, Backward}
+use Rattle.icu_order_levels.specs.declared.forms.TertiaryForm.{TertiaryForm}
+use Rattle.icu_order_texts.specs.weighting.Collations.{Collation}
+use Rattle.icu_order_texts.specs.weighting.Handled.{HandledElement}
+use Rattle.icu_order_texts.specs.weighting.Levels.{level_lists}
+use Rattle.icu_order_texts.specs.TextOrder.{handled_by, lists_by, text_key}
+use Rattle.icu_order_texts.specs.weighting.Forms.{compression_of, form_by}
 
 -- ---- characters that don't count
 

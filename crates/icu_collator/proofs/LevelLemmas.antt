@@ -1,23 +1,23 @@
 -- The weights that code reads level by level are the lists of the definitions.
 use Rattle.std.proofs.Common.{ℕ, ◌≡◌, ◌==◌, Bool, true, false, List, [], ◌∷◌, ◌++◌, Option, Some, None, option_map, if◌then◌else◌, map, refl, ap, ◌∙◌}
 use Rattle.std.specs.Prelude.{option_to_list}
-use Rattle.icu_levels.specs.ListOrder.{list_order}
-use Rattle.icu_levels.specs.Keys.{primaries_order, secondaries_order, cases_order, tertiaries_order, quaternaries_order}
-use Rattle.icu_levels.specs.declared.forms.CaseForm.{CaseForm}
-use Rattle.icu_levels.specs.declared.forms.QuaternaryForm.{QuaternaryForm}
-use Rattle.icu_levels.specs.declared.forms.SecondaryForm.TheVariants.{Forward}
-use Rattle.icu_levels.specs.declared.forms.SecondaryForm.{SecondaryForm}
-use Rattle.icu_levels.specs.declared.forms.TertiaryForm.{TertiaryForm}
-use Rattle.icu_entries.specs.Elements.{Element}
-use Rattle.icu_entries.specs.ElementConditions.{tertiary_of}
-use Rattle.icu_provider.specs.CollatorTables.{reorder_by}
-use Rattle.icu_provider.specs.StoredTables.{reordering_of}
-use Rattle.icu_provider.specs.declared.reordering.CollationReordering.{CollationReordering}
-use Rattle.icu_weighting.specs.Collations.{Collation}
-use Rattle.icu_weighting.specs.Handled.{HandledElement, stayed, shifted_primary, stayed_elements}
-use Rattle.icu_weighting.specs.Levels.{weights, primary_of, primaries, secondary_of, secondaries, case_reads, case_rank, masked_tertiary, tertiary_in, tertiaries, quaternary_weight, quaternaries}
-use Rattle.icu_weighting.specs.Forms.{compression_of, form_by}
-use Rattle.icu_text_order.specs.TextOrder.{handled_by, lists_by}
+use Rattle.icu_order_levels.specs.ListOrder.{list_order}
+use Rattle.icu_order_levels.specs.Keys.{primaries_order, secondaries_order, cases_order, tertiaries_order, quaternaries_order}
+use Rattle.icu_order_levels.specs.declared.forms.CaseForm.{CaseForm}
+use Rattle.icu_order_levels.specs.declared.forms.QuaternaryForm.{QuaternaryForm}
+use Rattle.icu_order_levels.specs.declared.forms.SecondaryForm.TheVariants.{Forward}
+use Rattle.icu_order_levels.specs.declared.forms.SecondaryForm.{SecondaryForm}
+use Rattle.icu_order_levels.specs.declared.forms.TertiaryForm.{TertiaryForm}
+use Rattle.icu_table_entries.specs.Elements.{Element}
+use Rattle.icu_table_entries.specs.ElementConditions.{tertiary_of}
+use Rattle.icu_table_provider.specs.CollatorTables.{reorder_by}
+use Rattle.icu_table_provider.specs.StoredTables.{reordering_of}
+use Rattle.icu_table_provider.specs.declared.reordering.CollationReordering.{CollationReordering}
+use Rattle.icu_order_texts.specs.weighting.Collations.{Collation}
+use Rattle.icu_order_texts.specs.weighting.Handled.{HandledElement, stayed, shifted_primary, stayed_elements}
+use Rattle.icu_order_texts.specs.weighting.Levels.{weights, primary_of, primaries, secondary_of, secondaries, case_reads, case_rank, masked_tertiary, tertiary_in, tertiaries, quaternary_weight, quaternaries}
+use Rattle.icu_order_texts.specs.weighting.Forms.{compression_of, form_by}
+use Rattle.icu_order_texts.specs.TextOrder.{handled_by, lists_by}
 use Rattle.icu_collator.specs.declared.forward_levels.Level.{Level}
 use Rattle.icu_collator.specs.declared.forward_levels.Level.TheVariants.{Primary, Secondary, Case, Tertiary, Quaternary}
 use Rattle.icu_collator.specs.inner.LevelWeights.{read_as, weight_in, level_weights}

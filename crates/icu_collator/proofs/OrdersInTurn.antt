@@ -3,20 +3,20 @@ use Rattle.std.proofs.Common.{arith, ◌≡◌, ℕ, Bool, true, false, not, ◌
 use Rattle.std.specs.Ordering.{ordering_then, ordering_index}
 use Rattle.std.proofs.lemmas.Bool.Decides.{nat_tests}
 use Rattle.unicode_normalization.specs.Forms.{nfd}
-use Rattle.icu_levels.specs.Keys.{LevelLists, primaries_order, secondaries_order, cases_order, tertiaries_order, quaternaries_order, characters_order}
-use Rattle.icu_levels.specs.declared.forms.KeyForm.{KeyForm}
-use Rattle.icu_entries.specs.Elements.{Element}
+use Rattle.icu_order_levels.specs.Keys.{LevelLists, primaries_order, secondaries_order, cases_order, tertiaries_order, quaternaries_order, characters_order}
+use Rattle.icu_order_levels.specs.declared.forms.KeyForm.{KeyForm}
+use Rattle.icu_table_entries.specs.Elements.{Element}
 use Rattle.icu_options.specs.declared.settings.AlternateHandling.{AlternateHandling}
-use Rattle.icu_weighting.specs.Collations.{Collation}
-use Rattle.icu_weighting.specs.Handled.{handled, stayed, is_variable}
-use Rattle.icu_weighting.specs.Forms.{compression_of, form_by}
-use Rattle.icu_text_order.specs.TextOrder.{lists_by, text_order}
-use Rattle.icu_weighting.specs.VariableWeightings.{handled_after}
-use Rattle.icu_weighting.specs.declared.weighting.VariableWeighting.{VariableWeighting}
+use Rattle.icu_order_texts.specs.weighting.Collations.{Collation}
+use Rattle.icu_order_texts.specs.weighting.Handled.{handled, stayed, is_variable}
+use Rattle.icu_order_texts.specs.weighting.Forms.{compression_of, form_by}
+use Rattle.icu_order_texts.specs.TextOrder.{lists_by, text_order}
+use Rattle.icu_order_texts.specs.weighting.VariableWeightings.{handled_after}
+use Rattle.icu_order_texts.specs.declared.weighting.weighting.VariableWeighting.{VariableWeighting}
 use Rattle.icu_collator.specs.inner.ElementOrders.{before_characters, elements_order}
 use Rattle.std.specs.declared.cmp.Ordering.{Ordering}
 use Rattle.std.specs.declared.cmp.Ordering.TheVariants.{Less, Equal, Greater}
-use Rattle.icu_levels.proofs.Orderings.{then_assoc, then_equal}
+use Rattle.icu_order_levels.proofs.Orderings.{then_assoc, then_equal}
 
 decides : (p rest : Ordering) → not (ordering_index p == 1) ≡ true → p ≡ ordering_then p rest
 decides Less rest h = refl

@@ -1,12 +1,12 @@
 -- By the same tables, and with digits read as before, texts are read alike: what is kept of characters stays true.
 use Rattle.std.proofs.Common.{◌≡◌, Bool, true, false, Some, None, if◌then◌else◌, refl, sym, ◌∙◌, subst, rules}
 use mathlib.Core.Bool.{not, beq}
-use Rattle.icu_provider.specs.CollatorTables.{CollatorTables}
-use Rattle.icu_provider.specs.Metadata.{is_lithuanian}
-use Rattle.icu_elements.specs.ReachableTexts.{collator_reading}
-use Rattle.icu_elements.specs.TextElements.{Reading}
-use Rattle.icu_facts.specs.FactsTables.{AreFacts}
-use Rattle.icu_facts.specs.declared.facts_table.KeptFacts.{KeptFacts}
+use Rattle.icu_table_provider.specs.CollatorTables.{CollatorTables}
+use Rattle.icu_table_provider.specs.Metadata.{is_lithuanian}
+use Rattle.icu_element_reading.specs.ReachableTexts.{collator_reading}
+use Rattle.icu_element_reading.specs.TextElements.{Reading}
+use Rattle.icu_element_facts.specs.FactsTables.{AreFacts}
+use Rattle.icu_element_facts.specs.declared.facts_table.KeptFacts.{KeptFacts}
 
 -- two settings that were compared, and do not differ
 same : (a b : Bool) → not (beq a b) ≡ false → a ≡ b

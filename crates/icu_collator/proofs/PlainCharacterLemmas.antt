@@ -16,7 +16,7 @@ use Rattle.unicode_normalization.specs.Order.{is_starter}
 use Rattle.unicode_normalization.proofs.DecomposeLemmas.{decompose-final}
 use Rattle.unicode_normalization.proofs.FormsLemmas.{is_final-Nfd, is_yes-true}
 use Rattle.unicode_normalization.proofs.TableFacts.{is_yes}
-use Rattle.icu_entries.specs.Entries.{has_bit}
+use Rattle.icu_table_entries.specs.Entries.{has_bit}
 use Rattle.icu_collator.specs.declared.plain_characters.TheConstants.{PLAIN}
 
 -- the bit of a character

@@ -5,8 +5,8 @@ use Rattle.std.proofs.lemmas.Grind.{reverse_onto}
 use Rattle.std.proofs.lemmas.List.{length-reverse, reverse-append, length-take-le, length-drop, take-append-drop, drop-drop}
 use Rattle.std.specs.Ordering.{ordering_then, nat_cmp}
 use Rattle.std.specs.declared.cmp.Ordering.{Ordering}
-use Rattle.icu_levels.specs.ListOrder.{list_order}
-use Rattle.icu_levels.proofs.Orderings.{then_assoc, then_equal}
+use Rattle.icu_order_levels.specs.ListOrder.{list_order}
+use Rattle.icu_order_levels.proofs.Orderings.{then_assoc, then_equal}
 
 -- where two lists are as long, what follows them decides after them
 beyond : (xs ys s t : List ℕ) → length xs ≡ length ys → list_order (xs ++ s) (ys ++ t) ≡ ordering_then (list_order xs ys) (list_order s t)

@@ -1,15 +1,15 @@
 -- Lists of equal elements tie on each level.
 use Rattle.std.proofs.Common.{◌≡◌, ℕ, List, map, Ordering, Equal, refl, ap, ◌∙◌}
 use Rattle.std.specs.Ordering.{ordering_then}
-use Rattle.icu_levels.specs.Keys.{LevelLists}
-use Rattle.icu_levels.specs.declared.forms.KeyForm.{KeyForm}
-use Rattle.icu_levels.proofs.Order.{same_lists_order}
-use Rattle.icu_levels.proofs.OwnOrder.{own_secondaries, own_cases, own_tertiaries, own_quaternaries}
-use Rattle.icu_provider.specs.CollatorTables.{reorder}
-use Rattle.icu_weighting.specs.Collations.{Collation}
-use Rattle.icu_weighting.specs.Levels.{level_lists}
-use Rattle.icu_weighting.specs.Forms.{form_by}
-use Rattle.icu_text_order.specs.TextOrder.{handled_by, lists_by}
+use Rattle.icu_order_levels.specs.Keys.{LevelLists}
+use Rattle.icu_order_levels.specs.declared.forms.KeyForm.{KeyForm}
+use Rattle.icu_order_levels.proofs.Order.{same_lists_order}
+use Rattle.icu_order_levels.proofs.OwnOrder.{own_secondaries, own_cases, own_tertiaries, own_quaternaries}
+use Rattle.icu_table_provider.specs.CollatorTables.{reorder}
+use Rattle.icu_order_texts.specs.weighting.Collations.{Collation}
+use Rattle.icu_order_texts.specs.weighting.Levels.{level_lists}
+use Rattle.icu_order_texts.specs.weighting.Forms.{form_by}
+use Rattle.icu_order_texts.specs.TextOrder.{handled_by, lists_by}
 use Rattle.icu_collator.specs.inner.ElementOrders.{before_characters, elements_order}
 
 five_tie : (a b c d e : Ordering) → a ≡ Equal → b ≡ Equal → c ≡ Equal → d ≡ Equal → e ≡ Equal

@@ -5,18 +5,18 @@ use Rattle.std.proofs.lemmas.Cmp.{on_total, then_total, lists_total, nat_list_cm
 use Rattle.std.specs.declared.cmp.Ordering.{Ordering}
 use Rattle.std.specs.declared.cmp.Ordering.TheVariants.{Equal}
 use Rattle.unicode_normalization.specs.Forms.{nfd}
-use Rattle.icu_levels.specs.Identical.{identical_rank}
-use Rattle.icu_levels.specs.Keys.{LevelLists, levels_order, secondaries_order, cases_order, tertiaries_order, quaternaries_order, characters_order}
-use Rattle.icu_levels.specs.Primaries.{Compression}
-use Rattle.icu_levels.specs.declared.forms.CaseForm.{CaseForm}
-use Rattle.icu_levels.specs.declared.forms.KeyForm.{KeyForm}
-use Rattle.icu_levels.specs.declared.forms.QuaternaryForm.{QuaternaryForm}
-use Rattle.icu_levels.specs.declared.forms.SecondaryForm.{SecondaryForm}
-use Rattle.icu_levels.specs.declared.forms.SecondaryForm.TheVariants.{Forward, Backward}
-use Rattle.icu_levels.specs.declared.forms.TertiaryForm.{TertiaryForm}
-use Rattle.icu_weighting.specs.Collations.{Collation}
-use Rattle.icu_weighting.specs.Forms.{compression_of, form_by}
-use Rattle.icu_text_order.specs.TextOrder.{lists_by, text_order}
+use Rattle.icu_order_levels.specs.Identical.{identical_rank}
+use Rattle.icu_order_levels.specs.Keys.{LevelLists, levels_order, secondaries_order, cases_order, tertiaries_order, quaternaries_order, characters_order}
+use Rattle.icu_order_levels.specs.Primaries.{Compression}
+use Rattle.icu_order_levels.specs.declared.forms.CaseForm.{CaseForm}
+use Rattle.icu_order_levels.specs.declared.forms.KeyForm.{KeyForm}
+use Rattle.icu_order_levels.specs.declared.forms.QuaternaryForm.{QuaternaryForm}
+use Rattle.icu_order_levels.specs.declared.forms.SecondaryForm.{SecondaryForm}
+use Rattle.icu_order_levels.specs.declared.forms.SecondaryForm.TheVariants.{Forward, Backward}
+use Rattle.icu_order_levels.specs.declared.forms.TertiaryForm.{TertiaryForm}
+use Rattle.icu_order_texts.specs.weighting.Collations.{Collation}
+use Rattle.icu_order_texts.specs.weighting.Forms.{compression_of, form_by}
+use Rattle.icu_order_texts.specs.TextOrder.{lists_by, text_order}
 
 -- a level that doesn't count
 abbrev always_equal : LevelLists → LevelLists → Ordering

@@ -3,14 +3,14 @@ use Rattle.std.specs.Prelude.{Result, option_map}
 use Rattle.icu_options.specs.Settings.{Settings}
 use Rattle.icu_options.specs.FlaggedSettings.{values_of}
 use Rattle.icu_options.specs.declared.options.CollatorPreferences.{CollatorPreferences}
-use Rattle.icu_entries.specs.declared.error.DataError.{DataError}
-use Rattle.icu_provider.specs.Loads.{Loads}
-use Rattle.icu_provider.specs.Requests.{Request}
-use Rattle.icu_well_formed.specs.Checked.{checked_tables}
-use Rattle.icu_provider.specs.CollatorTables.{CollatorTables}
-use Rattle.icu_provider.specs.LoadedTables.{loaded_tables}
-use Rattle.icu_weighting.specs.Collations.{Collation}
-use Rattle.icu_weighting.specs.CheckedCollations.{collation_of}
+use Rattle.icu_table_entries.specs.declared.error.DataError.{DataError}
+use Rattle.icu_table_provider.specs.Loads.{Loads}
+use Rattle.icu_table_provider.specs.Requests.{Request}
+use Rattle.icu_table_provider.specs.well_formed.Checked.{checked_tables}
+use Rattle.icu_table_provider.specs.CollatorTables.{CollatorTables}
+use Rattle.icu_table_provider.specs.LoadedTables.{loaded_tables}
+use Rattle.icu_order_texts.specs.weighting.Collations.{Collation}
+use Rattle.icu_order_texts.specs.weighting.CheckedCollations.{collation_of}
 use Rattle.icu_collator.specs.declared.collator.Collator.{Collator}
 use Rattle.icu_collator.specs.declared.collator.CollatorBorrowed.{CollatorBorrowed}
 

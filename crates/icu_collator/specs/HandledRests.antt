@@ -1,15 +1,15 @@
 -- What is left of elements that variable weighting handles one by one.
 use Rattle.std.specs.Prelude.{ℕ, List, map}
-use Rattle.icu_encodings.specs.declared.encoded_text.EncodedText.{Ghosts}
-use Rattle.icu_cursor.specs.declared.first_chars.FirstChars.{FirstChars}
-use Rattle.icu_cursor.specs.Cursors.{cursor_gives}
-use Rattle.icu_weighting.specs.Handled.{HandledElement, stayed}
+use Rattle.icu_text_encodings.specs.declared.encoded_text.EncodedText.{Ghosts}
+use Rattle.icu_element_cursor.specs.declared.first_chars.FirstChars.{FirstChars}
+use Rattle.icu_element_cursor.specs.Cursors.{cursor_gives}
+use Rattle.icu_order_texts.specs.weighting.Handled.{HandledElement, stayed}
 use Rattle.icu_collator.specs.declared.handled.HandledElements.{HandledElements}
 use Rattle.icu_collator.specs.declared.handled.HandledText.{HandledText}
 use Rattle.icu_collator.specs.declared.handled.PlainText.{PlainText}
 use Rattle.icu_collator.specs.declared.steady_text.SteadyText.{SteadyText}
-use Rattle.icu_cursor.specs.SteadyCursors.{steady_gives}
-use Rattle.icu_weighting.specs.VariableWeightings.{handled_after}
+use Rattle.icu_element_cursor.specs.SteadyCursors.{steady_gives}
+use Rattle.icu_order_texts.specs.weighting.VariableWeightings.{handled_after}
 
 -- the handled elements that are still to come
 abbrev pub handled_rest : HandledElements → List HandledElement

@@ -5,46 +5,46 @@ ghost use Rattle.icu_options.specs.Conversions.{resolved_of};
 ghost use Rattle.icu_options.specs.Merge.{merge};
 ghost use Rattle.icu_options.specs.FlaggedSettings.{values_of};
 ghost use Rattle.icu_options.specs.Metadata.{metadata_settings, is_backward};
-ghost use Rattle.icu_entries.specs.declared.error.DataErrorKind.TheVariants.{NoMemory};
-ghost use Rattle.icu_well_formed.specs.Checked.{checked_tables};
-ghost use Rattle.icu_well_formed.specs.WellFormedTables.{IsWellFormedTables, IsTrueError};
-ghost use Rattle.icu_provider.specs.OwnedTables.{owned_tables};
-ghost use Rattle.icu_cursor.specs.Cursors.{cursor_reading};
-ghost use Rattle.icu_elements.specs.Reading.{element_tables, reading_of};
-ghost use Rattle.icu_elements.specs.TextElements.{elements_of};
-ghost use Rattle.icu_provider.specs.SpecialPrimaries.{is_compressible};
-ghost use Rattle.icu_text_keys.specs.Compressions.{table_compression};
-ghost use Rattle.icu_text_order.specs.Forms.{compression_of, form_by, last_variable_by};
-ghost use Rattle.icu_text_order.specs.TextOrder.{reading_by, handled_elements, handled_by};
-ghost use Rattle.icu_weighting.specs.CheckedCollations.{collation_of};
-ghost use Rattle.icu_levels.specs.CommonBeginnings.{ReadsForward};
-ghost use Rattle.icu_facts.specs.Named.{NamesAll};
-ghost use Rattle.icu_facts.specs.KeptFacts.{AreFirstFacts};
-ghost use Rattle.icu_facts.specs.FactsTables.{AreFacts};
-ghost use Rattle.icu_facts.specs.BoundaryTables.{boundary_reading};
+ghost use Rattle.icu_table_entries.specs.declared.error.DataErrorKind.TheVariants.{NoMemory};
+ghost use Rattle.icu_table_provider.specs.well_formed.Checked.{checked_tables};
+ghost use Rattle.icu_table_provider.specs.well_formed.WellFormedTables.{IsWellFormedTables, IsTrueError};
+ghost use Rattle.icu_table_provider.specs.OwnedTables.{owned_tables};
+ghost use Rattle.icu_element_cursor.specs.Cursors.{cursor_reading};
+ghost use Rattle.icu_element_reading.specs.Reading.{element_tables, reading_of};
+ghost use Rattle.icu_element_reading.specs.TextElements.{elements_of};
+ghost use Rattle.icu_table_provider.specs.SpecialPrimaries.{is_compressible};
+ghost use Rattle.icu_key_texts.specs.Compressions.{table_compression};
+ghost use Rattle.icu_order_texts.specs.Forms.{compression_of, form_by, last_variable_by};
+ghost use Rattle.icu_order_texts.specs.TextOrder.{reading_by, handled_elements, handled_by};
+ghost use Rattle.icu_order_texts.specs.weighting.CheckedCollations.{collation_of};
+ghost use Rattle.icu_order_levels.specs.CommonBeginnings.{ReadsForward};
+ghost use Rattle.icu_element_facts.specs.Named.{NamesAll};
+ghost use Rattle.icu_element_facts.specs.KeptFacts.{AreFirstFacts};
+ghost use Rattle.icu_element_facts.specs.FactsTables.{AreFacts};
+ghost use Rattle.icu_element_facts.specs.BoundaryTables.{boundary_reading};
 ghost use Rattle.unicode_normalization.specs.Forms.{nfd};
 
 use crate::handled::{HandledText, PlainText};
 use crate::key_text::{HandledKeyText, PlainKeyText};
 use crate::steady_text::SteadyText;
-use icu_checks::{checked_owned, checked_set};
-use icu_cursor::{
+use icu_element_cursor::{
     Boundaries, CharFacts, CursorTables, ElementCursor, Kept, KeptFacts, NamedCharacters,
 };
-use icu_decomposed_text::CountedText;
-use icu_elements::{ElementTables, TextReading, all_elements};
-use icu_encodings::{Characters, EncodedText};
-use icu_entries::{CollationElement, DataError, DataErrorKind, DataTable};
-use icu_levels::forms::{KeyForm, SecondaryForm};
+use icu_element_reading::{ElementTables, TextReading, all_elements};
+use icu_key_texts::TableCompression;
+use icu_key_texts::compression::first_asked;
 use icu_options::{
     CollatorOptions, CollatorOptionsBitField, CollatorPreferences, ResolvedCollatorOptions,
     merged_options,
 };
-use icu_provider::{CollationProvider, OwnedTables, load_tables};
-use icu_text_keys::TableCompression;
-use icu_text_keys::compression::first_asked;
-use icu_weighting::{key_form, last_variable};
-use icu_well_formed::CheckedTables;
+use icu_order_levels::forms::{KeyForm, SecondaryForm};
+use icu_order_texts::weighting::{key_form, last_variable};
+use icu_table_check::{checked_owned, checked_set};
+use icu_table_entries::{CollationElement, DataError, DataErrorKind, DataTable};
+use icu_table_provider::well_formed::CheckedTables;
+use icu_table_provider::{CollationProvider, OwnedTables, load_tables};
+use icu_text_decomposition::CountedText;
+use icu_text_encodings::{Characters, EncodedText};
 use std::alloc::{AllocError, Global};
 
 /// Compares texts by a language's rules (UTS #10). Owns copies of its tables, which were checked

@@ -1,19 +1,19 @@
 //! The order of texts. No call fails, and none allocates.
 
 ghost use Rattle.std.specs.Prelude.{◌≡◌, chars};
-ghost use Rattle.icu_encodings.specs.DecodedTexts.{latin1_text, utf16_text, utf8_text};
-ghost use Rattle.icu_levels.specs.ListOrder.{list_order};
-ghost use Rattle.icu_levels.specs.Keys.{characters_order};
-ghost use Rattle.icu_text_order.specs.Forms.{form_by};
-ghost use Rattle.icu_text_order.specs.TextOrder.{lists_by, text_order, text_key};
+ghost use Rattle.icu_text_encodings.specs.DecodedTexts.{latin1_text, utf16_text, utf8_text};
+ghost use Rattle.icu_order_levels.specs.ListOrder.{list_order};
+ghost use Rattle.icu_order_levels.specs.Keys.{characters_order};
+ghost use Rattle.icu_order_texts.specs.Forms.{form_by};
+ghost use Rattle.icu_order_texts.specs.TextOrder.{lists_by, text_order, text_key};
 ghost use Rattle.unicode_normalization.specs.Forms.{nfd};
 
 use crate::collator::CollatorBorrowed;
 use crate::identical_level::compare_characters;
 use crate::texts::str_text;
-use icu_decomposed_text::CountedText;
-use icu_encodings::{CommonUnits, EncodedText, Latin1Text, Utf8Text, Utf16Text};
-use icu_text_order::laws::keys_keep_text_order;
+use icu_order_texts::laws::keys_keep_text_order;
+use icu_text_decomposition::CountedText;
+use icu_text_encodings::{CommonUnits, EncodedText, Latin1Text, Utf8Text, Utf16Text};
 use std::cmp::Ordering;
 
 impl<'a> CollatorBorrowed<'a> {
@@ -169,7 +169,7 @@ impl<'a> CollatorBorrowed<'a> {
 
     /// The order of two texts on the identical level, by their decomposed characters, where that counts. Nothing is
     /// allocated.
-    #[tactic(auto, unfolding(icu_text_order::specs::TextOrder::lists_by))]
+    #[tactic(auto, unfolding(icu_order_texts::specs::TextOrder::lists_by))]
     fn compare_identical_level<L: EncodedText, R: EncodedText>(&self, left: L, right: R) -> Ordering
         ensures { let collation = collation_borrowed self.now in
             result ≡ characters_order (form_by collation).identical

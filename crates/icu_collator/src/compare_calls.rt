@@ -1,9 +1,9 @@
 //! The order of texts by the names of icu_collator, as results that are always `Ok`.
 
 ghost use Rattle.std.specs.Prelude.{◌≡◌, IfOk, IsOk, Ok, chars};
-ghost use Rattle.icu_encodings.specs.DecodedTexts.{latin1_text, utf16_text, utf8_text};
-ghost use Rattle.icu_levels.specs.ListOrder.{list_order};
-ghost use Rattle.icu_text_order.specs.TextOrder.{text_order, text_key};
+ghost use Rattle.icu_text_encodings.specs.DecodedTexts.{latin1_text, utf16_text, utf8_text};
+ghost use Rattle.icu_order_levels.specs.ListOrder.{list_order};
+ghost use Rattle.icu_order_texts.specs.TextOrder.{text_order, text_key};
 
 use crate::collator::CollatorBorrowed;
 use std::alloc::AllocError;

@@ -2,10 +2,10 @@
 
 ghost use Rattle.std.specs.Prelude.{◌≡◌, ℕ, List, IfOk, IfSome, IsTrue, MatchOption};
 ghost use Rattle.std.specs.declared.cmp.Ordering.TheVariants.{Equal};
-ghost use Rattle.icu_levels.specs.ListOrder.{list_order, segments_order};
-ghost use Rattle.icu_levels.specs.Keys.{secondaries_order, cases_order, tertiaries_order, quaternaries_order};
-ghost use Rattle.icu_weighting.specs.Forms.{form_by};
-ghost use Rattle.icu_text_order.specs.TextOrder.{handled_by, lists_by};
+ghost use Rattle.icu_order_levels.specs.ListOrder.{list_order, segments_order};
+ghost use Rattle.icu_order_levels.specs.Keys.{secondaries_order, cases_order, tertiaries_order, quaternaries_order};
+ghost use Rattle.icu_order_texts.specs.weighting.Forms.{form_by};
+ghost use Rattle.icu_order_texts.specs.TextOrder.{handled_by, lists_by};
 ghost use Rattle.icu_collator.specs.inner.LevelWeights.{level_weights};
 ghost use Rattle.unicode_normalization.specs.Forms.{nfd};
 
@@ -13,9 +13,9 @@ use crate::collator::CollatorBorrowed;
 use crate::forward_levels::Level;
 use crate::handled::ComparedSource;
 use crate::in_step::{compare_from_difference, compare_in_step};
-use icu_cursor::LongPiece;
-use icu_decomposed_text::CountedText;
-use icu_levels::forms::{SecondaryForm, TertiaryForm};
+use icu_element_cursor::LongPiece;
+use icu_order_levels::forms::{SecondaryForm, TertiaryForm};
+use icu_text_decomposition::CountedText;
 use std::cmp::Ordering;
 
 impl<'a> CollatorBorrowed<'a> {

@@ -3,21 +3,21 @@
 
 ghost use Rattle.std.specs.Prelude.{◌≡◌, ℕ, List, Option, None, IfSome};
 ghost use Rattle.std.specs.declared.cmp.Ordering.TheVariants.{Equal};
-ghost use Rattle.icu_levels.specs.ListOrder.{list_order};
+ghost use Rattle.icu_order_levels.specs.ListOrder.{list_order};
 ghost use Rattle.icu_collator.specs.inner.InStep.{from_first, order_from, three_order, three_levels, StepBoth, StepsBy};
 ghost use Rattle.icu_collator.specs.inner.FactsInStep.{StepsOn, WeighsOn, plain_left, weights_from};
-ghost use Rattle.icu_provider.specs.declared.reordering.CollationReordering.{CollationReordering};
-ghost use Rattle.icu_weighting.specs.declared.handled_element.Handled.TheVariants.{Stayed};
+ghost use Rattle.icu_table_provider.specs.declared.reordering.CollationReordering.{CollationReordering};
+ghost use Rattle.icu_order_texts.specs.declared.weighting.handled_element.Handled.TheVariants.{Stayed};
 ghost use Rattle.icu_collator.specs.declared.forward_levels.Level.TheVariants.{Primary};
 
 use crate::forward_levels::Level;
 use crate::in_step::Pair;
-use icu_cursor::FactsCursor;
-use icu_encodings::EncodedText;
-use icu_entries::CollationElement;
-use icu_levels::forms::TertiaryForm;
-use icu_provider::CollationReordering;
-use icu_weighting::Handled;
+use icu_element_cursor::FactsCursor;
+use icu_order_levels::forms::TertiaryForm;
+use icu_order_texts::weighting::Handled;
+use icu_table_entries::CollationElement;
+use icu_table_provider::CollationReordering;
+use icu_text_encodings::EncodedText;
 use std::cmp::Ordering;
 
 /// How many elements of each text are gone through in step, at most.

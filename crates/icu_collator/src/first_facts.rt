@@ -1,17 +1,17 @@
 //! What the first characters of two texts say of their order.
 
 ghost use Rattle.std.specs.Prelude.{◌≡◌, ◌≢◌, ◌<◌, ◌⊎◌, ◌∷◌, ℕ, List, map, IfSome, IsTrue};
-ghost use Rattle.icu_facts.specs.KeptFacts.{AreFirstFacts};
-ghost use Rattle.icu_provider.specs.CollatorTables.{reorder};
-ghost use Rattle.icu_weighting.specs.Forms.{last_variable_by};
-ghost use Rattle.icu_text_order.specs.TextOrder.{reading_by, text_order};
+ghost use Rattle.icu_element_facts.specs.KeptFacts.{AreFirstFacts};
+ghost use Rattle.icu_table_provider.specs.CollatorTables.{reorder};
+ghost use Rattle.icu_order_texts.specs.weighting.Forms.{last_variable_by};
+ghost use Rattle.icu_order_texts.specs.TextOrder.{reading_by, text_order};
 ghost use Rattle.icu_collator.specs.inner.FirstPrimaries.{unequal_order};
 
 use crate::collator::CollatorBorrowed;
-use icu_boundaries::laws::first_starters_lead;
-use icu_cursor::CharFacts;
-use icu_encodings::EncodedText;
-use icu_weighting::element_weights::reordered;
+use icu_element_cursor::CharFacts;
+use icu_element_reading::boundaries::laws::first_starters_lead;
+use icu_order_texts::weighting::element_weights::reordered;
+use icu_text_encodings::EncodedText;
 use std::cmp::Ordering;
 
 /// What the first character of a text says of the text: whether it may be the rest of others, and its first primary
@@ -25,7 +25,7 @@ pub(crate) struct FirstFacts {
 impl<'a> CollatorBorrowed<'a> {
     ghost use Rattle.icu_collator.specs.Collators.{tables_borrowed, collation_borrowed};
     ghost use Rattle.icu_collator.specs.inner.FirstPrimaries.{Decides, IsFirst, LeadsWith};
-    ghost use Rattle.icu_text_order.specs.TextCuts.{IsRest};
+    ghost use Rattle.icu_order_texts.specs.TextCuts.{IsRest};
 
     /// What the first character of a text says of the text, by one look-up.
     #[inline(always)]

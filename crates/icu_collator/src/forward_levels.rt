@@ -2,22 +2,22 @@
 
 ghost use Rattle.std.specs.Prelude.{◌≡◌, ◌≤◌, ◌∷◌, ◌+◌, [], List, Some, length, IfOk, IfSome, IsTrue, MatchOption};
 ghost use Rattle.std.specs.Ordering.{ordering_then};
-ghost use Rattle.icu_levels.specs.ListOrder.{list_order};
-ghost use Rattle.icu_weighting.specs.Levels.{quaternary_weight};
-ghost use Rattle.icu_weighting.specs.HandledSources.{handled_as};
-ghost use Rattle.icu_weighting.specs.Handled.{HandledElement};
+ghost use Rattle.icu_order_levels.specs.ListOrder.{list_order};
+ghost use Rattle.icu_order_texts.specs.weighting.Levels.{quaternary_weight};
+ghost use Rattle.icu_order_texts.specs.weighting.HandledSources.{handled_as};
+ghost use Rattle.icu_order_texts.specs.weighting.Handled.{HandledElement};
 ghost use Rattle.icu_collator.specs.inner.LevelWeights.{weight_of_stayed, read_as, weight_in, level_weights};
 ghost use Rattle.icu_collator.specs.inner.InStep.{from_first, order_on, order_from, DecidesOn, HasWeight};
 
 use crate::handled::ComparedSource;
-use icu_cursor::LongPiece;
-use icu_entries::CollationElement;
-use icu_levels::forms::{CaseForm, SecondaryForm, TertiaryForm};
-use icu_provider::CollationReordering;
-use icu_weighting::element_weights::{
+use icu_element_cursor::LongPiece;
+use icu_order_levels::forms::{CaseForm, SecondaryForm, TertiaryForm};
+use icu_order_texts::weighting::element_weights::{
     case_rank, case_read, masked_tertiary, quaternary_number, reordered, tertiary_weight,
 };
-use icu_weighting::{Handled, SteadySource};
+use icu_order_texts::weighting::{Handled, SteadySource};
+use icu_table_entries::CollationElement;
+use icu_table_provider::CollationReordering;
 use std::cmp::Ordering;
 
 /// A level that is compared forward (UTS #10, "Form Sort Keys").

@@ -2,11 +2,11 @@
 
 ghost use Rattle.std.specs.Prelude.{◌≡◌, false, ◌≤◌, ◌++◌, ◌+◌, [], List, length, map, option_map, option_to_list, IfSome, IfOk, None};
 
-use icu_cursor::{ElementCursor, LongPiece};
-use icu_decomposed_text::CountedText;
-use icu_entries::CollationElement;
+use icu_element_cursor::{ElementCursor, LongPiece};
 use icu_options::AlternateHandling;
-use icu_weighting::{Handled, HandledSource, SteadySource, VariableWeighting};
+use icu_order_texts::weighting::{Handled, HandledSource, SteadySource, VariableWeighting};
+use icu_table_entries::CollationElement;
+use icu_text_decomposition::CountedText;
 use std::alloc::AllocError;
 
 /// The elements of a text that are left, as variable weighting handles them: a variable element is
@@ -20,8 +20,8 @@ pub struct HandledElements<'a> {
 
 impl<'a> HandledElements<'a> {
     ghost use Rattle.icu_collator.specs.HandledRests.{handled_rest};
-    ghost use Rattle.icu_weighting.specs.HandledSources.{handled_as};
-    ghost use Rattle.icu_weighting.specs.Handled.{handled};
+    ghost use Rattle.icu_order_texts.specs.weighting.HandledSources.{handled_as};
+    ghost use Rattle.icu_order_texts.specs.weighting.Handled.{handled};
 
     /// All elements of a text. Variable are those with a primary weight above the merge separator's
     /// and up to `last_variable`: none, where that is 0.
@@ -47,7 +47,7 @@ impl<'a> HandledElements<'a> {
     }
 
     /// The next element that didn't vanish, or `None` after the last one.
-    #[tactic(auto, unfolding(icu_weighting::specs::Handled::handled))]
+    #[tactic(auto, unfolding(icu_order_texts::specs::weighting::Handled::handled))]
     pub fn next(&mut self) -> Option<Handled>
         ensures handled { handled_rest self.old
             ≡ option_to_list (option_map handled_as result) ++ handled_rest self.new }
@@ -90,8 +90,8 @@ impl<'a> SteadySource for HandledElements<'a> {
 /// What gives the elements of a text one at a time, as variable weighting leaves them, and needs no memory: it may stop
 /// at characters that give many elements together.
 pub(crate) trait ComparedSource {
-    ghost use Rattle.icu_weighting.specs.Handled.{HandledElement};
-    ghost use Rattle.icu_weighting.specs.HandledSources.{GivesNext};
+    ghost use Rattle.icu_order_texts.specs.weighting.Handled.{HandledElement};
+    ghost use Rattle.icu_order_texts.specs.weighting.HandledSources.{GivesNext};
 
     /// The elements that are still to come.
     ghost compared_left: { Self → List HandledElement };
@@ -113,8 +113,8 @@ pub(crate) struct HandledText<'c, 'd, T> {
 
 impl<'c, 'd, T: CountedText> HandledText<'c, 'd, T> {
     ghost use Rattle.icu_collator.specs.HandledRests.{handled_to_come};
-    ghost use Rattle.icu_cursor.specs.Cursors.{cursor_gives};
-    ghost use Rattle.icu_weighting.specs.Handled.{handled};
+    ghost use Rattle.icu_element_cursor.specs.Cursors.{cursor_gives};
+    ghost use Rattle.icu_order_texts.specs.weighting.Handled.{handled};
 
     /// All elements that a cursor still gives. Variable are those with a primary weight above the
     /// merge separator's and up to `last_variable`: none, where that is 0.
@@ -159,8 +159,8 @@ pub(crate) struct PlainText<'c, 'd, T> {
 
 impl<'c, 'd, T: CountedText> PlainText<'c, 'd, T> {
     ghost use Rattle.icu_collator.specs.HandledRests.{plain_to_come};
-    ghost use Rattle.icu_cursor.specs.Cursors.{cursor_gives};
-    ghost use Rattle.icu_weighting.specs.Handled.{stayed};
+    ghost use Rattle.icu_element_cursor.specs.Cursors.{cursor_gives};
+    ghost use Rattle.icu_order_texts.specs.weighting.Handled.{stayed};
 
     /// All elements that a cursor still gives.
     #[inline(always)]

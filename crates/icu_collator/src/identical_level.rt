@@ -2,11 +2,11 @@
 
 ghost use Rattle.std.specs.Prelude.{◌≡◌, map};
 ghost use Rattle.unicode_normalization.specs.Forms.{nfd};
-ghost use Rattle.icu_levels.specs.ListOrder.{list_order};
-ghost use Rattle.icu_levels.specs.Identical.{identical_rank};
+ghost use Rattle.icu_order_levels.specs.ListOrder.{list_order};
+ghost use Rattle.icu_order_levels.specs.Identical.{identical_rank};
 
-use icu_decomposed_text::DecomposedText;
-use icu_encodings::EncodedText;
+use icu_text_decomposition::DecomposedText;
+use icu_text_encodings::EncodedText;
 use std::cmp::Ordering;
 
 /// Where a character stands: U+FFFE, which parts merged texts, comes first, and then each by its

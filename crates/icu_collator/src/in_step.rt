@@ -2,14 +2,14 @@
 
 ghost use Rattle.std.specs.Prelude.{◌≡◌, ◌≤◌, List, length, IfOk, IfSome, MatchOption, None};
 ghost use Rattle.std.specs.declared.cmp.Ordering.TheVariants.{Equal};
-ghost use Rattle.icu_weighting.specs.Handled.{HandledElement};
+ghost use Rattle.icu_order_texts.specs.weighting.Handled.{HandledElement};
 ghost use Rattle.icu_collator.specs.inner.InStep.{from_first, order_on, order_from, three_order, three_levels, StepsBy, StepBoth};
 
 use crate::forward_levels::Level;
 use crate::handled::ComparedSource;
-use icu_cursor::LongPiece;
-use icu_levels::forms::TertiaryForm;
-use icu_weighting::Handled;
+use icu_element_cursor::LongPiece;
+use icu_order_levels::forms::TertiaryForm;
+use icu_order_texts::weighting::Handled;
 use std::cmp::Ordering;
 
 /// Elements that two sources gave last: none of a source that has ended.

@@ -6,12 +6,12 @@ ghost use Rattle.ucd_normal.specs.declared.forms.Form.TheVariants.{Nfd};
 ghost use Rattle.unicode_normalization.specs.Decompose.{decompose};
 ghost use Rattle.unicode_normalization.specs.Forms.{nfd};
 ghost use Rattle.unicode_normalization.specs.Order.{is_reorderable, is_starter};
-ghost use Rattle.icu_boundaries.specs.Alone.{all_stay};
+ghost use Rattle.icu_element_reading.specs.boundaries.Alone.{all_stay};
 ghost use Rattle.icu_collator.specs.inner.KeyCharacters.{EndsMarks};
 
 use crate::plain_characters::is_plain;
-use icu_decomposed_text::DecomposedText;
-use icu_encodings::EncodedText;
+use icu_text_decomposition::DecomposedText;
+use icu_text_encodings::EncodedText;
 use std::alloc::{AllocError, Global};
 use unicode_normalization::Form;
 use unicode_normalization::char::{canonical_combining_class, decomposition};

@@ -2,13 +2,13 @@
 
 ghost use Rattle.std.specs.Prelude.{◌≡◌, ◌++◌, [], None, false, IfOk, IsTrue, map, option_to_list};
 ghost use Rattle.icu_collator.specs.inner.KeyElements.{steady_elements_left};
-ghost use Rattle.icu_weighting.specs.Handled.{handled, stayed};
+ghost use Rattle.icu_order_texts.specs.weighting.Handled.{handled, stayed};
 
-use icu_cursor::{CharElements, ElementCursor, FirstChars, LongPiece, SteadyCursor};
-use icu_decomposed_text::CountedText;
-use icu_entries::CollationElement;
+use icu_element_cursor::{CharElements, ElementCursor, FirstChars, LongPiece, SteadyCursor};
 use icu_options::AlternateHandling;
-use icu_weighting::{Handled, HandledSource, VariableWeighting};
+use icu_order_texts::weighting::{Handled, HandledSource, VariableWeighting};
+use icu_table_entries::CollationElement;
+use icu_text_decomposition::CountedText;
 use std::alloc::{AllocError, Global};
 
 /// The elements of an encoded text by a cursor, and from the first long piece on by one that never stops. That one is
@@ -38,7 +38,7 @@ fn next_of_steady<T: CountedText>(
 }
 
 impl<'c, 'd, T: CountedText> PieceElements<'c, 'd, T> {
-    ghost use Rattle.icu_cursor.specs.Cursors.{cursor_gives};
+    ghost use Rattle.icu_element_cursor.specs.Cursors.{cursor_gives};
     ghost use Rattle.icu_collator.specs.inner.KeyElements.{piece_elements_left};
 
     /// All elements that a cursor still gives.
@@ -112,7 +112,7 @@ where
 }
 
 impl<'c, 'd, T: CountedText> KeyElements<'c, 'd, T> {
-    ghost use Rattle.icu_cursor.specs.Cursors.{lone_gives};
+    ghost use Rattle.icu_element_cursor.specs.Cursors.{lone_gives};
     ghost use Rattle.icu_collator.specs.inner.KeyElements.{key_elements_left};
 
     /// All elements that a lone cursor still gives.
@@ -222,7 +222,7 @@ where
 }
 
 impl<'c, 'd, T: CountedText> HandledKeyText<'c, 'd, T> {
-    ghost use Rattle.icu_cursor.specs.Cursors.{lone_gives};
+    ghost use Rattle.icu_element_cursor.specs.Cursors.{lone_gives};
     ghost use Rattle.icu_collator.specs.inner.KeyElements.{handled_for_key};
 
     /// All elements that a lone cursor still gives. Variable are those with a primary weight above the merge
@@ -271,7 +271,7 @@ where
 }
 
 impl<'c, 'd, T: CountedText> PlainKeyText<'c, 'd, T> {
-    ghost use Rattle.icu_cursor.specs.Cursors.{lone_gives};
+    ghost use Rattle.icu_element_cursor.specs.Cursors.{lone_gives};
     ghost use Rattle.icu_collator.specs.inner.KeyElements.{plain_for_key};
 
     /// All elements that a lone cursor still gives.

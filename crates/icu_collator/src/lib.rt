@@ -17,11 +17,13 @@ mod forward_levels;
 pub mod handled;
 mod identical_level;
 mod in_step;
+pub mod key_bounds;
 mod key_characters;
 mod key_text;
 mod plain_characters;
 mod rests;
 mod segments;
+pub mod sort;
 pub mod sort_key;
 mod sorting;
 mod steady_order;
@@ -30,8 +32,8 @@ mod texts;
 
 pub use collator::{Collator, CollatorBorrowed};
 pub use handled::HandledElements;
-pub use icu_elements as elements;
-pub use icu_keys::{CollationKeySink, SortKeyError, TooSmall};
+pub use icu_element_reading as elements;
+pub use icu_key_writers::{CollationKeySink, SortKeyError, TooSmall};
 pub use icu_options as options;
 pub use icu_options::CollatorPreferences;
 
@@ -40,30 +42,30 @@ pub mod comparison {
     pub use crate::collator::{Collator, CollatorBorrowed};
     pub use crate::handled::HandledElements;
     pub use crate::texts::str_text;
-    pub use icu_cursor::{CursorTables, ElementCursor, LongPiece, SteadyCursor};
-    pub use icu_decomposed_text::CountedText;
-    pub use icu_encodings::{
+    pub use icu_element_cursor::{CursorTables, ElementCursor, LongPiece, SteadyCursor};
+    pub use icu_key_writers::accumulator::AnyQuaternaryAccumulator;
+    pub use icu_key_writers::{CollationKeySink, SortKeyError, TooSmall};
+    pub use icu_order_texts::weighting::{Handled, HandledSource, key_form};
+    pub use icu_text_decomposition::CountedText;
+    pub use icu_text_encodings::{
         EncodedText, Latin1Chars, Latin1Iter, Latin1Text, Utf8Text, Utf16Text,
     };
-    pub use icu_keys::accumulator::AnyQuaternaryAccumulator;
-    pub use icu_keys::{CollationKeySink, SortKeyError, TooSmall};
-    pub use icu_weighting::{Handled, HandledSource, key_form};
 }
 
 /// Where the tables of collators come from, the check that they pass, and what builds them.
 pub mod provider {
-    pub use icu_checks::{checked_owned, checked_parts, checked_set};
-    pub use icu_collation_data::{
+    pub use icu_table_check::{checked_owned, checked_parts, checked_set};
+    pub use icu_table_data::{
         CodePointTable, CollationData, Context, ContextMapping, ContextTable,
     };
-    pub use icu_entries::{DataError, DataErrorKind, DataTable};
-    pub use icu_provider::{
+    pub use icu_table_entries::{DataError, DataErrorKind, DataTable};
+    pub use icu_table_provider::builder::{DataBuilder, DataVectors, OwnedData};
+    pub use icu_table_provider::well_formed::CheckedTables;
+    pub use icu_table_provider::{
         CollationDiacritics, CollationJamo, CollationMetadata, CollationProvider,
         CollationReordering, CollationSpecialPrimaries, DataRequest, FixedLoads, FixedProvider,
         MetadataFields, OwnedTables, TableSet, load_tables,
     };
-    pub use icu_table_builder::{DataBuilder, DataVectors, OwnedData};
-    pub use icu_well_formed::CheckedTables;
 }
 
 /// What a user prefers beside the options that a caller names.
@@ -75,12 +77,12 @@ pub mod preferences {
 /// contract.
 pub mod laws {
     pub use crate::sorting::text_order_is_total;
-    pub use icu_laws::{
-        common_weights_add_few_bytes, equivalent_texts_are_equal, identical_level_determines_texts,
-        number_texts_order_by_value, sinks_hold_one_key, strength_keeps_order, texts_are_ordered,
-    };
-    pub use icu_text_order::laws::{
+    pub use icu_order_texts::laws::{
         common_beginnings_do_not_count, keys_keep_text_order, levels_keep_text_order,
         well_formed_tables_serve_levels,
+    };
+    pub use icu_order_texts::text_laws::{
+        common_weights_add_few_bytes, equivalent_texts_are_equal, identical_level_determines_texts,
+        number_texts_order_by_value, sinks_hold_one_key, strength_keeps_order, texts_are_ordered,
     };
 }

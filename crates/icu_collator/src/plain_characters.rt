@@ -1,7 +1,7 @@
 //! Characters of at most two bytes of UTF-8 that are starters and decompose to themselves.
 
 ghost use Rattle.std.specs.Prelude.{◌≡◌, ◌/◌, ◌%◌, ◌&&◌, nat_lt, slice_index};
-ghost use Rattle.icu_entries.specs.Entries.{has_bit};
+ghost use Rattle.icu_table_entries.specs.Entries.{has_bit};
 
 /// A bit of each character below U+0800, in words of 64: set only where the character is a starter that decomposes to
 /// itself.

@@ -1,21 +1,21 @@
 //! What follows the common beginning of two texts, and the order of two texts by the characters that they begin with.
 
 ghost use Rattle.std.specs.Prelude.{◌≡◌, ◌≢◌, ◌≤◌, ℕ, IfSome};
-ghost use Rattle.icu_levels.specs.CommonBeginnings.{ReadsForward};
-ghost use Rattle.icu_text_order.specs.Forms.{form_by};
-ghost use Rattle.icu_text_order.specs.TextOrder.{reading_by, text_order};
-ghost use Rattle.icu_cursor.specs.Cursors.{cursor_reading};
+ghost use Rattle.icu_order_levels.specs.CommonBeginnings.{ReadsForward};
+ghost use Rattle.icu_order_texts.specs.Forms.{form_by};
+ghost use Rattle.icu_order_texts.specs.TextOrder.{reading_by, text_order};
+ghost use Rattle.icu_element_cursor.specs.Cursors.{cursor_reading};
 ghost use Rattle.icu_collator.specs.inner.ElementOrders.{ReadsElementsAlone};
 ghost use Rattle.icu_collator.specs.inner.InStep.{IsThreeLevel};
 
 use crate::collator::CollatorBorrowed;
 use crate::facts_in_step::order_in_step;
 use crate::first_facts::FirstFacts;
-use icu_cursor::{CursorTables, FactsCursor};
-use icu_encodings::EncodedText;
-use icu_entries::element::MERGE_SEPARATOR_PRIMARY;
-use icu_levels::forms::TertiaryForm;
-use icu_text_order::laws::common_beginnings_do_not_count;
+use icu_element_cursor::{CursorTables, FactsCursor};
+use icu_order_levels::forms::TertiaryForm;
+use icu_order_texts::laws::common_beginnings_do_not_count;
+use icu_table_entries::element::MERGE_SEPARATOR_PRIMARY;
+use icu_text_encodings::EncodedText;
 use std::cmp::Ordering;
 
 /// How many primary weights of two texts are compared by their characters, at most.

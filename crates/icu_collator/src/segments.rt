@@ -2,13 +2,13 @@
 
 ghost use Rattle.std.specs.Prelude.{◌≡◌, true, false, ◌-◌, [], ◌∷◌, length, drop, reverse, IfSome, IsTrue, Some, None};
 ghost use Rattle.std.specs.Ordering.{nat_cmp, ordering_then};
-ghost use Rattle.icu_levels.specs.ListOrder.{list_order, segments_order};
-ghost use Rattle.icu_weighting.specs.Levels.{segments};
-ghost use Rattle.icu_weighting.specs.Handled.{stayed_elements};
+ghost use Rattle.icu_order_levels.specs.ListOrder.{list_order, segments_order};
+ghost use Rattle.icu_order_texts.specs.weighting.Levels.{segments};
+ghost use Rattle.icu_order_texts.specs.weighting.Handled.{stayed_elements};
 ghost use Rattle.icu_collator.specs.inner.SegmentsLeft.{this_segment, next_segments, reversed_segments, AtOnePlace, AtOneEnd};
 
-use icu_entries::element::MERGE_SEPARATOR_PRIMARY;
-use icu_weighting::{Handled, SteadySource};
+use icu_order_texts::weighting::{Handled, SteadySource};
+use icu_table_entries::element::MERGE_SEPARATOR_PRIMARY;
 use std::cmp::Ordering;
 
 /// Reads the secondary weights of a text segment by segment: it stops at each merge separator until that is passed.
@@ -31,7 +31,7 @@ impl<S: SteadySource> Segments<S> {
     }
 
     /// The next secondary weight of the segment that the text is in, or `None` at the segment's end.
-    #[tactic(auto, unfolding(icu_weighting::specs::Levels::parted))]
+    #[tactic(auto, unfolding(icu_order_texts::specs::weighting::Levels::parted))]
     fn next_in_segment(&mut self) -> Option<u16>
         ensures weight { IfSome result (λ w. this_segment S.steady_left self.old
             ≡ w ∷ this_segment S.steady_left self.new) }

@@ -2,24 +2,24 @@
 
 ghost use Rattle.std.specs.Prelude.{◌≡◌, List, ℕ, chars, false};
 ghost use Rattle.std.specs.List.{AllByRecursion};
-ghost use Rattle.icu_encodings.specs.DecodedTexts.{utf16_text, utf8_text};
-ghost use Rattle.icu_keys.specs.KeyWrites.{WritesKey};
-ghost use Rattle.icu_levels.specs.Keys.{key_bytes};
-ghost use Rattle.icu_text_order.specs.Forms.{compression_of, form_by, last_variable_by};
-ghost use Rattle.icu_text_order.specs.Levels.{level_lists};
-ghost use Rattle.icu_text_order.specs.TextOrder.{handled_by, text_key};
-ghost use Rattle.icu_provider.specs.CollatorTables.{reorder};
-ghost use Rattle.icu_weighting.specs.HandledSources.{HasCase};
+ghost use Rattle.icu_text_encodings.specs.DecodedTexts.{utf16_text, utf8_text};
+ghost use Rattle.icu_key_writers.specs.KeyWrites.{WritesKey};
+ghost use Rattle.icu_order_levels.specs.Keys.{key_bytes};
+ghost use Rattle.icu_order_texts.specs.Forms.{compression_of, form_by, last_variable_by};
+ghost use Rattle.icu_order_texts.specs.Levels.{level_lists};
+ghost use Rattle.icu_order_texts.specs.TextOrder.{handled_by, text_key};
+ghost use Rattle.icu_table_provider.specs.CollatorTables.{reorder};
+ghost use Rattle.icu_order_texts.specs.weighting.HandledSources.{HasCase};
 ghost use Rattle.unicode_normalization.specs.Forms.{nfd};
 
 use crate::collator::CollatorBorrowed;
 use crate::key_characters::decomposed;
 use crate::texts::str_text;
-use icu_decomposed_text::CountedText;
-use icu_encodings::{Utf8Text, Utf16Text};
-use icu_keys::{CollationKeySink, SortKeyError};
-use icu_text_keys::laws::texts_have_case;
-use icu_text_keys::write_key;
+use icu_key_texts::laws::texts_have_case;
+use icu_key_texts::write_key;
+use icu_key_writers::{CollationKeySink, SortKeyError};
+use icu_text_decomposition::CountedText;
+use icu_text_encodings::{Utf8Text, Utf16Text};
 
 /// What a call returns that was to write a key and ran out of memory before it wrote anything.
 fn write_nothing<S: CollationKeySink>(sink: &mut S) -> Result<S::Output, SortKeyError<S::Error>>

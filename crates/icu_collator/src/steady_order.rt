@@ -3,15 +3,15 @@
 //! called.
 
 ghost use Rattle.std.specs.Prelude.{◌≡◌};
-ghost use Rattle.icu_levels.specs.ListOrder.{list_order, segments_order};
-ghost use Rattle.icu_text_order.specs.TextOrder.{handled_by, lists_by};
+ghost use Rattle.icu_order_levels.specs.ListOrder.{list_order, segments_order};
+ghost use Rattle.icu_order_texts.specs.TextOrder.{handled_by, lists_by};
 ghost use Rattle.icu_collator.specs.inner.LevelWeights.{level_weights};
 ghost use Rattle.unicode_normalization.specs.Forms.{nfd};
 
 use crate::collator::CollatorBorrowed;
 use crate::forward_levels::Level;
 use crate::segments::{TwoReaders, compare_segments};
-use icu_decomposed_text::CountedText;
+use icu_text_decomposition::CountedText;
 use std::cmp::Ordering;
 
 impl<'a> CollatorBorrowed<'a> {

@@ -2,10 +2,10 @@
 
 ghost use Rattle.std.specs.Prelude.{◌≡◌, false};
 
-use icu_cursor::{ElementCursor, FirstChars, SteadyCursor};
-use icu_decomposed_text::CountedText;
+use icu_element_cursor::{ElementCursor, FirstChars, SteadyCursor};
 use icu_options::AlternateHandling;
-use icu_weighting::{Handled, SteadySource, VariableWeighting};
+use icu_order_texts::weighting::{Handled, SteadySource, VariableWeighting};
+use icu_text_decomposition::CountedText;
 
 /// The elements of an encoded text, handled as they are read: nothing is allocated, and long pieces don't stop it.
 #[derive(Drop)]
@@ -19,8 +19,8 @@ where
 
 impl<'c, 'd, T: CountedText> SteadyText<'c, 'd, T> {
     ghost use Rattle.icu_collator.specs.HandledRests.{steady_to_come};
-    ghost use Rattle.icu_cursor.specs.Cursors.{cursor_gives};
-    ghost use Rattle.icu_weighting.specs.Handled.{handled};
+    ghost use Rattle.icu_element_cursor.specs.Cursors.{cursor_gives};
+    ghost use Rattle.icu_order_texts.specs.weighting.Handled.{handled};
 
     /// All elements that a cursor still gives. Variable are those with a primary weight above the merge separator's and
     /// up to `last_variable`: none, where that is 0.

@@ -1,10 +1,10 @@
 //! Texts, whatever their encodings.
 
 ghost use Rattle.std.specs.Prelude.{◌≡◌, chars};
-ghost use Rattle.icu_encodings.specs.DecodedTexts.{utf8_text};
+ghost use Rattle.icu_text_encodings.specs.DecodedTexts.{utf8_text};
 
-use icu_encodings::Utf8Text;
-use icu_encodings::laws::encoded_texts_are_read_back;
+use icu_text_encodings::Utf8Text;
+use icu_text_encodings::laws::encoded_texts_are_read_back;
 
 /// A string, which is UTF-8 without damage.
 pub fn str_text(text: &str) -> Utf8Text<'_>

@@ -5,23 +5,23 @@ use Rattle.std.specs.declared.cmp.Ordering.{Ordering}
 use Rattle.std.specs.declared.cmp.Ordering.TheVariants.{Less, Equal, Greater}
 use Rattle.icu_collator.specs.declared.collator.CollatorBorrowed.{CollatorBorrowed}
 use Rattle.icu_collator.specs.Collators.{tables_borrowed, collation_borrowed}
-use Rattle.icu_well_formed.specs.WellFormedTables.{IsWellFormedTables}
-use Rattle.icu_encodings.proofs.Utf8Lemmas.{utf8_scalars}
-use Rattle.icu_encodings.specs.DecodedTexts.{utf8_text}
-use Rattle.icu_levels.specs.ListOrder.{list_order}
-use Rattle.icu_text_order.proofs.TextOrders.{keys_keep}
-use Rattle.icu_beginnings.specs.KeyBeginnings.{begins}
-use Rattle.icu_keyed_names.specs.KeyedLists.{Keyed, beginning_with, behind_border, between, names_in, placed}
-use Rattle.icu_keyed_names.specs.declared.borders.Border.TheVariants.{Before, Behind}
+use Rattle.icu_table_provider.specs.well_formed.WellFormedTables.{IsWellFormedTables}
+use Rattle.icu_text_encodings.proofs.Utf8Lemmas.{utf8_scalars}
+use Rattle.icu_text_encodings.specs.DecodedTexts.{utf8_text}
+use Rattle.icu_order_levels.specs.ListOrder.{list_order}
+use Rattle.icu_order_texts.proofs.TextOrders.{keys_keep}
+use Rattle.icu_order_levels.specs.beginnings.KeyBeginnings.{begins}
+use Rattle.icu_index_keys.specs.KeyedLists.{Keyed, beginning_with, behind_border, between, names_in, placed}
+use Rattle.icu_index_keys.specs.declared.borders.Border.TheVariants.{Before, Behind}
 use Rattle.icu_index.specs.Listings.{name_begins, name_order, inserted, equal_names, names_beginning, names_between}
-use Rattle.icu_text_beginnings.specs.TextBeginnings.{lower_bound}
-use Rattle.icu_text_beginnings.proofs.TextBeginningLemmas.{key_begins}
-use Rattle.icu_text_order.specs.Collations.{Collation}
+use Rattle.icu_order_texts.specs.text_beginnings.TextBeginnings.{lower_bound}
+use Rattle.icu_order_texts.proofs.text_beginnings.TextBeginningLemmas.{key_begins}
+use Rattle.icu_order_texts.specs.Collations.{Collation}
 use Rattle.icu_index.specs.inner.NameKeys.{AreKeyed, key_of, keyed_within}
-use Rattle.icu_headings.specs.HeadingLaws.{KeysStandUnder, names_under}
-use Rattle.icu_headings.specs.HeadingLists.{NamedStart, heading_number}
-use Rattle.icu_keyed_starts.specs.Starts.{stands_within}
-use Rattle.icu_keyed_starts.specs.declared.starts.KeyBounds.{KeyBounds}
+use Rattle.icu_index.specs.headings.HeadingLaws.{KeysStandUnder, names_under}
+use Rattle.icu_index.specs.headings.HeadingLists.{NamedStart, heading_number}
+use Rattle.icu_index_keys.specs.keyed_starts.Starts.{stands_within}
+use Rattle.icu_index_keys.specs.declared.keyed_starts.starts.KeyBounds.{KeyBounds}
 use Rattle.std.specs.Borrow.{Bor}
 
 pub names_keep : (c : CollatorBorrowed) → IsWellFormedTables (tables_borrowed c) → (x y : List ℕ)

@@ -1,8 +1,9 @@
 pub use Rattle.icu_collator.specs.Collators
-pub use Rattle.icu_encodings.specs.DecodedTexts
-pub use Rattle.icu_keyed_names.specs.KeyedLists
-pub use Rattle.icu_text_beginnings.specs.TextBeginnings
-pub use Rattle.icu_text_order.specs.TextOrder
+pub use Rattle.icu_text_encodings.specs.DecodedTexts
+pub use Rattle.icu_index_keys.specs.KeyedLists
+pub use Rattle.icu_order_texts.specs.text_beginnings.TextBeginnings
+pub use Rattle.icu_order_texts.specs.TextOrder
 pub mod Listings
 pub mod NameIndexes
 pub mod inner
+pub mod headings

@@ -4,11 +4,11 @@ use Rattle.std.specs.Prelude.{ℕ, Bool, ◌&&◌, not, List, [], ◌∷◌, fil
 use Rattle.std.specs.List.Sorted.{IsPermutation, IsSorted, IsStable}
 use Rattle.std.specs.Ordering.{is_eq, is_gt, is_lt}
 use Rattle.std.specs.declared.cmp.Ordering.{Ordering}
-use Rattle.icu_well_formed.specs.WellFormedTables.{IsWellFormedTables}
-use Rattle.icu_encodings.specs.DecodedTexts.{utf8_text}
-use Rattle.icu_text_beginnings.specs.TextBeginnings.{text_begins}
-use Rattle.icu_text_order.specs.Collations.{Collation}
-use Rattle.icu_text_order.specs.TextOrder.{text_order}
+use Rattle.icu_table_provider.specs.well_formed.WellFormedTables.{IsWellFormedTables}
+use Rattle.icu_text_encodings.specs.DecodedTexts.{utf8_text}
+use Rattle.icu_order_texts.specs.text_beginnings.TextBeginnings.{text_begins}
+use Rattle.icu_order_texts.specs.Collations.{Collation}
+use Rattle.icu_order_texts.specs.TextOrder.{text_order}
 
 -- the order of two names, which are bytes in UTF-8 that may be damaged: that of their texts
 abbrev pub name_order : Collation → List ℕ → List ℕ → Ordering

@@ -1,12 +1,12 @@
 -- What an index of names holds, and what its iterator has left.
 use Rattle.std.specs.Prelude.{ℕ, List}
 use Rattle.std.specs.declared.cmp.Ordering.{Ordering}
-use Rattle.icu_text_order.specs.Collations.{Collation}
+use Rattle.icu_order_texts.specs.Collations.{Collation}
 use Rattle.icu_collator.specs.Collators.{collation_borrowed}
 use Rattle.icu_index.specs.declared.index.NameIndex.{NameIndex}
 use Rattle.icu_index.specs.declared.names.NameIter.{NameIter}
 use Rattle.icu_index.specs.Listings.{name_order}
-use Rattle.icu_keyed_names.specs.KeyedLists.{keyed_names, names_in, names_to_come}
+use Rattle.icu_index_keys.specs.KeyedLists.{keyed_names, names_in, names_to_come}
 
 -- the collation that names are ordered by
 abbrev pub index_collation : NameIndex → Collation

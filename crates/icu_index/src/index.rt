@@ -3,17 +3,17 @@
 ghost use Rattle.std.specs.Prelude.{◌≡◌, [], ◌++◌, length, IfOk, IsErr, IsTrue, OnOk, OnErr, ◌↔◌};
 ghost use Rattle.std.proofs.Props.{props};
 ghost use Rattle.icu_collator.specs.Collators.{collation_borrowed, collation_kept};
-ghost use Rattle.icu_headings.specs.Headed.{heading_starts, headings_collation};
-ghost use Rattle.icu_headings.specs.HeadingLaws.{names_under};
-ghost use Rattle.icu_keyed_names.specs.KeyedLists.{keyed_names, names_in, names_to_come};
+ghost use Rattle.icu_index.specs.headings.Headed.{heading_starts, headings_collation};
+ghost use Rattle.icu_index.specs.headings.HeadingLaws.{names_under};
+ghost use Rattle.icu_index_keys.specs.KeyedLists.{keyed_names, names_in, names_to_come};
 ghost use Rattle.icu_index.specs.Listings.{equal_names, inserted, names_beginning, names_between};
 ghost use Rattle.icu_index.specs.inner.NameKeys.{key_of, keyed_within, AreKeyed};
 
+use crate::headings::{Headings, KeyBounds};
 use crate::names::NameIter;
+use icu_collator::key_bounds::lower_bound_key;
 use icu_collator::{Collator, CollatorBorrowed};
-use icu_headings::{Headings, KeyBounds};
-use icu_key_bounds::lower_bound_key;
-use icu_keyed_names::{Border, KeyedNames, Names};
+use icu_index_keys::{Border, KeyedNames, Names};
 use std::alloc::{AllocError, Global};
 
 /// Writes the sort key of a name behind other bytes.

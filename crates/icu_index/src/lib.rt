@@ -2,6 +2,7 @@
 //! given one are taken.
 #![tactic(auto)]
 
+pub mod headings;
 pub mod index;
 pub mod laws;
 pub mod names;

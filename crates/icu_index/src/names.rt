@@ -1,6 +1,6 @@
 //! The names of an index, one by one.
 
-use icu_keyed_names::Names;
+use icu_index_keys::Names;
 
 /// Gives names of an index in order, each as its bytes. Does not allocate.
 #[derive(Drop)]

@@ -5,11 +5,11 @@ use Rattle.std.specs.Result.{IsErrAnd}
 use Rattle.std.proofs.lemmas.List.{at_drop_more, map-append}
 use Rattle.std.specs.List.{range_with_len, flat_map}
 use Rattle.icu_options.specs.declared.settings.Strength.{Strength}
-use Rattle.icu_rules.specs.declared.rules.PlacedStatement.{PlacedStatement}
-use Rattle.icu_rules.specs.declared.statement.CharacterRange.{CharacterRange}
-use Rattle.icu_tailoring.specs.Rules.{Rule, lone_relation, is_scalar, characters_of, statement_rules, rules_of}
-use Rattle.icu_tailoring.specs.TailoredRoots.{Root}
-use Rattle.icu_tailoring.specs.Steps.{TailoringState, first_state, rule_step, state_after}
+use Rattle.icu_rule_parser.specs.declared.rules.PlacedStatement.{PlacedStatement}
+use Rattle.icu_rule_parser.specs.declared.statement.CharacterRange.{CharacterRange}
+use Rattle.icu_rule_meaning.specs.Rules.{Rule, lone_relation, is_scalar, characters_of, statement_rules, rules_of}
+use Rattle.icu_rule_meaning.specs.TailoredRoots.{Root}
+use Rattle.icu_rule_meaning.specs.Steps.{TailoringState, first_state, rule_step, state_after}
 use Rattle.icu_rule_steps.specs.declared.rule_step_error.RuleStepError.{RuleStepError}
 use Rattle.icu_rule_steps.specs.declared.rule_step_error.RuleStepError.TheVariants as steps
 use Rattle.icu_rule_steps.specs.declared.tailoring_error.TailoringErrorKind.{TailoringErrorKind}

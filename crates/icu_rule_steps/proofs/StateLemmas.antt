@@ -2,14 +2,14 @@
 use Rattle.std.proofs.Common.{◌≡◌, ℕ, List, Option, Some, None, refl, ap, sym, ◌∙◌}
 use Rattle.unicode_normalization.specs.Forms.{nfd}
 use Rattle.icu_options.specs.declared.settings.Strength.{Strength}
-use Rattle.icu_rules.specs.declared.statement.CharacterRange.{CharacterRange}
-use Rattle.icu_tailoring.specs.declared.symbolic.SymbolicElement.{SymbolicElement}
-use Rattle.icu_tailoring.specs.Rules.{ResetPlace, reset, relation}
-use Rattle.icu_tailoring.specs.TailoredRoots.{RootMapping, Root, lesser_weight}
-use Rattle.icu_tailoring.specs.TailoredMappings.{SymbolicMappings, root_mappings, symbolic_elements}
-use Rattle.icu_tailoring.specs.TailoredCases.{cased_elements}
-use Rattle.icu_tailoring.specs.Steps.{TailoringState, before_level, before_step, place_elements, case_step, suppression_step, reset_step, relation_step}
-use Rattle.icu_weight_tree.specs.RuleStates.{with_elements}
+use Rattle.icu_rule_parser.specs.declared.statement.CharacterRange.{CharacterRange}
+use Rattle.icu_rule_meaning.specs.declared.symbolic.SymbolicElement.{SymbolicElement}
+use Rattle.icu_rule_meaning.specs.Rules.{ResetPlace, reset, relation}
+use Rattle.icu_rule_meaning.specs.TailoredRoots.{RootMapping, Root, lesser_weight}
+use Rattle.icu_rule_meaning.specs.TailoredMappings.{SymbolicMappings, root_mappings, symbolic_elements}
+use Rattle.icu_rule_meaning.specs.TailoredCases.{cased_elements}
+use Rattle.icu_rule_meaning.specs.Steps.{TailoringState, before_level, before_step, place_elements, case_step, suppression_step, reset_step, relation_step}
+use Rattle.icu_rule_meaning.specs.weight_tree.RuleStates.{with_elements}
 use Rattle.icu_rule_steps.specs.RuleFaults.{place_fault, before_fault, maybe_before_fault, or_fault, decomposed_fault}
 use Rattle.icu_rule_steps.specs.ReadRules.{ReadsRule, maybe_before, decomposed_step}
 

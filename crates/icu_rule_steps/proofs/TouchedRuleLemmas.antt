@@ -5,11 +5,11 @@ use Rattle.std.proofs.lemmas.List.{append-nil}
 use Rattle.std.proofs.lemmas.List.Folds.{list_any-append}
 use Rattle.unicode_normalization.specs.Forms.{nfd}
 use Rattle.icu_options.specs.declared.settings.Strength.{Strength}
-use Rattle.icu_rules.specs.declared.statement.CharacterRange.{CharacterRange}
-use Rattle.icu_tailoring.specs.Rules.{Rule, relation}
-use Rattle.icu_tailoring.specs.RootLaws.{string_begins}
-use Rattle.icu_symbolic_mappings.specs.declared.kept_mappings.Mappings.{Mappings}
-use Rattle.icu_symbolic_mappings.specs.TouchedCharacters.{root_of, HasTouched, TouchesByRule, TouchesByRules, TouchesMore, is_related, suppressed_ranges, relates, suppressed_by, suppressed_in, touched_in}
+use Rattle.icu_rule_parser.specs.declared.statement.CharacterRange.{CharacterRange}
+use Rattle.icu_rule_meaning.specs.Rules.{Rule, relation}
+use Rattle.icu_rule_meaning.specs.RootLaws.{string_begins}
+use Rattle.icu_rule_steps.specs.declared.symbolic_mappings.kept_mappings.Mappings.{Mappings}
+use Rattle.icu_rule_steps.specs.symbolic_mappings.TouchedCharacters.{root_of, HasTouched, TouchesByRule, TouchesByRules, TouchesMore, is_related, suppressed_ranges, relates, suppressed_by, suppressed_in, touched_in}
 
 or_false : (b : Bool) → (b || false) ≡ b
 or_false true = refl

@@ -1,9 +1,9 @@
 -- The statement by which a weight is made is found among those that are left.
 use Rattle.std.proofs.Common.{◌≡◌, ℕ, true, false, List, [], ◌∷◌, Some, None, ap, sym, ◌∙◌, nat_lt, cond}
-use Rattle.icu_rules.specs.declared.rules.PlacedStatement.{PlacedStatement}
-use Rattle.icu_tailoring.specs.Rules.{statement_rules}
-use Rattle.icu_tailoring.specs.TailoredRoots.{Root}
-use Rattle.icu_tailoring.specs.Steps.{TailoringState, first_state, state_after}
+use Rattle.icu_rule_parser.specs.declared.rules.PlacedStatement.{PlacedStatement}
+use Rattle.icu_rule_meaning.specs.Rules.{statement_rules}
+use Rattle.icu_rule_meaning.specs.TailoredRoots.{Root}
+use Rattle.icu_rule_meaning.specs.Steps.{TailoringState, first_state, state_after}
 use Rattle.icu_rule_steps.specs.ReadRules.{ReadsRules}
 use Rattle.icu_rule_steps.specs.WeightMakers.{maker_of, statement_place}
 use Rattle.icu_rule_steps.proofs.RuleLoopLemmas.{IsPlacedTo, none_placed, one_placed}

@@ -1,11 +1,11 @@
 -- What reading rules leaves.
 use Rattle.std.specs.Prelude.{◌≡◌, ◌++◌, ℕ, List, Option, Some, None}
 use Rattle.icu_options.specs.declared.settings.Strength.{Strength}
-use Rattle.icu_rules.specs.declared.statement.Relation.{Relation}
-use Rattle.icu_tailoring.specs.Rules.{Rule, relation}
-use Rattle.icu_tailoring.specs.TailoredRoots.{Root}
-use Rattle.icu_tailoring.specs.Steps.{TailoringState, before_level, before_step, case_step, mapping_step, strength_step, rule_step, state_after}
-use Rattle.icu_tailoring.specs.TailoredMappings.{symbolic_elements}
+use Rattle.icu_rule_parser.specs.declared.statement.Relation.{Relation}
+use Rattle.icu_rule_meaning.specs.Rules.{Rule, relation}
+use Rattle.icu_rule_meaning.specs.TailoredRoots.{Root}
+use Rattle.icu_rule_meaning.specs.Steps.{TailoringState, before_level, before_step, case_step, mapping_step, strength_step, rule_step, state_after}
+use Rattle.icu_rule_meaning.specs.TailoredMappings.{symbolic_elements}
 use Rattle.icu_rule_steps.specs.RuleFaults.{rule_fault, first_fault}
 use Rattle.icu_rule_steps.specs.declared.rule_step_error.RuleStepError.{RuleStepError}
 use Rattle.icu_rule_steps.specs.declared.rule_step_error.RuleStepError.TheVariants.{NoMemory, Refused}

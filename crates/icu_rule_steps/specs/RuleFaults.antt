@@ -3,19 +3,19 @@ use Rattle.std.specs.Prelude.{ℕ, Bool, true, false, ◌+◌, ◌==◌, ◌&&�
 use Rattle.unicode_normalization.specs.Forms.{nfd}
 use Rattle.icu_options.specs.declared.settings.Strength.{Strength}
 use Rattle.icu_options.specs.declared.settings.Strength.TheVariants.{Identical}
-use Rattle.icu_rules.specs.declared.statement.LogicalPosition.{LogicalPosition}
-use Rattle.icu_rules.specs.declared.statement.LogicalPosition.TheVariants.{LastImplicit, FirstTrailing, LastTrailing}
-use Rattle.icu_rules.specs.declared.rules.PlacedStatement.{PlacedStatement}
-use Rattle.icu_tailoring.specs.Rules.{ResetPlace, at_string, at_position, Rule, reset, relation, suppression, setting, level_of, statement_rules}
-use Rattle.icu_tailoring.specs.declared.symbolic.SymbolicWeight.{SymbolicWeight}
-use Rattle.icu_tailoring.specs.declared.symbolic.SymbolicWeight.TheVariants.{Rooted, Tailored}
-use Rattle.icu_tailoring.specs.declared.symbolic.SymbolicElement.{SymbolicElement}
-use Rattle.icu_tailoring.specs.WeightTrees.{weight_at_level}
-use Rattle.icu_tailoring.specs.TailoredRoots.{Root}
-use Rattle.icu_tailoring.specs.TailoredMappings.{SymbolicMappings, symbolic_elements}
-use Rattle.icu_tailoring.specs.RootPositions.{first_number}
-use Rattle.icu_tailoring.specs.Steps.{TailoringState, counting_at, last_element, place_elements, before_level, strength_step, rule_step, state_after}
-use Rattle.icu_symbolic_mappings.specs.KeptMappings.{count_with}
+use Rattle.icu_rule_parser.specs.declared.statement.LogicalPosition.{LogicalPosition}
+use Rattle.icu_rule_parser.specs.declared.statement.LogicalPosition.TheVariants.{LastImplicit, FirstTrailing, LastTrailing}
+use Rattle.icu_rule_parser.specs.declared.rules.PlacedStatement.{PlacedStatement}
+use Rattle.icu_rule_meaning.specs.Rules.{ResetPlace, at_string, at_position, Rule, reset, relation, suppression, setting, level_of, statement_rules}
+use Rattle.icu_rule_meaning.specs.declared.symbolic.SymbolicWeight.{SymbolicWeight}
+use Rattle.icu_rule_meaning.specs.declared.symbolic.SymbolicWeight.TheVariants.{Rooted, Tailored}
+use Rattle.icu_rule_meaning.specs.declared.symbolic.SymbolicElement.{SymbolicElement}
+use Rattle.icu_rule_meaning.specs.WeightTrees.{weight_at_level}
+use Rattle.icu_rule_meaning.specs.TailoredRoots.{Root}
+use Rattle.icu_rule_meaning.specs.TailoredMappings.{SymbolicMappings, symbolic_elements}
+use Rattle.icu_rule_meaning.specs.RootPositions.{first_number}
+use Rattle.icu_rule_meaning.specs.Steps.{TailoringState, counting_at, last_element, place_elements, before_level, strength_step, rule_step, state_after}
+use Rattle.icu_rule_steps.specs.symbolic_mappings.KeptMappings.{count_with}
 use Rattle.icu_rule_steps.specs.declared.rule_step_error.RuleStepError.{RuleStepError}
 use Rattle.icu_rule_steps.specs.declared.rule_step_error.RuleStepError.TheVariants as steps
 use Rattle.icu_rule_steps.specs.declared.tailoring_error.TailoringErrorKind.{TailoringErrorKind}

@@ -1,11 +1,11 @@
 -- What rules have said, as it is kept.
 use Rattle.std.specs.Prelude.{ℕ, List, map, reverse}
-use Rattle.icu_rules.specs.declared.statement.RuleSetting.{RuleSetting}
-use Rattle.icu_tailoring.specs.TailoredRoots.{RootMapping, Root}
-use Rattle.icu_tailoring.specs.Steps.{TailoringState}
-use Rattle.icu_weight_tree.specs.RuleStates.{state_with}
-use Rattle.icu_symbolic_mappings.specs.KeptMappings.{mappings_in}
-use Rattle.icu_symbolic_mappings.specs.declared.kept_mappings.Mappings.{Mappings}
+use Rattle.icu_rule_parser.specs.declared.statement.RuleSetting.{RuleSetting}
+use Rattle.icu_rule_meaning.specs.TailoredRoots.{RootMapping, Root}
+use Rattle.icu_rule_meaning.specs.Steps.{TailoringState}
+use Rattle.icu_rule_meaning.specs.weight_tree.RuleStates.{state_with}
+use Rattle.icu_rule_steps.specs.symbolic_mappings.KeptMappings.{mappings_in}
+use Rattle.icu_rule_steps.specs.declared.symbolic_mappings.kept_mappings.Mappings.{Mappings}
 use Rattle.icu_rule_steps.specs.declared.symbolic_tailoring.SymbolicTailoring.{SymbolicTailoring}
 
 -- the root of which weights and mappings are asked

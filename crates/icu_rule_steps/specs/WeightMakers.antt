@@ -1,9 +1,9 @@
 -- The statements by which tailored weights are made.
 use Rattle.std.specs.Prelude.{ℕ, nat_lt, if◌then◌else◌, List, [], ◌∷◌, Option, Some, None}
-use Rattle.icu_rules.specs.declared.rules.PlacedStatement.{PlacedStatement}
-use Rattle.icu_tailoring.specs.Rules.{statement_rules}
-use Rattle.icu_tailoring.specs.TailoredRoots.{Root}
-use Rattle.icu_tailoring.specs.Steps.{TailoringState, state_after}
+use Rattle.icu_rule_parser.specs.declared.rules.PlacedStatement.{PlacedStatement}
+use Rattle.icu_rule_meaning.specs.Rules.{statement_rules}
+use Rattle.icu_rule_meaning.specs.TailoredRoots.{Root}
+use Rattle.icu_rule_meaning.specs.Steps.{TailoringState, state_after}
 use Rattle.icu_rule_steps.specs.declared.statement_place.StatementPlace.{StatementPlace}
 
 -- where a statement stands

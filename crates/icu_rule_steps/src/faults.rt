@@ -1,14 +1,14 @@
 //! Rules that have no step.
 ghost use Rattle.std.specs.Prelude.{◌≡◌, ◌+◌, ◌<◌, true, false, nat_lt, length, MatchOption};
-ghost use Rattle.icu_tailoring.specs.Rules.{is_scalar};
-ghost use Rattle.icu_tailoring.specs.Steps.{before_level};
+ghost use Rattle.icu_rule_meaning.specs.Rules.{is_scalar};
+ghost use Rattle.icu_rule_meaning.specs.Steps.{before_level};
 ghost use Rattle.icu_rule_steps.specs.RuleFaults.{before_fault, begins_in_syllable, difference_fault, ends_in_syllable, has_no_weight, is_leading_jamo, is_reserved_position, is_vowel_jamo, level_fault, most_elements, string_fault, weight_fault};
 
 use crate::tailoring_error::TailoringErrorKind;
 use icu_options::Strength;
-use icu_rules::LogicalPosition;
-use icu_tailoring::{SymbolicElement, SymbolicWeight};
-use icu_weight_tree::{RootWeights, counting_at, last_or_ignorable};
+use icu_rule_meaning::weight_tree::{RootWeights, counting_at, last_or_ignorable};
+use icu_rule_meaning::{SymbolicElement, SymbolicWeight};
+use icu_rule_parser::LogicalPosition;
 
 /// The primary weights from here on are of characters that have none of their own, and of trailing ones.
 const FIRST_WITHOUT_OWN: u32 = 0xFE00_0000;

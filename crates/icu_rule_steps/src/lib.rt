@@ -3,8 +3,10 @@
 
 mod decomposing;
 mod faults;
+pub mod held_relations;
 mod rule_step_error;
 pub mod statement_place;
+pub mod symbolic_mappings;
 pub mod symbolic_tailoring;
 pub mod tailoring_error;
 mod weight_makers;

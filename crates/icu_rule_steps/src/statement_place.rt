@@ -1,6 +1,6 @@
 //! Where a statement stands.
 
-/// Where a statement of rules stands, as `icu_rules` counts places.
+/// Where a statement of rules stands, as `icu_rule_parser` counts places.
 #[derive(Clone, Copy, PartialEq, Eq)]
 pub struct StatementPlace {
     /// The number of characters before the statement, in its rules.

@@ -5,15 +5,17 @@ use crate::faults::{
     string_fault,
 };
 use crate::rule_step_error::RuleStepError;
+use crate::symbolic_mappings::{Mappings, RootMappings, cased_elements};
 use crate::tailoring_error::{TailoringError, TailoringErrorKind};
 use icu_options::Strength;
-use icu_rules::{
+use icu_rule_meaning::SymbolicElement;
+use icu_rule_meaning::weight_tree::{
+    RootWeights, RuleElements, WeightTreeBuilder, position_element,
+};
+use icu_rule_parser::{
     Anchor, CharacterRange, LogicalPosition, PlacedStatement, Relation, Reset, RuleSetting, Rules,
     StarredRelation, Statement,
 };
-use icu_symbolic_mappings::{Mappings, RootMappings, cased_elements};
-use icu_tailoring::SymbolicElement;
-use icu_weight_tree::{RootWeights, RuleElements, WeightTreeBuilder, position_element};
 use std::alloc::{AllocError, Global};
 
 /// What rules say: the order of weights, which have no numbers yet, the mappings of characters, and settings (UTS #35
@@ -27,15 +29,15 @@ pub struct SymbolicTailoring<'r, R> {
 
 impl<'r, R: RootWeights + RootMappings> SymbolicTailoring<'r, R> {
     ghost use Rattle.std.specs.Prelude.{◌≡◌, ◌++◌, ◌⊎◌, [], ◌∷◌, false, nat_lt, None, Some, map, reverse, IfOk, IfErr, OnOk};
-    ghost use Rattle.icu_tailoring.specs.Rules.{at_position, at_string, characters_of, lone_relation, place_of_anchor, relation, reset, rules_of, setting_rules, starred_rules, statement_rules};
-    ghost use Rattle.icu_tailoring.specs.Steps.{before_level, before_step, case_step, first_state, mapping_step, place_elements, strength_step, suppression_step, tailoring_of};
-    ghost use Rattle.icu_weight_tree.specs.RuleStates.{with_elements};
-    ghost use Rattle.icu_weight_tree.specs.TreeBuilders.{tree_of};
-    ghost use Rattle.icu_symbolic_mappings.specs.KeptMappings.{count_with, mappings_in};
-    ghost use Rattle.icu_symbolic_mappings.specs.TouchedCharacters.{HasTouched, TouchesByRule, TouchesByRules, TouchesMore};
-    ghost use Rattle.icu_tailoring.specs.RootLaws.{string_begins};
-    ghost use Rattle.icu_tailoring.specs.TailoredRoots.{Root};
-    ghost use Rattle.icu_tailoring.specs.TailoredMappings.{symbolic_elements};
+    ghost use Rattle.icu_rule_meaning.specs.Rules.{at_position, at_string, characters_of, lone_relation, place_of_anchor, relation, reset, rules_of, setting_rules, starred_rules, statement_rules};
+    ghost use Rattle.icu_rule_meaning.specs.Steps.{before_level, before_step, case_step, first_state, mapping_step, place_elements, strength_step, suppression_step, tailoring_of};
+    ghost use Rattle.icu_rule_meaning.specs.weight_tree.RuleStates.{with_elements};
+    ghost use Rattle.icu_rule_meaning.specs.weight_tree.TreeBuilders.{tree_of};
+    ghost use Rattle.icu_rule_steps.specs.symbolic_mappings.KeptMappings.{count_with, mappings_in};
+    ghost use Rattle.icu_rule_steps.specs.symbolic_mappings.TouchedCharacters.{HasTouched, TouchesByRule, TouchesByRules, TouchesMore};
+    ghost use Rattle.icu_rule_meaning.specs.RootLaws.{string_begins};
+    ghost use Rattle.icu_rule_meaning.specs.TailoredRoots.{Root};
+    ghost use Rattle.icu_rule_meaning.specs.TailoredMappings.{symbolic_elements};
     ghost use Rattle.unicode_normalization.specs.Forms.{nfd};
     ghost use Rattle.icu_rule_steps.specs.ReadRules.{IsError, IsReason, ReadsRule, ReadsRules, decomposed_step, maybe_before, rule_of_relation};
     ghost use Rattle.icu_rule_steps.specs.RuleFaults.{decomposed_fault, first_error, first_fault, maybe_before_fault, place_fault, rule_fault};

@@ -1,15 +1,15 @@
 //! The statements by which tailored weights are made.
 use crate::statement_place::StatementPlace;
+use crate::symbolic_mappings::RootMappings;
 use crate::symbolic_tailoring::SymbolicTailoring;
 use crate::tailoring_error::TailoringError;
-use icu_rules::Rules;
-use icu_symbolic_mappings::RootMappings;
-use icu_weight_tree::RootWeights;
+use icu_rule_meaning::weight_tree::RootWeights;
+use icu_rule_parser::Rules;
 use std::alloc::Global;
 
 impl<'r, R: RootWeights + RootMappings> SymbolicTailoring<'r, R> {
     ghost use Rattle.std.specs.Prelude.{◌≡◌, IfErr, IfOk};
-    ghost use Rattle.icu_tailoring.specs.Steps.{first_state};
+    ghost use Rattle.icu_rule_meaning.specs.Steps.{first_state};
     ghost use Rattle.icu_rule_steps.specs.ReadRules.{IsError};
     ghost use Rattle.icu_rule_steps.specs.RuleFaults.{first_error};
     ghost use Rattle.icu_rule_steps.specs.SymbolicTailorings.{root_in};

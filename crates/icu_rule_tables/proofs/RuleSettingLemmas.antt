@@ -3,7 +3,7 @@ use Rattle.std.proofs.Common.{◌≡◌, ℕ, ◌+◌, ◌<◌, List, Option, St
 use Rattle.std.specs.declared.alloc.Global.{Global}
 use Rattle.std.proofs.lemmas.List.{take_more, map-append, reverse-append}
 use Rattle.icu_options.specs.declared.metadata.MetadataSettings.{MetadataSettings}
-use Rattle.icu_rules.specs.declared.statement.RuleSetting.{RuleSetting}
+use Rattle.icu_rule_parser.specs.declared.statement.RuleSetting.{RuleSetting}
 use Rattle.icu_rule_tables.specs.RuleSettings.{settings_after, with_setting, reorder_words, words_with}
 
 -- the settings up to one, the last one first

@@ -1,13 +1,13 @@
 -- The elements of the roots of checked tables, and of tailorings, have lower halves of 16 bits.
 use Rattle.std.proofs.Common.{ℕ, ◌<◌, ◌^◌, List, [], ◌∷◌, map, Option, Some, None, arith}
 use Rattle.std.specs.List.{AllByRecursion}
-use Rattle.icu_entries.specs.Elements.{Element, element_of}
-use Rattle.icu_collation_data.specs.Data.{Data}
-use Rattle.icu_table_builder.specs.OwnedData.{owned_data, vectors_data}
-use Rattle.icu_table_builder.specs.declared.data_vectors.OwnedData.{OwnedData}
-use Rattle.icu_provider.specs.OwnedTables.{owned_tables}
-use Rattle.icu_provider.specs.declared.table_set.OwnedTables.{OwnedTables}
-use Rattle.icu_well_formed.specs.declared.checked.CheckedTables.{CheckedTables}
+use Rattle.icu_table_entries.specs.Elements.{Element, element_of}
+use Rattle.icu_table_data.specs.Data.{Data}
+use Rattle.icu_table_provider.specs.builder.OwnedData.{owned_data, vectors_data}
+use Rattle.icu_table_provider.specs.declared.builder.data_vectors.OwnedData.{OwnedData}
+use Rattle.icu_table_provider.specs.OwnedTables.{owned_tables}
+use Rattle.icu_table_provider.specs.declared.table_set.OwnedTables.{OwnedTables}
+use Rattle.icu_table_provider.specs.declared.well_formed.checked.CheckedTables.{CheckedTables}
 use Rattle.icu_rule_tables.specs.Tailorings.{root_beside, tailored_tables}
 use Rattle.icu_rule_tables.specs.declared.own_jamo.OwnJamo.{OwnJamo}
 use Rattle.icu_rule_tables.specs.declared.tailoring.Tailoring.{Tailoring}

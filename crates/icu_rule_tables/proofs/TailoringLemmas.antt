@@ -1,24 +1,24 @@
 -- The tables of a tailoring are those of its root, with what was made.
 use Rattle.std.proofs.Common.{◌≡◌, ℕ, List, Option, Some, Result, Ok, Err, IfErr, ap, sym, subst, ◌∙◌}
 use Rattle.std.specs.Result.{IsErrAnd}
-use Rattle.icu_table_builder.specs.declared.data_vectors.OwnedData.{OwnedData}
-use Rattle.icu_table_builder.specs.OwnedData.{owned_data}
-use Rattle.icu_provider.specs.Reorderings.{Reordering}
-use Rattle.icu_provider.specs.CollatorTables.{CollatorTables}
-use Rattle.icu_collation_data.specs.Data.{Data}
-use Rattle.icu_well_formed.specs.declared.checked.CheckedTables.{CheckedTables}
-use Rattle.icu_well_formed.specs.Checked.{checked_tables}
-use Rattle.icu_rules.specs.declared.statement.RuleSetting.{RuleSetting}
+use Rattle.icu_table_provider.specs.declared.builder.data_vectors.OwnedData.{OwnedData}
+use Rattle.icu_table_provider.specs.builder.OwnedData.{owned_data}
+use Rattle.icu_table_provider.specs.Reorderings.{Reordering}
+use Rattle.icu_table_provider.specs.CollatorTables.{CollatorTables}
+use Rattle.icu_table_data.specs.Data.{Data}
+use Rattle.icu_table_provider.specs.declared.well_formed.checked.CheckedTables.{CheckedTables}
+use Rattle.icu_table_provider.specs.well_formed.Checked.{checked_tables}
+use Rattle.icu_rule_parser.specs.declared.statement.RuleSetting.{RuleSetting}
 use Rattle.icu_rule_tables.specs.RuleSettings.{tailored_bits}
 use Rattle.icu_rule_tables.specs.Tailorings.{jamo_beside, root_beside, tables_by_rules}
 use Rattle.icu_rule_tables.specs.StatesByRules.{mappings_beside}
 use Rattle.icu_rule_tables.specs.declared.own_jamo.OwnJamo.{OwnJamo}
-use Rattle.icu_checked_root.specs.declared.checked_root.CheckedRoot.{CheckedRoot}
-use Rattle.icu_tailoring_numbers.specs.declared.tailoring_numbers.TailoringNumbers.{TailoringNumbers}
-use Rattle.icu_symbolic_mappings.specs.declared.kept_mappings.Mappings.{Mappings}
-use Rattle.icu_tailored_entries.specs.TailoredJamo.{TailorsJamo, jamo_or, root_or}
-use Rattle.icu_tailored_entries.specs.TailoredDiacritics.{TailorsDiacritics}
-use Rattle.icu_tailored_entries.specs.declared.jamo_table.JamoVectors.{JamoVectors}
+use Rattle.icu_rule_root.specs.declared.checked_root.CheckedRoot.{CheckedRoot}
+use Rattle.icu_rule_weights.specs.declared.tailoring_numbers.tailoring_numbers.TailoringNumbers.{TailoringNumbers}
+use Rattle.icu_rule_steps.specs.declared.symbolic_mappings.kept_mappings.Mappings.{Mappings}
+use Rattle.icu_rule_tables.specs.tailored_entries.TailoredJamo.{TailorsJamo, jamo_or, root_or}
+use Rattle.icu_rule_tables.specs.tailored_entries.TailoredDiacritics.{TailorsDiacritics}
+use Rattle.icu_rule_tables.specs.declared.tailored_entries.jamo_table.JamoVectors.{JamoVectors}
 use Rattle.icu_rule_tables.specs.declared.rule_tables_error.RuleTablesError.{RuleTablesError}
 
 -- the tables over a root, with these bits and diacritics

@@ -6,3 +6,5 @@ pub mod RuleSettings
 pub mod StatesByRules
 pub mod Tailorings
 pub mod inner
+pub mod tailored_entries
+pub mod script_reordering

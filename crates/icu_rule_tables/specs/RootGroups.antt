@@ -3,13 +3,13 @@
 -- weights.
 use Rattle.std.specs.Prelude.{ℕ, ◌≡◌, ◌/◌, ◌*◌, ◌<◌, ◌≤◌, ◌⊎◌, Bool, ◌&&◌, ◌||◌, ◌==◌, nat_le, nat_lt, bytes_eq, slice_index, length, if◌then◌else◌, List, [], map, filter_map, Option, Some, None}
 use Rattle.std.specs.List.{Contains, list_any, list_all}
-use Rattle.icu_entries.specs.Elements.{Element}
-use Rattle.icu_tailoring.specs.TailoredRoots.{RootMapping}
-use Rattle.icu_symbolic_mappings.specs.StoredMappings.{root_mapping}
-use Rattle.icu_symbolic_mappings.specs.declared.character_mapping.CharacterMapping.{CharacterMapping}
-use Rattle.icu_checked_root.specs.CheckedRoots.{leading_primary}
-use Rattle.icu_script_reordering.specs.declared.script_groups.ScriptSpan.{ScriptSpan}
-use Rattle.icu_script_reordering.specs.declared.script_groups.ScriptStart.{ScriptStart}
+use Rattle.icu_table_entries.specs.Elements.{Element}
+use Rattle.icu_rule_meaning.specs.TailoredRoots.{RootMapping}
+use Rattle.icu_rule_steps.specs.symbolic_mappings.StoredMappings.{root_mapping}
+use Rattle.icu_rule_steps.specs.declared.symbolic_mappings.character_mapping.CharacterMapping.{CharacterMapping}
+use Rattle.icu_rule_root.specs.CheckedRoots.{leading_primary}
+use Rattle.icu_rule_tables.specs.declared.script_reordering.script_groups.ScriptSpan.{ScriptSpan}
+use Rattle.icu_rule_tables.specs.declared.script_reordering.script_groups.ScriptStart.{ScriptStart}
 
 -- where a group begins, by a sample character and a primary weight above the separator's and below implicit ones
 abbrev pub script_start : ℕ → ℕ → Option ScriptStart

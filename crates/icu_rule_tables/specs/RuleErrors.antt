@@ -1,20 +1,20 @@
 -- What an error of tables by rules says.
 use Rattle.std.specs.Prelude.{ℕ, ◌≡◌, Bool, true, false, List, take, Option, Some}
 use Rattle.std.specs.List.{Contains}
-use Rattle.icu_rules.specs.declared.rules.PlacedStatement.{PlacedStatement}
-use Rattle.icu_rules.specs.declared.statement.Statement.{Statement}
-use Rattle.icu_rules.specs.declared.statement.Statement.TheVariants.{Setting}
-use Rattle.icu_rules.specs.declared.statement.RuleSetting.TheVariants.{Reorder}
-use Rattle.icu_rules.specs.declared.rules_error.RulesError.{RulesError}
-use Rattle.icu_rules.specs.declared.rules_error.RulesError.TheVariants as reading
-use Rattle.icu_tailoring.specs.TailoredRoots.{Root}
-use Rattle.icu_tailoring.specs.Steps.{first_state}
+use Rattle.icu_rule_parser.specs.declared.rules.PlacedStatement.{PlacedStatement}
+use Rattle.icu_rule_parser.specs.declared.statement.Statement.{Statement}
+use Rattle.icu_rule_parser.specs.declared.statement.Statement.TheVariants.{Setting}
+use Rattle.icu_rule_parser.specs.declared.statement.RuleSetting.TheVariants.{Reorder}
+use Rattle.icu_rule_parser.specs.declared.rules_error.RulesError.{RulesError}
+use Rattle.icu_rule_parser.specs.declared.rules_error.RulesError.TheVariants as reading
+use Rattle.icu_rule_meaning.specs.TailoredRoots.{Root}
+use Rattle.icu_rule_meaning.specs.Steps.{first_state}
 use Rattle.icu_rule_steps.specs.declared.tailoring_error.TailoringError.{TailoringError}
 use Rattle.icu_rule_steps.specs.declared.tailoring_error.TailoringError.TheVariants as saying
 use Rattle.icu_rule_steps.specs.RuleFaults.{first_error}
 use Rattle.icu_rule_steps.specs.WeightMakers.{maker_of}
-use Rattle.icu_tailored_entries.specs.declared.error.TailoredEntriesError.{TailoredEntriesError}
-use Rattle.icu_tailored_entries.specs.declared.error.TailoredEntriesError.TheVariants as entries
+use Rattle.icu_rule_tables.specs.declared.tailored_entries.error.TailoredEntriesError.{TailoredEntriesError}
+use Rattle.icu_rule_tables.specs.declared.tailored_entries.error.TailoredEntriesError.TheVariants as entries
 use Rattle.icu_rule_tables.specs.NoTertiary.{GivesNoTertiary}
 use Rattle.icu_rule_tables.specs.declared.rule_tables_error.RuleRefusal.{RuleRefusal}
 use Rattle.icu_rule_tables.specs.declared.rule_tables_error.RuleRefusal.TheVariants.{Unread, Unsaid, NoRoom, NoTertiary, Unreordered}

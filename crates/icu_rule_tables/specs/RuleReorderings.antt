@@ -1,15 +1,15 @@
 -- What a reordering of rules is (UTS #35 part 5, "Collation Reordering").
 use Rattle.std.specs.Prelude.{ℕ, ◌≡◌, true, List, [], map, Option, Some, None, String}
 use Rattle.std.specs.declared.alloc.Global.{Global}
-use Rattle.icu_provider.specs.Reorderings.{Reordering}
-use Rattle.icu_tailoring.specs.Steps.{TailoringState}
-use Rattle.icu_tailoring_numbers.specs.Numberings.{number_of}
-use Rattle.icu_tailoring_numbers.specs.declared.tailoring_numbers.TailoringNumbers.{TailoringNumbers}
-use Rattle.icu_checked_root.specs.declared.checked_root.CheckedRoot.{CheckedRoot}
-use Rattle.icu_script_reordering.specs.declared.script_groups.ScriptSpan.{ScriptSpan}
-use Rattle.icu_script_reordering.specs.declared.script_groups.ScriptStart.{ScriptStart}
-use Rattle.icu_script_reordering.specs.ScriptOrders.{OrdersScripts}
-use Rattle.icu_script_reordering.specs.ReorderedSpans.{IsReorderedBy}
+use Rattle.icu_table_provider.specs.Reorderings.{Reordering}
+use Rattle.icu_rule_meaning.specs.Steps.{TailoringState}
+use Rattle.icu_rule_weights.specs.tailoring_numbers.Numberings.{number_of}
+use Rattle.icu_rule_weights.specs.declared.tailoring_numbers.tailoring_numbers.TailoringNumbers.{TailoringNumbers}
+use Rattle.icu_rule_root.specs.declared.checked_root.CheckedRoot.{CheckedRoot}
+use Rattle.icu_rule_tables.specs.declared.script_reordering.script_groups.ScriptSpan.{ScriptSpan}
+use Rattle.icu_rule_tables.specs.declared.script_reordering.script_groups.ScriptStart.{ScriptStart}
+use Rattle.icu_rule_tables.specs.script_reordering.ScriptOrders.{OrdersScripts}
+use Rattle.icu_rule_tables.specs.script_reordering.ReorderedSpans.{IsReorderedBy}
 use Rattle.icu_rule_tables.specs.RootGroups.{HaveStarts, are_groups, covers_all}
 use Rattle.icu_rule_tables.specs.RuleSettings.{reorder_words}
 use Rattle.icu_rule_tables.specs.StatesByRules.{mappings_beside}

@@ -6,12 +6,12 @@ use Rattle.icu_options.specs.Metadata.{metadata_settings}
 use Rattle.icu_options.specs.declared.metadata.MetadataSettings.{MetadataSettings}
 use Rattle.icu_options.specs.declared.settings.AlternateHandling.{AlternateHandling}
 use Rattle.icu_options.specs.declared.settings.AlternateHandling.TheVariants.{NonIgnorable, Shifted, Blanked}
-use Rattle.icu_rules.specs.declared.statement.RuleSetting.{RuleSetting}
-use Rattle.icu_rules.specs.declared.statement.RuleSetting.TheVariants.{Alternate, MaxVariable, CaseFirst, Backwards, Reorder}
-use Rattle.icu_provider.specs.CollatorTables.{CollatorTables}
-use Rattle.icu_provider.specs.Metadata.{has_tailored_diacritics, is_lithuanian}
-use Rattle.icu_provider.specs.MetadataFields.{metadata_bits}
-use Rattle.icu_provider.specs.declared.metadata.MetadataFields.{MetadataFields}
+use Rattle.icu_rule_parser.specs.declared.statement.RuleSetting.{RuleSetting}
+use Rattle.icu_rule_parser.specs.declared.statement.RuleSetting.TheVariants.{Alternate, MaxVariable, CaseFirst, Backwards, Reorder}
+use Rattle.icu_table_provider.specs.CollatorTables.{CollatorTables}
+use Rattle.icu_table_provider.specs.Metadata.{has_tailored_diacritics, is_lithuanian}
+use Rattle.icu_table_provider.specs.MetadataFields.{metadata_bits}
+use Rattle.icu_table_provider.specs.declared.metadata.MetadataFields.{MetadataFields}
 
 -- settings with one of rules in its place; those that metadata have no place for change nothing
 abbrev pub with_setting : MetadataSettings → RuleSetting → MetadataSettings

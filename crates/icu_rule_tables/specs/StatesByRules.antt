@@ -1,19 +1,19 @@
 -- What rules say over the root of checked tables, and the numbers of their weights.
 use Rattle.std.specs.Prelude.{ℕ, List}
-use Rattle.icu_well_formed.specs.Checked.{checked_tables}
-use Rattle.icu_rules.specs.declared.rules.PlacedStatement.{PlacedStatement}
-use Rattle.icu_tailoring.specs.Rules.{rules_of}
-use Rattle.icu_tailoring.specs.TailoredRoots.{RootMapping, Root}
-use Rattle.icu_tailoring.specs.Steps.{TailoringState, tailoring_of}
-use Rattle.icu_tailoring.specs.SymbolicOrders.{NumbersTree}
-use Rattle.icu_tailoring_numbers.specs.declared.tailoring_numbers.TailoringNumbers.{TailoringNumbers}
-use Rattle.icu_tailoring_numbers.specs.Numberings.{numbering_of}
-use Rattle.icu_tailoring_numbers.specs.RootNeighbours.{KeepsNeighbours}
+use Rattle.icu_table_provider.specs.well_formed.Checked.{checked_tables}
+use Rattle.icu_rule_parser.specs.declared.rules.PlacedStatement.{PlacedStatement}
+use Rattle.icu_rule_meaning.specs.Rules.{rules_of}
+use Rattle.icu_rule_meaning.specs.TailoredRoots.{RootMapping, Root}
+use Rattle.icu_rule_meaning.specs.Steps.{TailoringState, tailoring_of}
+use Rattle.icu_rule_meaning.specs.SymbolicOrders.{NumbersTree}
+use Rattle.icu_rule_weights.specs.declared.tailoring_numbers.tailoring_numbers.TailoringNumbers.{TailoringNumbers}
+use Rattle.icu_rule_weights.specs.tailoring_numbers.Numberings.{numbering_of}
+use Rattle.icu_rule_weights.specs.tailoring_numbers.RootNeighbours.{KeepsNeighbours}
 use Rattle.icu_rule_steps.specs.SymbolicTailorings.{state_in}
 use Rattle.icu_rule_steps.specs.declared.symbolic_tailoring.SymbolicTailoring.{SymbolicTailoring}
-use Rattle.icu_checked_root.specs.declared.checked_root.CheckedRoot.{CheckedRoot}
-use Rattle.icu_checked_root.specs.RootEntries.{root_mappings_of}
-use Rattle.icu_checked_root.specs.StoredRoots.{stored_root, tables_beside}
+use Rattle.icu_rule_root.specs.declared.checked_root.CheckedRoot.{CheckedRoot}
+use Rattle.icu_rule_root.specs.RootEntries.{root_mappings_of}
+use Rattle.icu_rule_root.specs.StoredRoots.{stored_root, tables_beside}
 
 -- what rules say over a root
 abbrev pub state_over : CheckedRoot → List PlacedStatement → TailoringState

@@ -1,29 +1,29 @@
 -- The tables of a collation by rules.
 use Rattle.std.specs.Prelude.{ℕ, ◌≡◌, ◌<◌, List, Option, Some, None, map, option_map}
-use Rattle.icu_collation_data.specs.Data.{Data}
-use Rattle.icu_collation_data.specs.CodePointTables.{code_point_count}
-use Rattle.icu_table_builder.specs.OwnedData.{owned_data}
-use Rattle.icu_provider.specs.CollatorTables.{CollatorTables}
-use Rattle.icu_provider.specs.OwnedTables.{owned_diacritics, owned_jamo, owned_reordering}
-use Rattle.icu_provider.specs.Reorderings.{Reordering}
-use Rattle.icu_provider.specs.Tables.{Tables}
-use Rattle.icu_well_formed.specs.Checked.{checked_tables}
-use Rattle.icu_well_formed.specs.declared.checked.CheckedTables.{CheckedTables}
-use Rattle.icu_rules.specs.declared.rules.PlacedStatement.{PlacedStatement}
-use Rattle.icu_rules.specs.declared.statement.RuleSetting.{RuleSetting}
-use Rattle.icu_rules.specs.Statements.{SpellStatements}
-use Rattle.icu_tailoring.specs.Steps.{TailoringState, first_state}
-use Rattle.icu_symbolic_mappings.specs.KeptMappings.{mappings_in}
-use Rattle.icu_symbolic_mappings.specs.TouchedCharacters.{root_of}
-use Rattle.icu_symbolic_mappings.specs.declared.kept_mappings.Mappings.{Mappings}
-use Rattle.icu_tailored_entries.specs.GivenMappings.{TailorsCharacter}
-use Rattle.icu_tailored_entries.specs.TailoredJamo.{TailorsJamo}
-use Rattle.icu_tailored_entries.specs.TailoredDiacritics.{TailorsDiacritics}
-use Rattle.icu_tailoring_numbers.specs.declared.tailoring_numbers.TailoringNumbers.{TailoringNumbers}
+use Rattle.icu_table_data.specs.Data.{Data}
+use Rattle.icu_table_data.specs.CodePointTables.{code_point_count}
+use Rattle.icu_table_provider.specs.builder.OwnedData.{owned_data}
+use Rattle.icu_table_provider.specs.CollatorTables.{CollatorTables}
+use Rattle.icu_table_provider.specs.OwnedTables.{owned_diacritics, owned_jamo, owned_reordering}
+use Rattle.icu_table_provider.specs.Reorderings.{Reordering}
+use Rattle.icu_table_provider.specs.Tables.{Tables}
+use Rattle.icu_table_provider.specs.well_formed.Checked.{checked_tables}
+use Rattle.icu_table_provider.specs.declared.well_formed.checked.CheckedTables.{CheckedTables}
+use Rattle.icu_rule_parser.specs.declared.rules.PlacedStatement.{PlacedStatement}
+use Rattle.icu_rule_parser.specs.declared.statement.RuleSetting.{RuleSetting}
+use Rattle.icu_rule_parser.specs.Statements.{SpellStatements}
+use Rattle.icu_rule_meaning.specs.Steps.{TailoringState, first_state}
+use Rattle.icu_rule_steps.specs.symbolic_mappings.KeptMappings.{mappings_in}
+use Rattle.icu_rule_steps.specs.symbolic_mappings.TouchedCharacters.{root_of}
+use Rattle.icu_rule_steps.specs.declared.symbolic_mappings.kept_mappings.Mappings.{Mappings}
+use Rattle.icu_rule_tables.specs.tailored_entries.GivenMappings.{TailorsCharacter}
+use Rattle.icu_rule_tables.specs.tailored_entries.TailoredJamo.{TailorsJamo}
+use Rattle.icu_rule_tables.specs.tailored_entries.TailoredDiacritics.{TailorsDiacritics}
+use Rattle.icu_rule_weights.specs.declared.tailoring_numbers.tailoring_numbers.TailoringNumbers.{TailoringNumbers}
 use Rattle.icu_rule_steps.specs.RuleFaults.{first_error}
-use Rattle.icu_checked_root.specs.declared.checked_root.CheckedRoot.{CheckedRoot}
-use Rattle.icu_checked_root.specs.RootEntries.{root_mappings_of}
-use Rattle.icu_checked_root.specs.StoredRoots.{stored_root, tables_beside}
+use Rattle.icu_rule_root.specs.declared.checked_root.CheckedRoot.{CheckedRoot}
+use Rattle.icu_rule_root.specs.RootEntries.{root_mappings_of}
+use Rattle.icu_rule_root.specs.StoredRoots.{stored_root, tables_beside}
 use Rattle.icu_rule_tables.specs.RuleReorderings.{IsReorderingOf}
 use Rattle.icu_rule_tables.specs.RuleSettings.{tailored_bits}
 use Rattle.icu_rule_tables.specs.StatesByRules.{NumbersState, mappings_beside, state_over}

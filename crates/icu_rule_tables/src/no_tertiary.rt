@@ -1,16 +1,16 @@
 //! Relations that give an element without a tertiary weight something below it, which no table may have.
 ghost use Rattle.std.specs.Prelude.{◌≡◌, ◌≤◌, IfErr, IfOk, IfSome, ℕ, length, take};
 ghost use Rattle.std.specs.List.{list_any};
-ghost use Rattle.icu_checked_root.specs.StoredRoots.{stored_root};
+ghost use Rattle.icu_rule_root.specs.StoredRoots.{stored_root};
 ghost use Rattle.icu_rule_tables.specs.NoTertiary.{GivesNoTertiary, lacks_tertiary};
 ghost use Rattle.icu_rule_tables.specs.RuleErrors.{IsErrorOfRules};
 
 use crate::rule_tables_error::{RuleRefusal, RuleTablesError};
-use icu_checked_root::CheckedRoot;
+use icu_rule_meaning::{SymbolicElement, SymbolicWeight};
+use icu_rule_parser::{PlacedStatement, Rules};
+use icu_rule_root::CheckedRoot;
+use icu_rule_steps::symbolic_mappings::{Mappings, SymbolicMapping};
 use icu_rule_steps::{StatementPlace, SymbolicTailoring, TailoringError};
-use icu_rules::{PlacedStatement, Rules};
-use icu_symbolic_mappings::{Mappings, SymbolicMapping};
-use icu_tailoring::{SymbolicElement, SymbolicWeight};
 use std::alloc::{AllocError, Global};
 
 /// Whether an element without a tertiary weight has a quaternary weight, or case bits.

@@ -1,27 +1,27 @@
 //! The root and the table of jamo of a tailoring.
 ghost use Rattle.std.specs.Prelude.{◌≡◌, List, IfErr, IfOk};
-ghost use Rattle.icu_rules.specs.declared.rules.PlacedStatement.{PlacedStatement};
-ghost use Rattle.icu_tailoring.specs.TailoredRoots.{Root};
-ghost use Rattle.icu_collation_data.specs.StoredData.{data_of};
-ghost use Rattle.icu_provider.specs.StoredTables.{jamo_of};
-ghost use Rattle.icu_table_builder.specs.OwnedData.{owned_data, vectors_data};
-ghost use Rattle.icu_provider.specs.OwnedTables.{owned_jamo};
-ghost use Rattle.icu_well_formed.specs.Checked.{checked_tables};
-ghost use Rattle.icu_tailored_entries.specs.TailoredJamo.{TailorsJamo};
+ghost use Rattle.icu_rule_parser.specs.declared.rules.PlacedStatement.{PlacedStatement};
+ghost use Rattle.icu_rule_meaning.specs.TailoredRoots.{Root};
+ghost use Rattle.icu_table_data.specs.StoredData.{data_of};
+ghost use Rattle.icu_table_provider.specs.StoredTables.{jamo_of};
+ghost use Rattle.icu_table_provider.specs.builder.OwnedData.{owned_data, vectors_data};
+ghost use Rattle.icu_table_provider.specs.OwnedTables.{owned_jamo};
+ghost use Rattle.icu_table_provider.specs.well_formed.Checked.{checked_tables};
+ghost use Rattle.icu_rule_tables.specs.tailored_entries.TailoredJamo.{TailorsJamo};
 ghost use Rattle.icu_rule_tables.specs.RuleErrors.{IsErrorOfRules};
 ghost use Rattle.icu_rule_tables.specs.StatesByRules.{mappings_beside};
 ghost use Rattle.icu_rule_tables.specs.Tailorings.{jamo_beside, root_beside};
 
 use crate::rule_tables_error::{RuleTablesError, table_error};
-use icu_checked_root::CheckedRoot;
-use icu_collation_data::CollationData;
-use icu_entries::DataTable;
-use icu_provider::{CollationJamo, OwnedJamo};
-use icu_symbolic_mappings::Mappings;
-use icu_table_builder::{DataVectors, OwnedData};
-use icu_tailored_entries::{JamoVectors, tailored_jamo};
-use icu_tailoring_numbers::TailoringNumbers;
-use icu_well_formed::CheckedTables;
+use crate::tailored_entries::{JamoVectors, tailored_jamo};
+use icu_rule_root::CheckedRoot;
+use icu_rule_steps::symbolic_mappings::Mappings;
+use icu_rule_weights::tailoring_numbers::TailoringNumbers;
+use icu_table_data::CollationData;
+use icu_table_entries::DataTable;
+use icu_table_provider::builder::{DataVectors, OwnedData};
+use icu_table_provider::well_formed::CheckedTables;
+use icu_table_provider::{CollationJamo, OwnedJamo};
 use std::alloc::Global;
 
 /// A table of conjoining jamo, and the root to whose lists its entries refer.

@@ -1,14 +1,14 @@
 //! The numbers of tailored weights, or the statement for whose weight there is none.
 ghost use Rattle.std.specs.Prelude.{IfErr, IfOk};
-ghost use Rattle.icu_checked_root.specs.StoredRoots.{stored_root};
+ghost use Rattle.icu_rule_root.specs.StoredRoots.{stored_root};
 ghost use Rattle.icu_rule_tables.specs.RuleErrors.{IsErrorOfRules};
 ghost use Rattle.icu_rule_tables.specs.StatesByRules.{NumbersState, said_by};
 
 use crate::rule_tables_error::{RuleRefusal, RuleTablesError};
-use icu_checked_root::CheckedRoot;
+use icu_rule_parser::Rules;
+use icu_rule_root::CheckedRoot;
 use icu_rule_steps::SymbolicTailoring;
-use icu_rules::Rules;
-use icu_tailoring_numbers::{NumberingError, TailoringNumbers};
+use icu_rule_weights::tailoring_numbers::{NumberingError, TailoringNumbers};
 use std::alloc::Global;
 
 /// The error of a weight for which there is no room: that of the statement which makes it.

@@ -1,22 +1,22 @@
 //! The reordering that rules say.
 ghost use Rattle.std.specs.Prelude.{◌≡◌, IfErr, IfOk, IfSome, List, Contains, option_map};
-ghost use Rattle.icu_rules.specs.declared.rules.PlacedStatement.{PlacedStatement};
-ghost use Rattle.icu_provider.specs.OwnedTables.{owned_reordering};
-ghost use Rattle.icu_checked_root.specs.StoredRoots.{stored_root};
+ghost use Rattle.icu_rule_parser.specs.declared.rules.PlacedStatement.{PlacedStatement};
+ghost use Rattle.icu_table_provider.specs.OwnedTables.{owned_reordering};
+ghost use Rattle.icu_rule_root.specs.StoredRoots.{stored_root};
 ghost use Rattle.icu_rule_tables.specs.RuleErrors.{IsErrorOfRules, StatesReordering, is_reordering};
 ghost use Rattle.icu_rule_tables.specs.RuleReorderings.{IsReorderingOf, ReordersGroups};
 ghost use Rattle.icu_rule_tables.specs.StatesByRules.{said_by};
 
 use crate::rule_settings::reorder_words;
 use crate::rule_tables_error::{RuleRefusal, RuleTablesError};
+use crate::script_reordering::{ReorderingError, script_order, script_reordering};
 use crate::script_spans::{are_groups, covers_all, primary_numbers, script_spans};
 use crate::script_starts::script_starts;
-use icu_checked_root::CheckedRoot;
-use icu_provider::OwnedReordering;
+use icu_rule_parser::{PlacedStatement, RuleSetting, Rules, Statement};
+use icu_rule_root::CheckedRoot;
 use icu_rule_steps::{StatementPlace, SymbolicTailoring};
-use icu_rules::{PlacedStatement, RuleSetting, Rules, Statement};
-use icu_script_reordering::{ReorderingError, script_order, script_reordering};
-use icu_tailoring_numbers::TailoringNumbers;
+use icu_rule_weights::tailoring_numbers::TailoringNumbers;
+use icu_table_provider::OwnedReordering;
 use std::alloc::Global;
 
 /// Whether a statement is a reordering.

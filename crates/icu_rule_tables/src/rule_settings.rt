@@ -3,7 +3,7 @@ ghost use Rattle.std.specs.Prelude.{◌≡◌, map, option_map, reverse};
 ghost use Rattle.icu_rule_tables.specs.RuleSettings.{names_reordering, reorder_words, settings_after, with_setting, words_with};
 
 use icu_options::MetadataSettings;
-use icu_rules::RuleSetting;
+use icu_rule_parser::RuleSetting;
 
 /// Settings with one of rules in its place.
 fn with_setting(settings: MetadataSettings, said: &RuleSetting) -> MetadataSettings

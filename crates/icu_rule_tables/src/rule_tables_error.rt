@@ -1,11 +1,11 @@
 //! Why rules make no tables.
 ghost use Rattle.std.specs.Prelude.{◌≡◌};
 
-use icu_entries::{DataError, DataErrorKind, DataTable};
+use crate::script_reordering::ReorderingError;
+use crate::tailored_entries::TailoredEntriesError;
+use icu_rule_parser::{RulesError, RulesErrorKind};
 use icu_rule_steps::{TailoringError, TailoringErrorKind};
-use icu_rules::{RulesError, RulesErrorKind};
-use icu_script_reordering::ReorderingError;
-use icu_tailored_entries::TailoredEntriesError;
+use icu_table_entries::{DataError, DataErrorKind, DataTable};
 use std::alloc::{AllocError, AllocFailed};
 use thiserror::Error;
 

@@ -1,15 +1,15 @@
 //! The groups of a root with what is tailored among them, as far as their weights go.
 ghost use Rattle.std.specs.Prelude.{◌≡◌, ◌&&◌, IfOk, map};
 ghost use Rattle.std.specs.List.{list_any, list_all};
-ghost use Rattle.icu_checked_root.specs.StoredRoots.{stored_root};
-ghost use Rattle.icu_tailoring_numbers.specs.Numberings.{number_of};
+ghost use Rattle.icu_rule_root.specs.StoredRoots.{stored_root};
+ghost use Rattle.icu_rule_weights.specs.tailoring_numbers.Numberings.{number_of};
 ghost use Rattle.icu_rule_tables.specs.RootGroups.{are_groups, begins_at, begins_group, covers_all, has_weight, is_group_of, is_grouped, is_undivided};
 
-use icu_checked_root::CheckedRoot;
-use icu_script_reordering::{ScriptSpan, ScriptStart};
-use icu_tailoring::SymbolicWeight;
-use icu_tailoring_numbers::TailoringNumbers;
-use icu_weight_tree::RootWeights;
+use crate::script_reordering::{ScriptSpan, ScriptStart};
+use icu_rule_meaning::SymbolicWeight;
+use icu_rule_meaning::weight_tree::RootWeights;
+use icu_rule_root::CheckedRoot;
+use icu_rule_weights::tailoring_numbers::TailoringNumbers;
 use std::alloc::{AllocError, Global};
 
 /// The two highest bytes of the first weight that may be a character's.

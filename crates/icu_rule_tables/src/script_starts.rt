@@ -1,13 +1,13 @@
 //! Where the weights of groups begin, as the root says it.
 ghost use Rattle.std.specs.Prelude.{◌≡◌, IfOk, filter_map};
-ghost use Rattle.icu_checked_root.specs.CheckedRoots.{leading_primary};
+ghost use Rattle.icu_rule_root.specs.CheckedRoots.{leading_primary};
 ghost use Rattle.icu_rule_tables.specs.RootGroups.{HaveStarts, script_start, start_mapped};
 ghost use Rattle.icu_rule_tables.specs.StatesByRules.{mappings_beside};
 
-use icu_checked_root::CheckedRoot;
-use icu_entries::CollationElement;
-use icu_script_reordering::ScriptStart;
-use icu_symbolic_mappings::{CharacterMapping, RootMappings};
+use crate::script_reordering::ScriptStart;
+use icu_rule_root::CheckedRoot;
+use icu_rule_steps::symbolic_mappings::{CharacterMapping, RootMappings};
+use icu_table_entries::CollationElement;
 use std::alloc::{AllocError, Global};
 
 /// The character whose contractions with sample characters have the first primary weights of groups.

@@ -1,13 +1,13 @@
 //! The metadata of a tailoring.
 ghost use Rattle.std.specs.Prelude.{◌≡◌, map, reverse};
-ghost use Rattle.icu_well_formed.specs.Checked.{checked_tables};
+ghost use Rattle.icu_table_provider.specs.well_formed.Checked.{checked_tables};
 ghost use Rattle.icu_rule_tables.specs.RuleSettings.{shifts, tailored_bits};
 
 use crate::rule_settings::{names_reordering, settings_after};
 use icu_options::AlternateHandling;
-use icu_provider::{CollationMetadata, MetadataFields};
-use icu_rules::RuleSetting;
-use icu_well_formed::CheckedTables;
+use icu_rule_parser::RuleSetting;
+use icu_table_provider::well_formed::CheckedTables;
+use icu_table_provider::{CollationMetadata, MetadataFields};
 
 /// Whether variable elements are shifted.
 fn shifts(handling: AlternateHandling) -> bool

@@ -1,14 +1,14 @@
 //! The tables of a collation by rules.
 ghost use Rattle.std.specs.Prelude.{◌≡◌, List, IfErr, IfOk, option_map};
-ghost use Rattle.icu_rules.specs.declared.rules.PlacedStatement.{PlacedStatement};
-ghost use Rattle.icu_tailoring.specs.TailoredRoots.{Root};
-ghost use Rattle.icu_table_builder.specs.OwnedData.{owned_data, vectors_data};
-ghost use Rattle.icu_provider.specs.OwnedTables.{owned_diacritics, owned_reordering};
-ghost use Rattle.icu_provider.specs.StoredTables.{reordering_of};
-ghost use Rattle.icu_provider.specs.Loads.{answer};
-ghost use Rattle.icu_provider.specs.TableSets.{or_absent};
-ghost use Rattle.icu_entries.specs.declared.error.DataTable.TheVariants.{Reordering};
-ghost use Rattle.icu_checked_root.specs.StoredRoots.{stored_root};
+ghost use Rattle.icu_rule_parser.specs.declared.rules.PlacedStatement.{PlacedStatement};
+ghost use Rattle.icu_rule_meaning.specs.TailoredRoots.{Root};
+ghost use Rattle.icu_table_provider.specs.builder.OwnedData.{owned_data, vectors_data};
+ghost use Rattle.icu_table_provider.specs.OwnedTables.{owned_diacritics, owned_reordering};
+ghost use Rattle.icu_table_provider.specs.StoredTables.{reordering_of};
+ghost use Rattle.icu_table_provider.specs.Loads.{answer};
+ghost use Rattle.icu_table_provider.specs.TableSets.{or_absent};
+ghost use Rattle.icu_table_entries.specs.declared.error.DataTable.TheVariants.{Reordering};
+ghost use Rattle.icu_rule_root.specs.StoredRoots.{stored_root};
 ghost use Rattle.icu_rule_tables.specs.RuleErrors.{IsErrorOfRules};
 
 use crate::no_tertiary::refuse_no_tertiary;
@@ -16,20 +16,20 @@ use crate::own_jamo::{OwnJamo, lent_jamo, lent_root, own_jamo};
 use crate::rule_numbers::numbers_of;
 use crate::rule_reordering::rule_reordering;
 use crate::rule_tables_error::{RuleTablesError, table_error};
+use crate::tailored_entries::{tailored_data, tailored_diacritics};
 use crate::tailored_metadata::tailored_metadata;
 use crate::text_rules::rules_of_text;
-use icu_checked_root::CheckedRoot;
-use icu_entries::{DataError, DataErrorKind, DataTable};
-use icu_provider::{
+use icu_rule_parser::Rules;
+use icu_rule_root::CheckedRoot;
+use icu_rule_steps::SymbolicTailoring;
+use icu_rule_weights::tailoring_numbers::TailoringNumbers;
+use icu_table_entries::{DataError, DataErrorKind, DataTable};
+use icu_table_provider::builder::{DataVectors, OwnedData};
+use icu_table_provider::well_formed::CheckedTables;
+use icu_table_provider::{
     CollationMetadata, CollationReordering, FixedLoads, FixedProvider, OwnedDiacritics,
     OwnedReordering,
 };
-use icu_rule_steps::SymbolicTailoring;
-use icu_rules::Rules;
-use icu_table_builder::{DataVectors, OwnedData};
-use icu_tailored_entries::{tailored_data, tailored_diacritics};
-use icu_tailoring_numbers::TailoringNumbers;
-use icu_well_formed::CheckedTables;
 use std::alloc::Global;
 
 /// The tables of a collation by rules, over the root of checked tables (UTS #35 part 5, "Collation Tailorings"). It is
@@ -89,7 +89,7 @@ impl<'t> Tailoring<'t> {
     ghost use Rattle.icu_rule_tables.specs.RuleReorderings.{IsReorderingOf};
     ghost use Rattle.std.specs.Prelude.{chars};
     ghost use Rattle.icu_rule_steps.specs.SymbolicTailorings.{kept_mappings};
-    ghost use Rattle.icu_symbolic_mappings.specs.TouchedCharacters.{root_of};
+    ghost use Rattle.icu_rule_steps.specs.symbolic_mappings.TouchedCharacters.{root_of};
     ghost use Rattle.icu_rule_tables.specs.StatesByRules.{said_by};
     ghost use Rattle.icu_rule_tables.specs.Tailorings.{HasTablesOf, SaysRules, SaysText};
 
@@ -158,7 +158,7 @@ impl<'t> Tailoring<'t> {
 impl<'t> FixedProvider for Tailoring<'t> {
     ghost fixed = { λ t. loads_of (tailored_tables t) };
 
-    ghost use Rattle.icu_provider.specs.TableSets.{loads_of};
+    ghost use Rattle.icu_table_provider.specs.TableSets.{loads_of};
     ghost use Rattle.icu_rule_tables.specs.Tailorings.{tailored_tables};
 
     fn loads(&self) -> FixedLoads<'_> {

@@ -1,8 +1,8 @@
 //! The rules of a text that imports none.
 ghost use Rattle.std.specs.Prelude.{IfOk, chars, map};
-ghost use Rattle.icu_rules.specs.Statements.{SpellStatements};
+ghost use Rattle.icu_rule_parser.specs.Statements.{SpellStatements};
 
-use icu_rules::{RuleSource, Rules, RulesError};
+use icu_rule_parser::{RuleSource, Rules, RulesError};
 use std::alloc::Global;
 
 /// Where no rules come from.

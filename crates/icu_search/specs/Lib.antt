@@ -1,12 +1,6 @@
-pub mod LeastMatches
-pub mod LeastMatchLaws
-pub mod SearchPlaces
-pub mod Searches
-pub mod PartLaws
-pub mod SearchLaws
-pub mod PieceLaws
-pub mod EquivalentTextLaws
-pub mod Selections
-pub mod KnownParts
-pub mod SpansLeft
+pub mod TextOffsets
+pub mod Searchers
+pub mod SearchedTexts
+pub mod OverlappingMatches
+pub mod MatchesLeft
 pub mod inner

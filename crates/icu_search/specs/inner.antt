@@ -1,2 +1,10 @@
 -- Words of private contracts and proofs only: no public contract names them.
-pub mod HeldSpans
+pub mod PartOutcomes
+pub mod OnePrimaries
+pub mod FirstWeights
+pub mod SearchCuts
+pub mod SilentStarts
+pub mod SilentTexts
+pub mod AsciiMarks
+pub mod CountedChars
+pub mod BarrenParts

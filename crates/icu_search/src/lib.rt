@@ -1,17 +1,35 @@
-//! Search by collation: which parts of a text are found of a pattern, between which places, and in which order (UTS
-//! #10, "Searching and Matching").
+//! Search by collation (UTS #10, "Searching and Matching"): the parts of a text that are equal to a pattern by a
+//! collator.
 //!
-//! The definitions stand in `specs/`, and `laws` says what holds of them. Of code there is the selection of the least
-//! matches: `MatchEnds` tells where the matches of a text end, and `FoundSpans` gives those that are found.
+//! A `Searcher` keeps a pattern. `find` gives the first match of a text. `read` reads a text once, and `find_iter`
+//! gives all that are found in it, one by one. Patterns and texts may be in UTF-8, UTF-16 or Latin-1, damaged ones too.
 #![tactic(auto)]
 
-mod barren_part;
-mod char_span;
-mod found_spans;
-pub mod laws;
-mod match_ends;
+mod allowed_offsets;
+mod apart_leads;
+mod ascii_marks;
+mod barren_parts;
+mod boundary;
+mod counted_walk;
+mod encoded_searches;
+mod first_weights;
+mod found_matches;
+mod least_stops;
+mod overlapping_matches;
+mod part_match;
+mod part_outcome;
+mod part_walk;
+mod passed_starts;
+mod pattern_weights;
+mod search_calls;
+mod searched_text;
+mod searcher;
+mod silent_starts;
+mod text_cuts;
 
-pub use barren_part::BarrenPart;
-pub use char_span::CharSpan;
-pub use found_spans::{FoundSpans, first_least};
-pub use match_ends::MatchEnds;
+pub use boundary::Boundary;
+pub use found_matches::FoundMatches;
+pub use overlapping_matches::OverlappingMatches;
+pub use part_match::Match;
+pub use searched_text::SearchedText;
+pub use searcher::Searcher;

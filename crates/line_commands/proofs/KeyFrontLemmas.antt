@@ -2,10 +2,10 @@
 use Rattle.std.proofs.Common.{◌≡◌, ℕ, ◌≤◌, ◌⊎◌, inl, inr, List, [], ◌++◌, length, take, take_all, sym, ap, ◌∙◌, arith, subst, append_assoc}
 use Rattle.std.proofs.lemmas.List.{take-append-le}
 use Rattle.std.specs.Prelude.{Err}
-use Rattle.icu_beginnings.specs.KeyBeginnings.{AreBytes}
-use Rattle.icu_keyed_names.specs.inner.NameEntries.{prefix_of}
-use Rattle.icu_keys.specs.Writes.{WriteFails}
-use Rattle.keyed_lines.proofs.FrontTellsLemmas.{prefix_front}
+use Rattle.icu_order_levels.specs.beginnings.KeyBeginnings.{AreBytes}
+use Rattle.icu_index_keys.specs.inner.NameEntries.{prefix_of}
+use Rattle.icu_key_writers.specs.Writes.{WriteFails}
+use Rattle.line_sorts.proofs.FrontTellsLemmas.{prefix_front}
 use Rattle.line_commands.specs.declared.line_front.Full.{Full}
 use Rattle.line_commands.specs.declared.line_front.KeyFront.{KeyFront}
 use Rattle.line_commands.specs.inner.KeyFronts.{IsFrontOf, front_bytes, front_effects}

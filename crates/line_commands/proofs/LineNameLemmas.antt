@@ -1,17 +1,17 @@
 -- The order of lines is that of their keys.
 use Rattle.std.proofs.Common.{◌≡◌, ℕ, List, ap, ◌∙◌, subst, sym}
 use Rattle.std.specs.Ordering.{is_eq}
-use Rattle.icu_well_formed.specs.WellFormedTables.{IsWellFormedTables}
+use Rattle.icu_table_provider.specs.well_formed.WellFormedTables.{IsWellFormedTables}
 use Rattle.icu_collator.specs.Collators.{collation_borrowed, tables_borrowed}
 use Rattle.icu_collator.specs.declared.collator.CollatorBorrowed.{CollatorBorrowed}
 use Rattle.icu_index.proofs.NameLemmas.{names_keep}
 use Rattle.icu_index.specs.Listings.{IsStablySorted, name_order}
-use Rattle.icu_levels.specs.ListOrder.{list_order}
-use Rattle.keyed_lines.specs.FirstLines.{printed}
-use Rattle.keyed_lines.specs.InputLines.{ended_lines, lines_by}
-use Rattle.keyed_lines.specs.KeyedOrders.{ordered_as}
-use Rattle.keyed_lines.specs.SortedTexts.{SortsByKey}
-use Rattle.keyed_lines.specs.declared.sort_request.SortRequest.{SortRequest}
+use Rattle.icu_order_levels.specs.ListOrder.{list_order}
+use Rattle.line_sorts.specs.FirstLines.{printed}
+use Rattle.line_sorts.specs.InputLines.{ended_lines, lines_by}
+use Rattle.line_sorts.specs.KeyedOrders.{ordered_as}
+use Rattle.line_sorts.specs.SortedTexts.{SortsByKey}
+use Rattle.line_sorts.specs.declared.sort_request.SortRequest.{SortRequest}
 use Rattle.line_commands.specs.LineOrders.{key_of_line}
 use Rattle.line_commands.specs.SortedInputs.{SortsInput}
 

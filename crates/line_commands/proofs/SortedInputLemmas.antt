@@ -1,12 +1,12 @@
 -- Lines that are sorted by their keys are sorted by the collator.
 use Rattle.std.proofs.Common.{◌≡◌, ℕ, List, subst}
-use Rattle.icu_well_formed.specs.WellFormedTables.{IsWellFormedTables}
+use Rattle.icu_table_provider.specs.well_formed.WellFormedTables.{IsWellFormedTables}
 use Rattle.icu_collator.specs.Collators.{collation_borrowed, tables_borrowed}
 use Rattle.icu_collator.specs.declared.collator.CollatorBorrowed.{CollatorBorrowed}
-use Rattle.icu_text_order.specs.Collations.{Collation}
-use Rattle.keyed_lines.specs.InputLines.{lines_by}
-use Rattle.keyed_lines.specs.SortedTexts.{SortsByKey}
-use Rattle.keyed_lines.specs.declared.sort_request.SortRequest.{SortRequest}
+use Rattle.icu_order_texts.specs.Collations.{Collation}
+use Rattle.line_sorts.specs.InputLines.{lines_by}
+use Rattle.line_sorts.specs.SortedTexts.{SortsByKey}
+use Rattle.line_sorts.specs.declared.sort_request.SortRequest.{SortRequest}
 use Rattle.line_commands.proofs.LineNameLemmas.{sorts_input}
 use Rattle.line_commands.specs.LineOrders.{key_of_line}
 use Rattle.line_commands.specs.SortedInputs.{SortsInput}

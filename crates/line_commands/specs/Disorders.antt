@@ -1,10 +1,10 @@
 -- Lines that aren't in order.
 use Rattle.std.specs.Prelude.{ℕ, ◌+◌, Bool, List, [], ◌∷◌, Option, Some, None, if◌then◌else◌}
 use Rattle.std.specs.Ordering.{is_ge, is_gt}
-use Rattle.icu_text_order.specs.Collations.{Collation}
+use Rattle.icu_order_texts.specs.Collations.{Collation}
 use Rattle.line_commands.specs.LineOrders.{line_order}
-use Rattle.keyed_lines.specs.declared.sort_request.Repeats.TheVariants as repeats
-use Rattle.keyed_lines.specs.declared.sort_request.SortRequest.{SortRequest}
+use Rattle.line_sorts.specs.declared.sort_request.Repeats.TheVariants as repeats
+use Rattle.line_sorts.specs.declared.sort_request.SortRequest.{SortRequest}
 
 -- a line may not stand behind another: it is less, or where none may be repeated not greater
 abbrev pub stands_wrong : Collation → SortRequest → List ℕ → List ℕ → Bool

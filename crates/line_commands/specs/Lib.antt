@@ -1,10 +1,13 @@
 pub use Rattle.icu_index.specs.Listings
-pub use Rattle.keyed_lines.specs.FirstLines
-pub use Rattle.keyed_lines.specs.InputLines
-pub use Rattle.keyed_lines.specs.KeyedOrders
+pub use Rattle.line_sorts.specs.FirstLines
+pub use Rattle.line_sorts.specs.InputLines
+pub use Rattle.line_sorts.specs.KeyedOrders
 pub mod Disorders
 pub mod LineKeyTexts
 pub mod LineOrders
 pub mod Printed
 pub mod SortedInputs
 pub mod inner
+pub mod field_sorts
+pub mod field_disorders
+pub mod csv_sorts

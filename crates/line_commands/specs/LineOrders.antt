@@ -1,13 +1,13 @@
 -- The order of lines (UTS #10, "Compare Sort Keys"). A line is bytes in UTF-8 that may be damaged.
 use Rattle.std.specs.Prelude.{ℕ, List}
 use Rattle.std.specs.declared.cmp.Ordering.{Ordering}
-use Rattle.icu_encodings.specs.DecodedTexts.{utf8_text}
+use Rattle.icu_text_encodings.specs.DecodedTexts.{utf8_text}
 use Rattle.icu_index.specs.Listings.{name_order}
-use Rattle.icu_levels.specs.ListOrder.{list_order}
-use Rattle.icu_text_order.specs.Collations.{Collation}
-use Rattle.icu_text_order.specs.TextOrder.{text_key}
-use Rattle.keyed_lines.specs.KeyedOrders.{ordered_as}
-use Rattle.keyed_lines.specs.declared.line_order.LineOrder.{LineOrder}
+use Rattle.icu_order_levels.specs.ListOrder.{list_order}
+use Rattle.icu_order_texts.specs.Collations.{Collation}
+use Rattle.icu_order_texts.specs.TextOrder.{text_key}
+use Rattle.line_sorts.specs.KeyedOrders.{ordered_as}
+use Rattle.line_sorts.specs.declared.line_order.LineOrder.{LineOrder}
 
 -- the sort key of a line
 abbrev pub key_of_line : Collation → List ℕ → List ℕ

@@ -2,10 +2,10 @@
 use Rattle.std.specs.Prelude.{◌≡◌, ℕ, List}
 use Rattle.std.specs.Ordering.{is_eq}
 use Rattle.icu_index.specs.Listings.{name_order, IsStablySorted}
-use Rattle.icu_text_order.specs.Collations.{Collation}
-use Rattle.keyed_lines.specs.FirstLines.{printed}
-use Rattle.keyed_lines.specs.InputLines.{ended_lines, lines_by}
-use Rattle.keyed_lines.specs.declared.sort_request.SortRequest.{SortRequest}
+use Rattle.icu_order_texts.specs.Collations.{Collation}
+use Rattle.line_sorts.specs.FirstLines.{printed}
+use Rattle.line_sorts.specs.InputLines.{ended_lines, lines_by}
+use Rattle.line_sorts.specs.declared.sort_request.SortRequest.{SortRequest}
 use Rattle.line_commands.specs.LineOrders.{line_order}
 
 -- The output has the lines of the input in order, those of which neither comes first as they stood; where no line is

@@ -5,7 +5,7 @@ ghost use Rattle.line_commands.specs.LineOrders.{key_of_line};
 
 use crate::sorted_lines::write_line_key;
 use icu_collator::CollatorBorrowed;
-use keyed_lines::LineComparer;
+use line_sorts::LineComparer;
 use std::alloc::AllocError;
 use std::cmp::Ordering;
 

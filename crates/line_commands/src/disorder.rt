@@ -1,17 +1,17 @@
 //! Whether lines are in order.
 
 ghost use Rattle.std.specs.Prelude.{◌≡◌, IfOk};
-ghost use Rattle.keyed_lines.specs.InputLines.{lines_by};
+ghost use Rattle.line_sorts.specs.InputLines.{lines_by};
 ghost use Rattle.icu_collator.specs.Collators.{collation_borrowed, collation_kept};
 ghost use Rattle.icu_index.specs.Listings.{name_order};
-ghost use Rattle.icu_levels.specs.ListOrder.{list_order};
-ghost use Rattle.keyed_lines.specs.KeyedOrders.{with_ties};
-ghost use Rattle.keyed_lines.specs.ShownLines.{shown_lines};
+ghost use Rattle.icu_order_levels.specs.ListOrder.{list_order};
+ghost use Rattle.line_sorts.specs.KeyedOrders.{with_ties};
+ghost use Rattle.line_sorts.specs.ShownLines.{shown_lines};
 ghost use Rattle.line_commands.specs.Disorders.{first_disorder, stands_wrong};
 ghost use Rattle.line_commands.specs.LineOrders.{line_order};
 
 use icu_collator::{Collator, CollatorBorrowed};
-use keyed_lines::{Direction, LineOrder, Repeats, SortRequest, Ties, lines_by};
+use line_sorts::{Direction, LineOrder, Repeats, SortRequest, Ties, lines_by};
 use std::alloc::{AllocError, Global};
 use std::cmp::Ordering;
 

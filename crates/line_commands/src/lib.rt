@@ -2,7 +2,10 @@
 #![tactic(auto)]
 
 mod collated_lines;
+pub mod csv_sorts;
 pub mod disorder;
+pub mod field_disorders;
+pub mod field_sorts;
 mod line_front;
 pub mod line_keys_text;
 pub mod printing;

@@ -1,15 +1,15 @@
 //! The first eight bytes of sort keys.
 
 ghost use Rattle.std.specs.Prelude.{◌≡◌, ◌≤◌, ◌∷◌, ◌++◌, [], IfOk, OnErr, OnOk, length};
-ghost use Rattle.icu_beginnings.specs.KeyBeginnings.{AreBytes};
+ghost use Rattle.icu_order_levels.specs.beginnings.KeyBeginnings.{AreBytes};
 ghost use Rattle.icu_collator.specs.Collators.{collation_borrowed};
-ghost use Rattle.icu_keyed_names.specs.inner.NameEntries.{prefix_of};
-ghost use Rattle.icu_keys.specs.ListSinkLaws.{appended_nothing, appended_both};
+ghost use Rattle.icu_index_keys.specs.inner.NameEntries.{prefix_of};
+ghost use Rattle.icu_key_writers.specs.ListSinkLaws.{appended_nothing, appended_both};
 ghost use Rattle.line_commands.specs.LineOrders.{key_of_line};
 ghost use Rattle.line_commands.specs.inner.KeyFronts.{IsFrontOf};
 
 use icu_collator::{CollationKeySink, CollatorBorrowed, SortKeyError};
-use keyed_lines::key_front::key_front;
+use line_sorts::key_front::key_front;
 use std::alloc::AllocError;
 
 /// There is no room for more than eight bytes.

@@ -2,7 +2,7 @@
 
 ghost use Rattle.std.specs.Prelude.{◌≡◌, ◌++◌, ◌∷◌, [], IfOk, OnOk};
 ghost use Rattle.std.specs.List.{flat_map};
-ghost use Rattle.keyed_lines.specs.InputLines.{lines_by};
+ghost use Rattle.line_sorts.specs.InputLines.{lines_by};
 ghost use Rattle.collate_commands.specs.KeyText.{hex};
 ghost use Rattle.icu_collator.specs.Collators.{collation_borrowed, collation_kept};
 ghost use Rattle.line_commands.specs.LineKeyTexts.{keyed_line, keyed_lines_text};
@@ -10,7 +10,7 @@ ghost use Rattle.line_commands.specs.LineKeyTexts.{keyed_line, keyed_lines_text}
 use crate::sorted_lines::write_line_key;
 use collate_commands::push_hex;
 use icu_collator::{Collator, CollatorBorrowed};
-use keyed_lines::{lines_by, push_line};
+use line_sorts::{lines_by, push_line};
 use std::alloc::{AllocError, Global};
 
 /// Appends the digits of bytes, two for each.

@@ -2,16 +2,16 @@
 
 ghost use Rattle.std.specs.Prelude.{IfOk};
 ghost use Rattle.icu_collator.specs.Collators.{collation_borrowed};
-ghost use Rattle.keyed_lines.specs.OrderedTexts.{ordered_text};
-ghost use Rattle.keyed_lines.specs.ShownLines.{shown_lines};
-ghost use Rattle.keyed_lines.specs.SortedTexts.{SortsByKey};
+ghost use Rattle.line_sorts.specs.OrderedTexts.{ordered_text};
+ghost use Rattle.line_sorts.specs.ShownLines.{shown_lines};
+ghost use Rattle.line_sorts.specs.SortedTexts.{SortsByKey};
 ghost use Rattle.line_commands.specs.LineOrders.{key_of_line};
 
 use crate::collated_lines::CollatedLines;
 use crate::sort_fronts::fronts_for_sort;
 use crate::sort_keys::keys_of_lines;
 use icu_collator::CollatorBorrowed;
-use keyed_lines::{LineKeys, OrderedLines, SortRequest, text_by_fronts, text_by_keys};
+use line_sorts::{LineKeys, OrderedLines, SortRequest, text_by_fronts, text_by_keys};
 use std::alloc::{AllocError, Global};
 
 /// What lines are sorted by.

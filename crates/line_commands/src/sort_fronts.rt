@@ -2,13 +2,13 @@
 
 ghost use Rattle.std.specs.Prelude.{◌≡◌, IfOk, IfSome};
 ghost use Rattle.icu_collator.specs.Collators.{collation_borrowed};
-ghost use Rattle.keyed_lines.specs.LineFronts.{HaveFronts};
-ghost use Rattle.keyed_lines.specs.ShownLines.{shown_lines};
+ghost use Rattle.line_sorts.specs.LineFronts.{HaveFronts};
+ghost use Rattle.line_sorts.specs.ShownLines.{shown_lines};
 ghost use Rattle.line_commands.specs.LineOrders.{key_of_line};
 
 use crate::line_front::line_front;
 use icu_collator::CollatorBorrowed;
-use keyed_lines::{Repeats, SortRequest};
+use line_sorts::{Repeats, SortRequest};
 use std::alloc::{AllocError, Global};
 
 /// The numbers that the sort keys of lines begin with.

@@ -2,14 +2,14 @@
 
 ghost use Rattle.std.specs.Prelude.{◌≡◌, [], ◌∷◌, ◌++◌, IfOk, OnOk, length, map, true};
 ghost use Rattle.icu_collator.specs.Collators.{collation_borrowed};
-ghost use Rattle.keyed_lines.specs.KeyBuffers.{keys_cut, keys_in};
-ghost use Rattle.keyed_lines.specs.KeyParts.{ascends_to};
-ghost use Rattle.keyed_lines.specs.ShownLines.{shown_lines};
+ghost use Rattle.line_sorts.specs.KeyBuffers.{keys_cut, keys_in};
+ghost use Rattle.line_sorts.specs.KeyParts.{ascends_to};
+ghost use Rattle.line_sorts.specs.ShownLines.{shown_lines};
 ghost use Rattle.line_commands.specs.LineOrders.{key_of_line};
 
 use crate::sorted_lines::write_line_key;
 use icu_collator::CollatorBorrowed;
-use keyed_lines::LineKeys;
+use line_sorts::LineKeys;
 use std::alloc::{AllocError, Global};
 
 /// Writes the sort key of a line behind those in a buffer, and notes where it ends.

@@ -7,7 +7,7 @@ ghost use Rattle.line_commands.specs.SortedInputs.{SortsInput};
 
 use crate::sort_by::SortBy;
 use icu_collator::{Collator, CollatorBorrowed};
-use keyed_lines::{SortRequest, lines_by};
+use line_sorts::{SortRequest, lines_by};
 use std::alloc::{AllocError, Global};
 
 /// Writes the sort key of a line, in UTF-8 that may be damaged, behind other bytes.

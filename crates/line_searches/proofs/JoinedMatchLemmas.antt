@@ -1,6 +1,6 @@
 -- Matches of two lists where one has ended.
 use Rattle.std.proofs.Common.{◌≡◌, List, [], ◌∷◌, ◌++◌, refl, sym, ap, ◌∙◌, append-nil}
-use Rattle.icu_search.specs.LeastMatches.{Span}
+use Rattle.icu_search_places.specs.LeastMatches.{Span}
 use Rattle.line_searches.specs.JoinedMatches.{matches_joined}
 
 -- with no others a list stays

@@ -1,7 +1,7 @@
 -- The matches of several patterns together: of those that overlap the one that begins first counts, or of those that
 -- begin together the longest, as grep has it.
 use Rattle.std.specs.Prelude.{Bool, List, [], ◌∷◌, ◌&&◌, ◌||◌, ◌==◌, if◌then◌else◌, nat_le, nat_lt}
-use Rattle.icu_search.specs.LeastMatches.{Span}
+use Rattle.icu_search_places.specs.LeastMatches.{Span}
 
 -- a match begins before another, or where it begins and isn't shorter
 abbrev pub comes_first : Span → Span → Bool

@@ -1,5 +1,5 @@
-pub use Rattle.icu_search.specs.Searches
-pub use Rattle.keyed_lines.specs.InputLines
+pub use Rattle.icu_search_places.specs.Searches
+pub use Rattle.line_sorts.specs.InputLines
 pub mod JoinedMatches
 pub mod LineSearches
 pub mod ShownMatches

@@ -1,11 +1,11 @@
 -- What is found in a line (UTS #10, "Searching and Matching"). A line is bytes in UTF-8 that may be damaged.
 use Rattle.std.specs.Prelude.{ℕ, Bool, true, false, not, List, [], ◌∷◌, encode_utf8_all, map}
-use Rattle.icu_encodings.specs.DecodedTexts.{utf8_text}
-use Rattle.icu_search.specs.LeastMatches.{Span}
-use Rattle.icu_search.specs.Searches.{Search, found}
-use Rattle.icu_text_search.specs.Searchers.{search_by}
-use Rattle.icu_text_search.specs.TextOffsets.{match_in_units, str_offsets}
-use Rattle.icu_text_search.specs.declared.boundary.Boundary.{Boundary}
+use Rattle.icu_text_encodings.specs.DecodedTexts.{utf8_text}
+use Rattle.icu_search_places.specs.LeastMatches.{Span}
+use Rattle.icu_search_places.specs.Searches.{Search, found}
+use Rattle.icu_search.specs.Searchers.{search_by}
+use Rattle.icu_search.specs.TextOffsets.{match_in_units, str_offsets}
+use Rattle.icu_search.specs.declared.boundary.Boundary.{Boundary}
 use Rattle.line_searches.specs.JoinedMatches.{matches_joined}
 use Rattle.line_searches.specs.declared.search_request.Wanted.{Wanted}
 use Rattle.line_searches.specs.declared.search_request.Wanted.TheVariants.{WithMatch, WithoutMatch}

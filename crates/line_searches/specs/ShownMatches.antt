@@ -1,6 +1,6 @@
 -- How matches of a line are shown.
 use Rattle.std.specs.Prelude.{ℕ, ◌-◌, List, [], ◌∷◌, ◌++◌, codes, drop, take}
-use Rattle.icu_search.specs.LeastMatches.{Span}
+use Rattle.icu_search_places.specs.LeastMatches.{Span}
 
 -- what stands from a byte up to another
 abbrev pub bytes_between : List ℕ → ℕ → ℕ → List ℕ

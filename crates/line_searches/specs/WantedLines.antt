@@ -1,8 +1,8 @@
 -- How lines that are wanted are printed.
 use Rattle.std.specs.Prelude.{ℕ, ◌+◌, nat_lt, Bool, List, [], ◌∷◌, ◌++◌, if◌then◌else◌, filter, length}
 use Rattle.std.specs.Fmt.{decimal}
-use Rattle.icu_search.specs.LeastMatches.{Span}
-use Rattle.icu_search.specs.Searches.{Search}
+use Rattle.icu_search_places.specs.LeastMatches.{Span}
+use Rattle.icu_search_places.specs.Searches.{Search}
 use Rattle.line_searches.specs.LineSearches.{decoded_line, found_in, is_line_wanted}
 use Rattle.line_searches.specs.ShownMatches.{bytes_between, coloured, coloured_from}
 use Rattle.line_searches.specs.declared.search_request.SearchRequest.{SearchRequest}

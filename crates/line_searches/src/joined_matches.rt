@@ -3,7 +3,7 @@
 ghost use Rattle.std.specs.Prelude.{◌≡◌, ◌++◌, IfOk, OnOk, drop};
 ghost use Rattle.line_searches.specs.JoinedMatches.{comes_first, matches_joined, overlap};
 
-use icu_text_search::Match;
+use icu_search::Match;
 use std::alloc::{AllocError, Global};
 
 /// Whether a match begins before another, or where it begins and isn't shorter.

@@ -1,18 +1,18 @@
 //! The matches of a line by several patterns.
 
 ghost use Rattle.std.specs.Prelude.{◌≡◌, [], IfOk, chars, map, string_bytes};
-ghost use Rattle.icu_encodings.specs.DecodedTexts.{utf8_text};
-ghost use Rattle.icu_search.specs.Searches.{found};
-ghost use Rattle.icu_text_search.specs.SearchedTexts.{offsets_searched, searched_in, text_searched};
-ghost use Rattle.icu_text_search.specs.Searchers.{search_of};
-ghost use Rattle.icu_text_search.specs.TextOffsets.{match_in_units};
+ghost use Rattle.icu_text_encodings.specs.DecodedTexts.{utf8_text};
+ghost use Rattle.icu_search_places.specs.Searches.{found};
+ghost use Rattle.icu_search.specs.SearchedTexts.{offsets_searched, searched_in, text_searched};
+ghost use Rattle.icu_search.specs.Searchers.{search_of};
+ghost use Rattle.icu_search.specs.TextOffsets.{match_in_units};
 ghost use Rattle.line_searches.specs.LineSearches.{are_some, decoded_line, found_by, found_in, found_more, is_line_wanted};
 
 use crate::joined_matches::joined_matches;
 use crate::search_request::Wanted;
-use icu_encodings::Utf8Text;
-use icu_indexed_text::utf8_copy;
-use icu_text_search::{Boundary, Match, SearchedText, Searcher};
+use icu_search::{Boundary, Match, SearchedText, Searcher};
+use icu_search_places::indexed_text::utf8_copy;
+use icu_text_encodings::Utf8Text;
 use std::alloc::{AllocError, Global};
 
 /// A line as it decodes, with the matches that are found in it.

@@ -2,14 +2,14 @@
 
 ghost use Rattle.std.specs.Prelude.{◌≡◌, IfErr, IfOk, OnOk, map, nat_lt};
 ghost use Rattle.std.specs.Io.KnownBytes.{Appends};
-ghost use Rattle.icu_text_search.specs.Searchers.{search_of};
-ghost use Rattle.keyed_lines.specs.InputLines.{lines_by};
+ghost use Rattle.icu_search.specs.Searchers.{search_of};
+ghost use Rattle.line_sorts.specs.InputLines.{lines_by};
 ghost use Rattle.line_commands.specs.Printed.{StopsPrinting};
 ghost use Rattle.line_searches.specs.WantedLines.{count_text, wanted_count, wanted_from};
 
 use crate::search_request::SearchRequest;
 use crate::wanted_lines::{count_wanted, wanted_text};
-use icu_text_search::Searcher;
+use icu_search::Searcher;
 use line_commands::print_text;
 use program_files::ProgramError;
 use std::alloc::{AllocError, Global};

@@ -1,6 +1,6 @@
 //! Which lines are asked for, and how they are printed.
 
-use icu_text_search::Boundary;
+use icu_search::Boundary;
 
 /// Which lines are wanted.
 #[derive(Clone, Copy, PartialEq, Eq)]

@@ -5,8 +5,8 @@ ghost use Rattle.line_searches.specs.ShownMatches.{bytes_between, coloured, colo
 ghost use Rattle.line_searches.specs.WantedLines.{match_line, match_lines, match_text, number_before, printed_line};
 
 use crate::search_request::{SearchRequest, Shown};
-use icu_text_search::Match;
-use keyed_lines::push_line;
+use icu_search::Match;
+use line_sorts::push_line;
 use std::alloc::{AllocError, Global};
 
 /// What stands from a byte on.

@@ -1,8 +1,8 @@
 //! The lines that are wanted.
 
 ghost use Rattle.std.specs.Prelude.{◌≡◌, ◌++◌, IfOk, OnOk, map};
-ghost use Rattle.icu_text_search.specs.Searchers.{search_of};
-ghost use Rattle.keyed_lines.specs.InputLines.{lines_by};
+ghost use Rattle.icu_search.specs.Searchers.{search_of};
+ghost use Rattle.line_sorts.specs.InputLines.{lines_by};
 ghost use Rattle.line_searches.specs.LineSearches.{decoded_line, found_in};
 ghost use Rattle.line_searches.specs.ShownMatches.{coloured_from};
 ghost use Rattle.line_searches.specs.WantedLines.{printed_line, shown_if_wanted, shown_with, wanted_count, wanted_from, wants};
@@ -10,8 +10,8 @@ ghost use Rattle.line_searches.specs.WantedLines.{printed_line, shown_if_wanted,
 use crate::line_matches::{is_line_wanted, matches_of_line};
 use crate::search_request::{SearchRequest, Shown};
 use crate::shown_matches::{push_coloured_line, push_matches, push_printed};
-use icu_text_search::{Match, Searcher};
-use keyed_lines::lines_by;
+use icu_search::{Match, Searcher};
+use line_sorts::lines_by;
 use std::alloc::{AllocError, Global};
 
 /// Appends a line with its matches in colour, as it is printed.

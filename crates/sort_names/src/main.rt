@@ -1,4 +1,4 @@
-//! Lists a few names in order: a program over `icu_collator`, with the tables of `icu_mini`.
+//! Lists a few names in order: a program over `icu_collator`, with the tables of `icu_table_mini`.
 #![tactic(auto)]
 
 ghost use Rattle.std.specs.Prelude.{◌≡◌, map, IfOk};
@@ -8,10 +8,10 @@ ghost use Rattle.icu_index.specs.NameIndexes.{index_collation, listing};
 
 use icu_collator::options::{CollatorOptions, Strength};
 use icu_collator::provider::{DataError, DataErrorKind};
+use icu_collator::sort::{sort_texts, stable_order};
 use icu_collator::{Collator, CollatorPreferences};
 use icu_index::NameIndex;
-use icu_mini::mini::Mini;
-use icu_sort::{sort_texts, stable_order};
+use icu_table_mini::mini::Mini;
 use std::alloc::{AllocError, Global};
 use std::io;
 use std::io::Write;

@@ -4,13 +4,13 @@ ghost use Rattle.std.specs.Prelude.{◌≡◌, ℕ, List, IsErr, IfOk, OnErr};
 ghost use Rattle.std.specs.Iterator.{IsFinite};
 ghost use Rattle.unicode_normalization.specs.Forms.{nfd};
 ghost use Rattle.unicode_normalization.specs.Iter.{Spells};
-ghost use Rattle.icu_entries.specs.Elements.{Element};
-ghost use Rattle.icu_elements.specs.TextElements.{elements_of};
-ghost use Rattle.icu_elements.specs.Reading.{reading_of};
-ghost use Rattle.icu_elements.specs.ElementReaders.{elements_to_come};
-ghost use Rattle.icu_elements.specs.CollationElements.{StillGives, CanGive, IsRefused, first_of, rest_of};
+ghost use Rattle.icu_table_entries.specs.Elements.{Element};
+ghost use Rattle.icu_element_reading.specs.TextElements.{elements_of};
+ghost use Rattle.icu_element_reading.specs.Reading.{reading_of};
+ghost use Rattle.icu_element_reading.specs.ElementReaders.{elements_to_come};
+ghost use Rattle.icu_element_reading.specs.CollationElements.{StillGives, CanGive, IsRefused, first_of, rest_of};
 
-use icu_elements::{
+use icu_element_reading::{
     CollationElement, CollationElements, ElementReader, TextReading, decomposed_text,
 };
 use std::alloc::AllocError;

@@ -1,15 +1,15 @@
 //! The order of texts, their keys, and an index of names.
 
 ghost use Rattle.std.specs.Prelude.{◌≡◌, IfOk, IsOk, OnOk, OnErr, chars};
-ghost use Rattle.icu_keys.specs.KeyWrites.{WritesKey};
-ghost use Rattle.icu_text_order.specs.TextOrder.{text_order, text_key};
+ghost use Rattle.icu_key_writers.specs.KeyWrites.{WritesKey};
+ghost use Rattle.icu_order_texts.specs.TextOrder.{text_order, text_key};
 ghost use Rattle.icu_collator.specs.Collators.{collation_kept};
 ghost use Rattle.icu_index.specs.Listings.{inserted};
 ghost use Rattle.icu_index.specs.NameIndexes.{index_order, listing};
 
 use icu_collator::Collator;
 use icu_index::NameIndex;
-use icu_keys::{CollationKeySink, SortKeyError};
+use icu_key_writers::{CollationKeySink, SortKeyError};
 use std::alloc::AllocError;
 use std::cmp::Ordering;
 

@@ -1,21 +1,21 @@
 //! Which tables a collator takes, and which levels its keys have by them.
 
 ghost use Rattle.std.specs.Prelude.{◌≡◌, ◌↔◌, IsOk, IfOk, IfErr};
-ghost use Rattle.icu_provider.specs.SpecialPrimaries.{IsSpecialPrimaries, FailsSpecial};
-ghost use Rattle.icu_provider.specs.StoredTables.{special_of};
-ghost use Rattle.icu_provider.specs.TableSets.{tables_in};
-ghost use Rattle.icu_well_formed.specs.Checked.{checked_tables};
-ghost use Rattle.icu_well_formed.specs.WellFormedTables.{IsWellFormedTables, IsTrueError};
-ghost use Rattle.icu_text_order.specs.Forms.{form_by};
-ghost use Rattle.icu_weighting.specs.CheckedCollations.{collation_of};
+ghost use Rattle.icu_table_provider.specs.SpecialPrimaries.{IsSpecialPrimaries, FailsSpecial};
+ghost use Rattle.icu_table_provider.specs.StoredTables.{special_of};
+ghost use Rattle.icu_table_provider.specs.TableSets.{tables_in};
+ghost use Rattle.icu_table_provider.specs.well_formed.Checked.{checked_tables};
+ghost use Rattle.icu_table_provider.specs.well_formed.WellFormedTables.{IsWellFormedTables, IsTrueError};
+ghost use Rattle.icu_order_texts.specs.Forms.{form_by};
+ghost use Rattle.icu_order_texts.specs.weighting.CheckedCollations.{collation_of};
 
-use icu_checks::checked_set;
-use icu_entries::{DataError, DataErrorKind};
-use icu_levels::forms::KeyForm;
 use icu_options::CollatorOptionsBitField;
-use icu_provider::{CollationSpecialPrimaries, TableSet};
-use icu_weighting::key_form;
-use icu_well_formed::CheckedTables;
+use icu_order_levels::forms::KeyForm;
+use icu_order_texts::weighting::key_form;
+use icu_table_check::checked_set;
+use icu_table_entries::{DataError, DataErrorKind};
+use icu_table_provider::well_formed::CheckedTables;
+use icu_table_provider::{CollationSpecialPrimaries, TableSet};
 use std::alloc::Global;
 
 /// As `checked_set`. A wrong body may check `other` tables.

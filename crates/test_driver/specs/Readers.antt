@@ -1,8 +1,8 @@
 -- How texts are read by checked tables.
 use Rattle.std.specs.Prelude.{ℕ, Bool, Option}
-use Rattle.icu_well_formed.specs.Checked.{checked_tables}
-use Rattle.icu_well_formed.specs.declared.checked.CheckedTables.{CheckedTables}
-use Rattle.icu_elements.specs.TextElements.{Reading}
+use Rattle.icu_table_provider.specs.well_formed.Checked.{checked_tables}
+use Rattle.icu_table_provider.specs.declared.well_formed.checked.CheckedTables.{CheckedTables}
+use Rattle.icu_element_reading.specs.TextElements.{Reading}
 
 -- how texts are read by these tables, a lead byte of numbers, and the rule for Lithuanian
 abbrev pub reading_with : CheckedTables → Option ℕ → Bool → Reading

@@ -1,7 +1,7 @@
 -- What the provider of the driver returns: to a request with a type, to one for a locale alone, and to the empty
 -- request.
 use Rattle.std.specs.Prelude.{ℕ, List, [], ◌∷◌, Some, None}
-use Rattle.icu_provider.specs.Requests.{Request}
+use Rattle.icu_table_provider.specs.Requests.{Request}
 
 -- what serves a request without a type: the empty one, and one for a locale
 abbrev pub by_locale : {A : Type 0} → A → A → List ℕ → A

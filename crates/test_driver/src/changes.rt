@@ -8,7 +8,7 @@ use crate::settings::named_settings;
 use crate::state::State;
 use crate::tables::{base, copied, set};
 use crate::texts::{WrittenText, bytes_of};
-use icu_mini::mini::Mini;
+use icu_table_mini::mini::Mini;
 use std::alloc::Global;
 use std::fs;
 use std::io::BufReader;

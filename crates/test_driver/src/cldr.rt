@@ -1,12 +1,12 @@
 //! The root of CLDR, from the lines of FractionalUCA.txt.
 use crate::driver_error::DriverError;
 use crate::tables::vectors;
-use icu_cldr::{CldrRoot, ReadError, read_root};
-use icu_collation_data::CollationData;
-use icu_entries::DataError;
-use icu_mini::mini::Mini;
-use icu_provider::{CollationProvider, DataRequest};
-use icu_table_builder::DataVectors;
+use icu_cldr_root::{CldrRoot, ReadError, read_root};
+use icu_table_data::CollationData;
+use icu_table_entries::DataError;
+use icu_table_mini::mini::Mini;
+use icu_table_provider::builder::DataVectors;
+use icu_table_provider::{CollationProvider, DataRequest};
 use std::alloc::{AllocError, Global};
 use std::io::BufRead;
 

@@ -1,14 +1,14 @@
 //! Collators, and what tables are refused with.
 use crate::driver_error::{DriverError, answered};
 use crate::settings::Named;
-use icu_checks::checked_set;
-use icu_collation_data::{CodePointTable, CollationData, ContextTable};
 use icu_collator::Collator;
-use icu_entries::{DataError, DataErrorKind, DataTable};
-use icu_mini::mini::Mini;
-use icu_provider::{CollationReordering, TableSet};
-use icu_table_builder::DataVectors;
-use icu_well_formed::CheckedTables;
+use icu_table_check::checked_set;
+use icu_table_data::{CodePointTable, CollationData, ContextTable};
+use icu_table_entries::{DataError, DataErrorKind, DataTable};
+use icu_table_mini::mini::Mini;
+use icu_table_provider::builder::DataVectors;
+use icu_table_provider::well_formed::CheckedTables;
+use icu_table_provider::{CollationReordering, TableSet};
 use std::alloc::Global;
 
 /// A collator by these tables and settings. All questions make theirs here: a function with this call is dear to prove.

@@ -1,5 +1,5 @@
 //! What keeps a question from its answer.
-use icu_entries::{DataError, DataErrorKind, DataTable};
+use icu_table_entries::{DataError, DataErrorKind, DataTable};
 use std::alloc::{AllocError, AllocFailed};
 use std::io;
 

@@ -1,15 +1,15 @@
 //! The elements of texts, read in each way.
-ghost use Rattle.icu_elements.specs.CollationElements.{CanGive};
+ghost use Rattle.icu_element_reading.specs.CollationElements.{CanGive};
 
 use crate::driver_error::DriverError;
 use crate::numbers::{Item, size, written};
 use crate::readers::Reader;
 use crate::texts::{WrittenText, characters_of, several};
-use icu_cursor::{ElementCursor, LongPiece, SteadyCursor};
-use icu_decomposed_text::CountedText;
-use icu_elements::{CollationElements, all_elements};
-use icu_encodings::{Latin1Text, Utf8Text, Utf16Text};
-use icu_entries::CollationElement;
+use icu_element_cursor::{ElementCursor, LongPiece, SteadyCursor};
+use icu_element_reading::{CollationElements, all_elements};
+use icu_table_entries::CollationElement;
+use icu_text_decomposition::CountedText;
+use icu_text_encodings::{Latin1Text, Utf8Text, Utf16Text};
 use std::alloc::{AllocError, Global};
 use std::cell::Cell;
 

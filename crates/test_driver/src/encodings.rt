@@ -5,7 +5,7 @@ ghost use Rattle.std.specs.Iterator.{IsFinite};
 use crate::driver_error::DriverError;
 use crate::numbers::{size, written};
 use crate::texts::{WrittenText, two};
-use icu_encodings::{
+use icu_text_encodings::{
     Characters, CommonUnits, EncodedText, Latin1Chars, Latin1Text, Utf8Text, Utf16Chars, Utf16Text,
     utf8_chars,
 };

@@ -2,7 +2,7 @@
 use crate::driver_error::DriverError;
 use crate::numbers::{Item, single};
 use crate::readers::Reader;
-use icu_cursor::{CharFacts, FactsKind, Kept, facts_of};
+use icu_element_cursor::{CharFacts, FactsKind, Kept, facts_of};
 use std::alloc::{AllocError, Global};
 
 /// What is known of a character, and where something else is kept of it than is worked out, that as well.

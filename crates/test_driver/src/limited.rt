@@ -1,7 +1,7 @@
 //! A caller's sink that takes only so many bytes, and only so many at once, and that may refuse to finish.
 ghost use Rattle.std.specs.Prelude.{◌≡◌, ◌++◌};
-ghost use Rattle.icu_keys.specs.Sinks.{TakesBeginning};
-ghost use Rattle.icu_keys.specs.ListSinkLaws.{appended_nothing, appended_both};
+ghost use Rattle.icu_key_writers.specs.Sinks.{TakesBeginning};
+ghost use Rattle.icu_key_writers.specs.ListSinkLaws.{appended_nothing, appended_both};
 
 use crate::driver_error::DriverError;
 use crate::keys::{no_call, write};

@@ -1,7 +1,7 @@
 //! Lines of FractionalUCA.txt.
 use crate::driver_error::DriverError;
 use crate::texts::{WrittenText, characters_of};
-use icu_cldr::{CharRange, FractionalElement, Line, LineError, Mapping, Primary};
+use icu_cldr_root::{CharRange, FractionalElement, Line, LineError, Mapping, Primary};
 use std::alloc::{AllocError, Global};
 
 /// What a line says, or what was expected of it.

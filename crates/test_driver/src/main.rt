@@ -28,7 +28,7 @@ mod values;
 use crate::driver_error::DriverError;
 use crate::questions::answer;
 use crate::state::State;
-use icu_mini::mini::Mini;
+use icu_table_mini::mini::Mini;
 use std::io;
 use std::io::{BufRead, BufReader};
 use std::process::ExitCode;

@@ -19,8 +19,8 @@ use crate::state::State;
 use crate::tables::show;
 use crate::values::{compressible, entry, last, metadata, reordered};
 use icu_collator::Collator;
-use icu_mini::mini::Mini;
-use icu_numbers::digit_run_weights;
+use icu_element_matches::numbers::digit_run_weights;
+use icu_table_mini::mini::Mini;
 use std::alloc::Global;
 
 /// The questions on texts by a collator.

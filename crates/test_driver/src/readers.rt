@@ -1,15 +1,15 @@
 //! What texts are read by.
 ghost use Rattle.std.specs.Prelude.{◌≡◌, IfOk};
-ghost use Rattle.icu_well_formed.specs.Checked.{checked_tables};
-ghost use Rattle.icu_elements.specs.Reading.{element_tables, reading_of};
-ghost use Rattle.icu_facts.specs.FactsTables.{AreFacts};
-ghost use Rattle.icu_facts.specs.Named.{NamesAll};
-ghost use Rattle.icu_facts.specs.BoundaryTables.{boundary_reading};
+ghost use Rattle.icu_table_provider.specs.well_formed.Checked.{checked_tables};
+ghost use Rattle.icu_element_reading.specs.Reading.{element_tables, reading_of};
+ghost use Rattle.icu_element_facts.specs.FactsTables.{AreFacts};
+ghost use Rattle.icu_element_facts.specs.Named.{NamesAll};
+ghost use Rattle.icu_element_facts.specs.BoundaryTables.{boundary_reading};
 ghost use Rattle.test_driver.specs.Readers.{reading_with};
 
-use icu_cursor::{Boundaries, CursorTables, KeptFacts, NamedCharacters};
-use icu_elements::{ElementTables, TextReading};
-use icu_well_formed::CheckedTables;
+use icu_element_cursor::{Boundaries, CursorTables, KeptFacts, NamedCharacters};
+use icu_element_reading::{ElementTables, TextReading};
+use icu_table_provider::well_formed::CheckedTables;
 use std::alloc::{AllocError, Global};
 
 /// What texts are read by: tables, whether digits are read as numbers, and what is kept of letters.

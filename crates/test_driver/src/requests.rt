@@ -1,15 +1,15 @@
 //! What a provider is asked for, in which order, and what is made of its errors.
 ghost use Rattle.std.specs.Prelude.{◌≡◌};
 ghost use Rattle.test_driver.specs.RequestedProvider.{by_request};
-ghost use Rattle.icu_provider.specs.FixedLoads.{fixed_loads};
-ghost use Rattle.icu_provider.specs.Requests.{request_of};
+ghost use Rattle.icu_table_provider.specs.FixedLoads.{fixed_loads};
+ghost use Rattle.icu_table_provider.specs.Requests.{request_of};
 
 use crate::collators::printed;
 use crate::driver_error::DriverError;
-use icu_collation_data::CollationData;
-use icu_entries::{DataError, DataErrorKind, DataTable};
-use icu_mini::mini::Mini;
-use icu_provider::{
+use icu_table_data::CollationData;
+use icu_table_entries::{DataError, DataErrorKind, DataTable};
+use icu_table_mini::mini::Mini;
+use icu_table_provider::{
     CollationDiacritics, CollationJamo, CollationMetadata, CollationProvider, CollationReordering,
     CollationSpecialPrimaries, DataRequest, FixedLoads, load_tables,
 };

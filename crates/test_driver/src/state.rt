@@ -2,7 +2,7 @@
 use crate::readers::Reader;
 use crate::requests::Refusing;
 use icu_collator::Collator;
-use icu_mini::mini::Mini;
+use icu_table_mini::mini::Mini;
 use std::alloc::Global;
 
 /// What the program holds from one question to the next.

@@ -1,10 +1,10 @@
 //! The tables that questions are asked of.
 use crate::driver_error::DriverError;
 use crate::numbers::{list, numbers, only, written};
-use icu_collation_data::{Context, ContextMapping};
-use icu_mini::mini::Mini;
-use icu_mini::reordering_data::ReorderingData;
-use icu_table_builder::DataVectors;
+use icu_table_data::{Context, ContextMapping};
+use icu_table_mini::mini::Mini;
+use icu_table_mini::reordering_data::ReorderingData;
+use icu_table_provider::builder::DataVectors;
 use std::alloc::{AllocError, Global};
 
 /// Mini, or the variant of it with this name.

@@ -2,10 +2,10 @@
 use crate::driver_error::DriverError;
 use crate::numbers::{single, written};
 use crate::settings::GROUPS;
-use icu_collation_data::CodePointTable;
-use icu_mini::mini::Mini;
-use icu_provider::{CollationMetadata, CollationSpecialPrimaries};
-use icu_table_builder::DataVectors;
+use icu_table_data::CodePointTable;
+use icu_table_mini::mini::Mini;
+use icu_table_provider::builder::DataVectors;
+use icu_table_provider::{CollationMetadata, CollationSpecialPrimaries};
 use std::alloc::{AllocError, Global};
 
 /// The entry of a character.

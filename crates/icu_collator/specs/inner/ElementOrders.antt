@@ -2,13 +2,13 @@
 use Rattle.std.specs.Prelude.{◌≡◌, ℕ, false, List, map}
 use Rattle.std.specs.Ordering.{ordering_then}
 use Rattle.std.specs.declared.cmp.Ordering.{Ordering}
-use Rattle.icu_levels.specs.ListOrder.{list_order}
-use Rattle.icu_levels.specs.Keys.{LevelLists, secondaries_order, cases_order, tertiaries_order, quaternaries_order}
-use Rattle.icu_levels.specs.declared.forms.KeyForm.{KeyForm}
-use Rattle.icu_provider.specs.CollatorTables.{reorder}
-use Rattle.icu_weighting.specs.Collations.{Collation}
-use Rattle.icu_weighting.specs.Forms.{form_by, last_variable_by}
-use Rattle.icu_text_order.specs.TextOrder.{lists_by}
+use Rattle.icu_order_levels.specs.ListOrder.{list_order}
+use Rattle.icu_order_levels.specs.Keys.{LevelLists, secondaries_order, cases_order, tertiaries_order, quaternaries_order}
+use Rattle.icu_order_levels.specs.declared.forms.KeyForm.{KeyForm}
+use Rattle.icu_table_provider.specs.CollatorTables.{reorder}
+use Rattle.icu_order_texts.specs.weighting.Collations.{Collation}
+use Rattle.icu_order_texts.specs.weighting.Forms.{form_by, last_variable_by}
+use Rattle.icu_order_texts.specs.TextOrder.{lists_by}
 
 -- the levels in turn between the primary and the identical one
 abbrev pub after_primaries : KeyForm → LevelLists → LevelLists → Ordering

@@ -1,9 +1,9 @@
 -- Two texts of which characters are read, gone through in step, where no element is variable.
 use Rattle.std.specs.Prelude.{◌≡◌, ℕ, List, [], ◌∷◌, Option, Some, None, map}
-use Rattle.icu_cursor.specs.declared.facts_cursor.FactsCursor.{FactsCursor}
-use Rattle.icu_cursor.specs.FactsCursors.{facts_give}
-use Rattle.icu_weighting.specs.Handled.{HandledElement, stayed}
-use Rattle.icu_weighting.specs.declared.handled_element.Handled.{Handled}
+use Rattle.icu_element_cursor.specs.declared.facts_cursor.FactsCursor.{FactsCursor}
+use Rattle.icu_element_cursor.specs.FactsCursors.{facts_give}
+use Rattle.icu_order_texts.specs.weighting.Handled.{HandledElement, stayed}
+use Rattle.icu_order_texts.specs.declared.weighting.handled_element.Handled.{Handled}
 use Rattle.icu_collator.specs.inner.InStep.{from_first}
 use Rattle.icu_collator.specs.inner.LevelWeights.{level_weights}
 use Rattle.icu_collator.specs.declared.forward_levels.Level.{Level}

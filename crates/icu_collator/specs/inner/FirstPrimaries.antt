@@ -4,16 +4,16 @@ use Rattle.std.specs.Ordering.{nat_cmp}
 use Rattle.std.specs.declared.cmp.Ordering.{Ordering}
 use Rattle.std.specs.declared.cmp.Ordering.TheVariants.{Equal}
 use Rattle.unicode_normalization.specs.Forms.{nfd}
-use Rattle.icu_entries.specs.Elements.{Element}
-use Rattle.icu_levels.specs.ListOrder.{list_order}
-use Rattle.icu_elements.specs.TextElements.{elements_of}
-use Rattle.icu_cursor.specs.declared.facts_cursor.FactsCursor.{FactsCursor}
-use Rattle.icu_cursor.specs.FactsCursors.{facts_give}
-use Rattle.icu_weighting.specs.Collations.{Collation}
-use Rattle.icu_weighting.specs.Forms.{last_variable_by}
-use Rattle.icu_weighting.specs.Handled.{handled, stayed_elements}
-use Rattle.icu_weighting.specs.Levels.{primaries}
-use Rattle.icu_text_order.specs.TextOrder.{reading_by}
+use Rattle.icu_table_entries.specs.Elements.{Element}
+use Rattle.icu_order_levels.specs.ListOrder.{list_order}
+use Rattle.icu_element_reading.specs.TextElements.{elements_of}
+use Rattle.icu_element_cursor.specs.declared.facts_cursor.FactsCursor.{FactsCursor}
+use Rattle.icu_element_cursor.specs.FactsCursors.{facts_give}
+use Rattle.icu_order_texts.specs.weighting.Collations.{Collation}
+use Rattle.icu_order_texts.specs.weighting.Forms.{last_variable_by}
+use Rattle.icu_order_texts.specs.weighting.Handled.{handled, stayed_elements}
+use Rattle.icu_order_texts.specs.weighting.Levels.{primaries}
+use Rattle.icu_order_texts.specs.TextOrder.{reading_by}
 
 -- a list begins with this number, which isn't 0, or is empty where it is
 abbrev pub IsFirst : ℕ → List ℕ → Type 0

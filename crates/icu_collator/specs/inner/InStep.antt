@@ -3,13 +3,13 @@ use Rattle.std.specs.Prelude.{◌≡◌, ◌≢◌, ℕ, List, [], ◌∷◌, Op
 use Rattle.std.specs.Ordering.{ordering_then}
 use Rattle.std.specs.declared.cmp.Ordering.{Ordering}
 use Rattle.std.specs.declared.cmp.Ordering.TheVariants.{Equal}
-use Rattle.icu_levels.specs.ListOrder.{list_order}
-use Rattle.icu_levels.specs.declared.forms.KeyForm.{KeyForm}
-use Rattle.icu_levels.specs.declared.forms.SecondaryForm.TheVariants.{Forward}
-use Rattle.icu_levels.specs.declared.forms.TertiaryForm.{TertiaryForm}
-use Rattle.icu_weighting.specs.Handled.{HandledElement}
-use Rattle.icu_weighting.specs.declared.handled_element.Handled.{Handled}
-use Rattle.icu_weighting.specs.HandledSources.{handled_as}
+use Rattle.icu_order_levels.specs.ListOrder.{list_order}
+use Rattle.icu_order_levels.specs.declared.forms.KeyForm.{KeyForm}
+use Rattle.icu_order_levels.specs.declared.forms.SecondaryForm.TheVariants.{Forward}
+use Rattle.icu_order_levels.specs.declared.forms.TertiaryForm.{TertiaryForm}
+use Rattle.icu_order_texts.specs.weighting.Handled.{HandledElement}
+use Rattle.icu_order_texts.specs.declared.weighting.handled_element.Handled.{Handled}
+use Rattle.icu_order_texts.specs.weighting.HandledSources.{handled_as}
 use Rattle.icu_collator.specs.declared.forward_levels.Level.{Level}
 use Rattle.icu_collator.specs.declared.forward_levels.Level.TheVariants.{Secondary, Tertiary}
 use Rattle.icu_collator.specs.inner.LevelWeights.{weight_in, level_weights}

@@ -1,13 +1,13 @@
 -- The elements of a text that are still to come for its key.
 use Rattle.std.specs.Prelude.{ℕ, List, [], Option, Box, Some, None, map}
-use Rattle.icu_encodings.specs.declared.encoded_text.EncodedText.{Ghosts}
-use Rattle.icu_entries.specs.Elements.{Element}
-use Rattle.icu_cursor.specs.declared.first_chars.FirstChars.{FirstChars}
-use Rattle.icu_cursor.specs.declared.steady_cursor.SteadyCursor.{SteadyCursor}
-use Rattle.icu_cursor.specs.Cursors.{cursor_gives, lone_gives}
-use Rattle.icu_cursor.specs.SteadyCursors.{steady_gives}
-use Rattle.icu_weighting.specs.Handled.{HandledElement, stayed}
-use Rattle.icu_weighting.specs.VariableWeightings.{handled_after}
+use Rattle.icu_text_encodings.specs.declared.encoded_text.EncodedText.{Ghosts}
+use Rattle.icu_table_entries.specs.Elements.{Element}
+use Rattle.icu_element_cursor.specs.declared.first_chars.FirstChars.{FirstChars}
+use Rattle.icu_element_cursor.specs.declared.steady_cursor.SteadyCursor.{SteadyCursor}
+use Rattle.icu_element_cursor.specs.Cursors.{cursor_gives, lone_gives}
+use Rattle.icu_element_cursor.specs.SteadyCursors.{steady_gives}
+use Rattle.icu_order_texts.specs.weighting.Handled.{HandledElement, stayed}
+use Rattle.icu_order_texts.specs.weighting.VariableWeightings.{handled_after}
 use Rattle.icu_collator.specs.declared.key_text.KeyElements.{KeyElements}
 use Rattle.icu_collator.specs.declared.key_text.PieceElements.{PieceElements}
 use Rattle.icu_collator.specs.declared.key_text.HandledKeyText.{HandledKeyText}

@@ -1,11 +1,11 @@
 -- The weights of a level that is compared forward, of elements as they were handled.
 use Rattle.std.specs.Prelude.{ℕ, ◌==◌, List, [], ◌∷◌, ◌++◌, Option, Some, None, option_map, option_to_list, if◌then◌else◌}
-use Rattle.icu_entries.specs.Elements.{Element}
-use Rattle.icu_entries.specs.ElementConditions.{tertiary_of}
-use Rattle.icu_provider.specs.CollatorTables.{reorder_by}
-use Rattle.icu_provider.specs.StoredTables.{reordering_of}
-use Rattle.icu_weighting.specs.Handled.{HandledElement, stayed, shifted_primary}
-use Rattle.icu_weighting.specs.Levels.{primary_of, secondary_of, case_reads, case_rank, masked_tertiary, tertiary_in, quaternary_weight}
+use Rattle.icu_table_entries.specs.Elements.{Element}
+use Rattle.icu_table_entries.specs.ElementConditions.{tertiary_of}
+use Rattle.icu_table_provider.specs.CollatorTables.{reorder_by}
+use Rattle.icu_table_provider.specs.StoredTables.{reordering_of}
+use Rattle.icu_order_texts.specs.weighting.Handled.{HandledElement, stayed, shifted_primary}
+use Rattle.icu_order_texts.specs.weighting.Levels.{primary_of, secondary_of, case_reads, case_rank, masked_tertiary, tertiary_in, quaternary_weight}
 use Rattle.icu_collator.specs.declared.forward_levels.Level.{Level}
 use Rattle.icu_collator.specs.declared.forward_levels.Level.TheVariants.{Primary, Secondary, Case, Tertiary, Quaternary}
 

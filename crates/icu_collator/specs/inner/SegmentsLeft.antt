@@ -1,8 +1,8 @@
 -- What is left of the segments of a text: of the one that it is in, and those after it.
 use Rattle.std.specs.Prelude.{ℕ, ◌≡◌, Bool, true, false, List, [], ◌∷◌, map, reverse}
-use Rattle.icu_entries.specs.Elements.{Element}
-use Rattle.icu_weighting.specs.Handled.{HandledElement, stayed_elements}
-use Rattle.icu_weighting.specs.Levels.{parted}
+use Rattle.icu_table_entries.specs.Elements.{Element}
+use Rattle.icu_order_texts.specs.weighting.Handled.{HandledElement, stayed_elements}
+use Rattle.icu_order_texts.specs.weighting.Levels.{parted}
 use Rattle.icu_collator.specs.declared.segments.Segments.{Segments}
 use Rattle.icu_collator.specs.declared.segments.TwoReaders.{TwoReaders}
 

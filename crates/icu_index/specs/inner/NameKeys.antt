@@ -1,12 +1,12 @@
 -- The sort keys of names.
 use Rattle.std.specs.Prelude.{◌≡◌, ℕ, List, filter}
 use Rattle.std.specs.List.{AllByRecursion}
-use Rattle.icu_encodings.specs.DecodedTexts.{utf8_text}
-use Rattle.icu_keyed_names.specs.KeyedLists.{Keyed}
-use Rattle.icu_keyed_starts.specs.Starts.{stands_within}
-use Rattle.icu_keyed_starts.specs.declared.starts.KeyBounds.{KeyBounds}
-use Rattle.icu_text_order.specs.Collations.{Collation}
-use Rattle.icu_text_order.specs.TextOrder.{text_key}
+use Rattle.icu_text_encodings.specs.DecodedTexts.{utf8_text}
+use Rattle.icu_index_keys.specs.KeyedLists.{Keyed}
+use Rattle.icu_index_keys.specs.keyed_starts.Starts.{stands_within}
+use Rattle.icu_index_keys.specs.declared.keyed_starts.starts.KeyBounds.{KeyBounds}
+use Rattle.icu_order_texts.specs.Collations.{Collation}
+use Rattle.icu_order_texts.specs.TextOrder.{text_key}
 
 -- the sort key of a name
 abbrev pub key_of : Collation → List ℕ → List ℕ

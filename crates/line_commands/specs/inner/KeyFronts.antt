@@ -1,8 +1,8 @@
 -- The first eight bytes of sort keys.
 use Rattle.std.specs.Prelude.{◌≡◌, ℕ, List, ◌++◌, length, take, IsOk}
-use Rattle.icu_beginnings.specs.KeyBeginnings.{AreBytes}
-use Rattle.icu_keyed_names.specs.inner.NameEntries.{prefix_of}
-use Rattle.icu_keys.specs.Sinks.{SinkEffects, TakesBeginning}
+use Rattle.icu_order_levels.specs.beginnings.KeyBeginnings.{AreBytes}
+use Rattle.icu_index_keys.specs.inner.NameEntries.{prefix_of}
+use Rattle.icu_key_writers.specs.Sinks.{SinkEffects, TakesBeginning}
 use Rattle.line_commands.specs.declared.line_front.Full.{Full}
 use Rattle.line_commands.specs.declared.line_front.KeyFront.{KeyFront}
 

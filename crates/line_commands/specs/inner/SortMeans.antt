@@ -1,9 +1,9 @@
 -- What lines are sorted by.
 use Rattle.std.specs.Prelude.{◌≡◌, ℕ, List, map}
-use Rattle.keyed_lines.specs.KeyBuffers.{keys_in}
-use Rattle.keyed_lines.specs.LineFronts.{HaveFronts}
-use Rattle.keyed_lines.specs.declared.sort_request.Repeats.TheVariants.{All}
-use Rattle.keyed_lines.specs.declared.sort_request.SortRequest.{SortRequest}
+use Rattle.line_sorts.specs.KeyBuffers.{keys_in}
+use Rattle.line_sorts.specs.LineFronts.{HaveFronts}
+use Rattle.line_sorts.specs.declared.sort_request.Repeats.TheVariants.{All}
+use Rattle.line_sorts.specs.declared.sort_request.SortRequest.{SortRequest}
 use Rattle.line_commands.specs.declared.sort_by.SortBy.{SortBy}
 use Rattle.line_commands.specs.declared.sort_by.SortBy.TheVariants.{Fronts, Keys}
 

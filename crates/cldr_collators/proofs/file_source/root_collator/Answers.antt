@@ -1,6 +1,6 @@
 -- The collator has the tables of the root, and the chosen settings.
 use Rattle.std.proofs.Common.{◌∙◌, subst, sym}
-use Rattle.icu_cldr.specs.Roots.{IsRoot, root_tables}
+use Rattle.icu_cldr_root.specs.Roots.{IsRoot, root_tables}
 use Rattle.icu_collator.specs.Collators.{collation_kept}
 use Rattle.cldr_collators.proofs.RootLemmas.{chosen_merged}
 use Rattle.cldr_collators.proofs.file_source.root_collator.Goals as goal

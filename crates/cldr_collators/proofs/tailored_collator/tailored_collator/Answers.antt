@@ -1,5 +1,5 @@
 use Rattle.std.proofs.Common.{subst}
-use Rattle.icu_provider.specs.CollatorTables.{CollatorTables}
+use Rattle.icu_table_provider.specs.CollatorTables.{CollatorTables}
 use Rattle.cldr_collators.specs.RuledCollators.{ComparesByRules}
 use Rattle.cldr_collators.proofs.tailored_collator.tailored_collator.Goals as goal
 

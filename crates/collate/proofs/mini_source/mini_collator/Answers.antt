@@ -1,11 +1,11 @@
 -- What Mini returns is what the collator keeps, and the settings are those that its metadata leaves. What is refused is
 -- memory, or tables that fail a condition.
 use Rattle.std.proofs.Common.{◌≡◌, Some, ap}
-use Rattle.icu_entries.specs.declared.error.DataErrorKind.TheVariants.{NoMemory}
-use Rattle.icu_provider.specs.CollatorTables.{CollatorTables}
-use Rattle.icu_well_formed.specs.WellFormedTables.{IsWellFormedTables}
-use Rattle.icu_provider.specs.LoadedTables.{loaded_tables}
-use Rattle.icu_provider.specs.FixedLoads.{fixed_loads}
+use Rattle.icu_table_entries.specs.declared.error.DataErrorKind.TheVariants.{NoMemory}
+use Rattle.icu_table_provider.specs.CollatorTables.{CollatorTables}
+use Rattle.icu_table_provider.specs.well_formed.WellFormedTables.{IsWellFormedTables}
+use Rattle.icu_table_provider.specs.LoadedTables.{loaded_tables}
+use Rattle.icu_table_provider.specs.FixedLoads.{fixed_loads}
 use Rattle.icu_options.specs.declared.options.CollatorOptions.{CollatorOptions}
 use Rattle.icu_collator.specs.Collators.{collation_kept, request_in}
 use Rattle.collate.specs.MiniErrors.{IsForCause, mini_refuses}

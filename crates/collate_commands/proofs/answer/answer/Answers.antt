@@ -1,7 +1,7 @@
 -- The answer to the command is that to what its words name.
 use Rattle.std.proofs.Common.{◌++◌, ◌∷◌, [], chars, ap, ◌∙◌}
-use Rattle.icu_text_order.specs.Collations.{Collation}
-use Rattle.icu_text_order.specs.TextOrder.{text_order}
+use Rattle.icu_order_texts.specs.Collations.{Collation}
+use Rattle.icu_order_texts.specs.TextOrder.{text_order}
 use Rattle.collate_commands.specs.Answers.{sign_of}
 use Rattle.collate_commands.specs.KeyText.{key_text}
 use Rattle.program_files.proofs.WritingLemmas.{Keeps_same}

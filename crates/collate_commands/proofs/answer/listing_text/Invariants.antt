@@ -1,7 +1,7 @@
 -- What was appended, and then the names that are left, is the whole.
 use Rattle.std.proofs.Common.{◌≡◌, ◌++◌}
 use Rattle.icu_index.specs.NameIndexes.{listing, names_left}
-use Rattle.keyed_lines.specs.InputLines.{lines_text}
+use Rattle.line_sorts.specs.InputLines.{lines_text}
 use Rattle.collate_commands.proofs.answer.listing_text.Given as goal
 
 abbrev pub invariant-loop-name : goal.invariant-loop-name

@@ -1,7 +1,7 @@
 -- What the sink took is the key.
 use Rattle.std.proofs.Common.{◌≡◌, ◌++◌, ℕ, Vec, Global, chars, ap, ◌∙◌}
-use Rattle.icu_text_order.specs.Collations.{Collation}
-use Rattle.icu_text_order.specs.TextOrder.{text_key}
+use Rattle.icu_order_texts.specs.Collations.{Collation}
+use Rattle.icu_order_texts.specs.TextOrder.{text_key}
 use Rattle.icu_collator.specs.Collators.{collation_borrowed}
 use Rattle.collate_commands.proofs.answer.sort_key.Goals as goal
 

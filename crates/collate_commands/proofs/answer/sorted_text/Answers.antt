@@ -3,7 +3,7 @@ use Rattle.std.proofs.Common.{ap, ◌∙◌, subst, sym}
 use Rattle.icu_collator.specs.Collators.{collation_kept}
 use Rattle.icu_index.specs.Listings.{IsStablySorted, listing_of, name_order}
 use Rattle.icu_index.specs.NameIndexes.{listing}
-use Rattle.keyed_lines.specs.InputLines.{lines_of}
+use Rattle.line_sorts.specs.InputLines.{lines_of}
 use Rattle.collate_commands.specs.inner.Shown.{shown}
 use Rattle.collate_commands.proofs.answer.sorted_text.Goals as goal
 

@@ -1,9 +1,9 @@
 -- Elements that tie on two levels step by the third.
 use Rattle.std.proofs.Common.{◌≡◌, subst, rules}
-use Rattle.icu_weighting.specs.declared.handled_element.Handled.TheVariants.{Stayed}
+use Rattle.icu_order_texts.specs.declared.weighting.handled_element.Handled.TheVariants.{Stayed}
 use Rattle.icu_collator.specs.declared.forward_levels.Level.TheVariants.{Primary}
 use Rattle.icu_collator.specs.inner.InStep.{StepsBy, three_levels}
-use Rattle.icu_entries.specs.Elements.{Element}
+use Rattle.icu_table_entries.specs.Elements.{Element}
 use Rattle.std.proofs.Common.{Equal}
 use Rattle.icu_collator.proofs.FactsInStepLemmas.{same_steps, alike_steps}
 use Rattle.icu_collator.proofs.facts_in_step.order_of_elements.Goals as goal

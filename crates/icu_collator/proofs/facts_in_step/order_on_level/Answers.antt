@@ -1,6 +1,6 @@
 -- Weights are compared in turn.
 use Rattle.std.proofs.Common.{ap₂, sym, ◌∙◌, rules}
-use Rattle.icu_levels.specs.ListOrder.{list_order}
+use Rattle.icu_order_levels.specs.ListOrder.{list_order}
 use Rattle.icu_collator.specs.inner.FactsInStep.{plain_left}
 use Rattle.icu_collator.specs.inner.InStep.{from_first}
 use Rattle.icu_collator.proofs.FactsInStepLemmas.{order_by_weights, same_found}

@@ -1,5 +1,5 @@
 use Rattle.std.proofs.Common.{◌≡◌, ℕ, List}
-use Rattle.icu_levels.specs.ListOrder.{list_order}
+use Rattle.icu_order_levels.specs.ListOrder.{list_order}
 use Rattle.icu_collator.specs.inner.FactsInStep.{plain_left, weights_from}
 use Rattle.icu_collator.specs.inner.InStep.{order_from}
 use Rattle.icu_collator.specs.inner.LevelWeights.{level_weights}

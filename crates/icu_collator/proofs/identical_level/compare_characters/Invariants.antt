@@ -1,7 +1,7 @@
 use Rattle.std.proofs.Common.{◌≡◌, length, map}
 use Rattle.unicode_normalization.specs.Forms.{nfd}
-use Rattle.icu_levels.specs.ListOrder.{list_order}
-use Rattle.icu_levels.specs.Identical.{identical_rank}
+use Rattle.icu_order_levels.specs.ListOrder.{list_order}
+use Rattle.icu_order_levels.specs.Identical.{identical_rank}
 use Rattle.icu_collator.proofs.identical_level.compare_characters.Given as goal
 
 -- what is left orders as the whole

@@ -1,7 +1,7 @@
 -- The same element on both sides is passed.
 use Rattle.std.proofs.Common.{◌≡◌, ◌∷◌, ◌∙◌, sym, ap, length, arith, rules}
-use Rattle.icu_weighting.specs.HandledSources.{handled_as}
-use Rattle.icu_weighting.specs.Handled.{HandledElement}
+use Rattle.icu_order_texts.specs.weighting.HandledSources.{handled_as}
+use Rattle.icu_order_texts.specs.weighting.Handled.{HandledElement}
 use Rattle.std.proofs.Common.{List}
 use Rattle.icu_collator.specs.inner.InStep.{order_on}
 use Rattle.icu_collator.specs.inner.LevelWeights.{weight_in}

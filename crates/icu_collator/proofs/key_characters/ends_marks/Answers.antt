@@ -1,6 +1,6 @@
 use Rattle.std.proofs.Common.{◌≡◌, true, [], sym, subst, ◌∙◌, arith}
 use Rattle.unicode_normalization.specs.Order.{is_starter}
-use Rattle.icu_cursor.proofs.StandLemmas.{first_item}
+use Rattle.icu_element_cursor.proofs.StandLemmas.{first_item}
 use Rattle.icu_collator.specs.inner.KeyCharacters.{EndsMarks}
 use Rattle.icu_collator.proofs.KeyCharacterLemmas.{nothing_ends, starter_ends}
 use Rattle.icu_collator.proofs.PlainCharacterLemmas.{plain_parts}

@@ -1,7 +1,7 @@
 use Rattle.std.proofs.Common.{◌≡◌, ◌++◌, ◌∷◌, [], refl, sym, ap, ◌∙◌, rules}
 use Rattle.std.specs.Prelude.{IsTrue}
 use Rattle.unicode_normalization.specs.Forms.{nfd}
-use Rattle.icu_boundaries.proofs.NfdLemmas.{nfd-stay}
+use Rattle.icu_element_reading.proofs.boundaries.NfdLemmas.{nfd-stay}
 use Rattle.icu_collator.proofs.KeyCharacterLemmas.{plain_first, one_more}
 use Rattle.icu_collator.proofs.PlainCharacterLemmas.{plain_parts}
 use Rattle.icu_collator.proofs.key_characters.push_staying.Goals as goal

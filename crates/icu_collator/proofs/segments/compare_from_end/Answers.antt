@@ -1,7 +1,7 @@
 -- From the ends, the pair that was read decides where no later one does.
 use Rattle.std.proofs.Common.{◌≡◌, ◌∷◌, ◌∙◌, ap, sym, length, reverse, arith}
 use Rattle.std.specs.Ordering.{ordering_then, nat_cmp}
-use Rattle.icu_levels.specs.ListOrder.{list_order}
+use Rattle.icu_order_levels.specs.ListOrder.{list_order}
 use Rattle.icu_collator.specs.inner.SegmentsLeft.{this_segment}
 use Rattle.icu_collator.proofs.SegmentLemmas.{first_pair_last}
 use Rattle.icu_collator.proofs.segments.compare_from_end.Goals as goal

@@ -1,6 +1,6 @@
 use Rattle.std.proofs.Common.{◌≡◌, length, reverse}
 use Rattle.std.specs.Ordering.{ordering_then}
-use Rattle.icu_levels.specs.ListOrder.{list_order}
+use Rattle.icu_order_levels.specs.ListOrder.{list_order}
 use Rattle.icu_collator.specs.inner.SegmentsLeft.{this_segment, next_segments}
 use Rattle.icu_collator.proofs.segments.compare_from_end.Given as goal
 

@@ -1,7 +1,7 @@
 -- The surplus that was passed over counts only where the rest ties.
 use Rattle.std.proofs.Common.{◌-◌, ◌∙◌, ap, sym, length, drop, reverse}
 use Rattle.std.specs.Ordering.{ordering_then}
-use Rattle.icu_levels.specs.ListOrder.{list_order}
+use Rattle.icu_order_levels.specs.ListOrder.{list_order}
 use Rattle.icu_collator.specs.inner.SegmentsLeft.{this_segment}
 use Rattle.icu_collator.proofs.SegmentLemmas.{surplus}
 use Rattle.icu_collator.proofs.segments.compare_segment.Goals as goal

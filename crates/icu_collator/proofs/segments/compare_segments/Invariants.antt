@@ -1,5 +1,5 @@
 use Rattle.std.proofs.Common.{◌≡◌, length}
-use Rattle.icu_levels.specs.ListOrder.{segments_order}
+use Rattle.icu_order_levels.specs.ListOrder.{segments_order}
 use Rattle.icu_collator.specs.inner.SegmentsLeft.{next_segments, reversed_segments, AtOnePlace}
 use Rattle.icu_collator.proofs.segments.compare_segments.Given as goal
 

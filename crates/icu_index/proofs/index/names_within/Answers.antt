@@ -1,5 +1,5 @@
 use Rattle.std.proofs.Common.{◌∙◌, refl}
-use Rattle.icu_keyed_names.specs.KeyedLists.{keyed_names}
+use Rattle.icu_index_keys.specs.KeyedLists.{keyed_names}
 use Rattle.icu_index.proofs.NameLemmas.{stand_behind, stand_between}
 use Rattle.icu_index.proofs.index.names_within.Goals as goal
 

@@ -1,10 +1,10 @@
 -- What was made is checked; or nothing was made.
 use Rattle.std.proofs.Common.{Some, None}
-use Rattle.icu_table_builder.specs.OwnedData.{owned_data, vectors_data}
-use Rattle.icu_provider.specs.OwnedTables.{owned_jamo}
-use Rattle.icu_provider.specs.StoredTables.{jamo_of}
-use Rattle.icu_collation_data.specs.StoredData.{data_of}
-use Rattle.icu_well_formed.specs.Checked.{checked_tables}
+use Rattle.icu_table_provider.specs.builder.OwnedData.{owned_data, vectors_data}
+use Rattle.icu_table_provider.specs.OwnedTables.{owned_jamo}
+use Rattle.icu_table_provider.specs.StoredTables.{jamo_of}
+use Rattle.icu_table_data.specs.StoredData.{data_of}
+use Rattle.icu_table_provider.specs.well_formed.Checked.{checked_tables}
 use Rattle.icu_rule_tables.specs.RuleErrors.{IsErrorOfRules}
 use Rattle.icu_rule_tables.proofs.TailoringLemmas.{handed_on, jamo_checked, made_over}
 use Rattle.icu_rule_tables.proofs.own_jamo.own_jamo.Goals as goal

@@ -1,10 +1,10 @@
 -- The tree is that of what was said.
 use Rattle.std.proofs.Common.{subst}
-use Rattle.icu_tailoring.specs.WeightTrees.{WeightTree}
-use Rattle.icu_tailoring.specs.SymbolicOrders.{NumbersTree}
-use Rattle.icu_tailoring_numbers.specs.Numberings.{numbering_of}
-use Rattle.icu_tailoring_numbers.specs.RootNeighbours.{KeepsNeighbours}
-use Rattle.icu_checked_root.specs.StoredRoots.{stored_root}
+use Rattle.icu_rule_meaning.specs.WeightTrees.{WeightTree}
+use Rattle.icu_rule_meaning.specs.SymbolicOrders.{NumbersTree}
+use Rattle.icu_rule_weights.specs.tailoring_numbers.Numberings.{numbering_of}
+use Rattle.icu_rule_weights.specs.tailoring_numbers.RootNeighbours.{KeepsNeighbours}
+use Rattle.icu_rule_root.specs.StoredRoots.{stored_root}
 use Rattle.icu_rule_tables.proofs.rule_numbers.numbers_of.Goals as goal
 
 pub returns-in-Ok-clause-ok : goal.returns-in-Ok-clause-ok

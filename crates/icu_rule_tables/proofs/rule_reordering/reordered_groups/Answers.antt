@@ -1,10 +1,10 @@
 -- The groups that were made are those of the root.
 use Rattle.std.proofs.Common.{◌≡◌, true, List, [], map, sym, ap, ◌∙◌, rules}
 use Rattle.std.proofs.lemmas.Result.{IfOk-weaker}
-use Rattle.icu_tailoring.specs.WeightTrees.{WeightTree}
-use Rattle.icu_tailoring_numbers.specs.Numberings.{number_of}
-use Rattle.icu_script_reordering.specs.ScriptOrders.{OrdersScripts}
-use Rattle.icu_script_reordering.specs.ReorderedSpans.{IsReorderedBy}
+use Rattle.icu_rule_meaning.specs.WeightTrees.{WeightTree}
+use Rattle.icu_rule_weights.specs.tailoring_numbers.Numberings.{number_of}
+use Rattle.icu_rule_tables.specs.script_reordering.ScriptOrders.{OrdersScripts}
+use Rattle.icu_rule_tables.specs.script_reordering.ReorderedSpans.{IsReorderedBy}
 use Rattle.icu_rule_tables.specs.RootGroups.{are_groups, covers_all}
 use Rattle.icu_rule_tables.specs.StatesByRules.{said_by}
 use Rattle.icu_rule_tables.proofs.rule_reordering.reordered_groups.Goals as goal

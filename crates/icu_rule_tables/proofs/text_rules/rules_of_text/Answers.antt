@@ -1,8 +1,8 @@
 -- Nothing was imported.
 use Rattle.std.proofs.Common.{List, map, chars, subst}
 use Rattle.std.proofs.lemmas.Result.{IfOk-weaker}
-use Rattle.icu_rules.specs.declared.rules.PlacedStatement.{PlacedStatement}
-use Rattle.icu_rules.specs.Statements.{SpellStatements}
+use Rattle.icu_rule_parser.specs.declared.rules.PlacedStatement.{PlacedStatement}
+use Rattle.icu_rule_parser.specs.Statements.{SpellStatements}
 use Rattle.icu_rule_tables.proofs.NoImportLemmas.{same_resolved}
 use Rattle.icu_rule_tables.proofs.text_rules.rules_of_text.Goals as goal
 

@@ -1,7 +1,7 @@
 -- The first wrong line is among those that are left.
 use Rattle.std.proofs.Common.{◌≡◌, ◌+◌, drop}
 use Rattle.icu_collator.specs.Collators.{collation_borrowed}
-use Rattle.keyed_lines.specs.ShownLines.{shown_lines}
+use Rattle.line_sorts.specs.ShownLines.{shown_lines}
 use Rattle.line_commands.specs.Disorders.{disorder_behind, first_disorder, stands_wrong}
 use Rattle.line_commands.proofs.disorder.first_wrong.Given as goal
 

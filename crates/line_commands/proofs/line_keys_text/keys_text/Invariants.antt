@@ -1,7 +1,7 @@
 -- What was appended, and then what is left, is the whole.
 use Rattle.std.proofs.Common.{◌≡◌, ◌++◌, drop}
 use Rattle.icu_collator.specs.Collators.{collation_borrowed}
-use Rattle.keyed_lines.specs.ShownLines.{shown_lines}
+use Rattle.line_sorts.specs.ShownLines.{shown_lines}
 use Rattle.line_commands.specs.LineKeyTexts.{keyed_lines_text}
 use Rattle.line_commands.proofs.line_keys_text.keys_text.Given as goal
 

@@ -1,9 +1,9 @@
 -- The lines that were cut are sorted by their keys, which order as the lines do, and printed.
 use Rattle.std.proofs.Common.{◌≡◌, ap, ◌∙◌}
 use Rattle.icu_collator.specs.Collators.{collation_kept}
-use Rattle.keyed_lines.specs.InputLines.{lines_by}
-use Rattle.keyed_lines.specs.OrderedTexts.{ordered_text}
-use Rattle.keyed_lines.specs.ShownLines.{shown_lines}
+use Rattle.line_sorts.specs.InputLines.{lines_by}
+use Rattle.line_sorts.specs.OrderedTexts.{ordered_text}
+use Rattle.line_sorts.specs.ShownLines.{shown_lines}
 use Rattle.line_commands.proofs.PrintLemmas.{prints_so, stops_so}
 use Rattle.line_commands.proofs.SortedInputLemmas.{cut_sorts}
 use Rattle.line_commands.specs.SortedInputs.{SortsInput}

@@ -1,8 +1,8 @@
 -- The lines that were gone through have their numbers.
 use Rattle.std.proofs.Common.{take}
 use Rattle.icu_collator.specs.Collators.{collation_borrowed}
-use Rattle.keyed_lines.specs.LineFronts.{HaveFronts}
-use Rattle.keyed_lines.specs.ShownLines.{shown_lines}
+use Rattle.line_sorts.specs.LineFronts.{HaveFronts}
+use Rattle.line_sorts.specs.ShownLines.{shown_lines}
 use Rattle.line_commands.specs.LineOrders.{key_of_line}
 use Rattle.line_commands.proofs.sort_fronts.line_fronts.Given as goal
 

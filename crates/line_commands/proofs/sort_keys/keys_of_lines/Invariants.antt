@@ -1,9 +1,9 @@
 -- The lines that were gone through have their keys in the buffer.
 use Rattle.std.proofs.Common.{◌≡◌, length, map, take, true}
 use Rattle.icu_collator.specs.Collators.{collation_borrowed}
-use Rattle.keyed_lines.specs.KeyBuffers.{keys_cut}
-use Rattle.keyed_lines.specs.KeyParts.{ascends_to}
-use Rattle.keyed_lines.specs.ShownLines.{shown_lines}
+use Rattle.line_sorts.specs.KeyBuffers.{keys_cut}
+use Rattle.line_sorts.specs.KeyParts.{ascends_to}
+use Rattle.line_sorts.specs.ShownLines.{shown_lines}
 use Rattle.line_commands.specs.LineOrders.{key_of_line}
 use Rattle.line_commands.proofs.sort_keys.keys_of_lines.Given as goal
 

@@ -1,6 +1,6 @@
 -- The key ends where the buffer does.
 use Rattle.std.proofs.Common.{◌≡◌, [], ◌∷◌, ◌++◌, length, ap, ◌∙◌, arith, length-append}
-use Rattle.keyed_lines.proofs.KeyBufferLemmas.{ascends_more, keys_more}
+use Rattle.line_sorts.proofs.KeyBufferLemmas.{ascends_more, keys_more}
 use Rattle.icu_collator.specs.Collators.{collation_borrowed}
 use Rattle.line_commands.specs.LineOrders.{key_of_line}
 use Rattle.line_commands.proofs.sort_keys.push_line_key.Goals as goal

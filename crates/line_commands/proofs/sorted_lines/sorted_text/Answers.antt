@@ -1,7 +1,7 @@
 -- The lines that were cut are sorted by their keys, which order as the lines do.
 use Rattle.std.proofs.Common.{◌≡◌, ap, ◌∙◌}
-use Rattle.keyed_lines.specs.InputLines.{lines_by}
-use Rattle.keyed_lines.specs.ShownLines.{shown_lines}
+use Rattle.line_sorts.specs.InputLines.{lines_by}
+use Rattle.line_sorts.specs.ShownLines.{shown_lines}
 use Rattle.line_commands.proofs.SortedInputLemmas.{cut_sorts}
 use Rattle.line_commands.proofs.sorted_lines.sorted_text.Goals as goal
 

@@ -3,7 +3,7 @@ use Rattle.std.proofs.Common.{◌≡◌, ◌∙◌, ◌++◌, List, ap, append_a
 use Rattle.std.proofs.Math.ListN.{drop_of_length-le}
 use Rattle.line_searches.proofs.JoinedMatchLemmas.{first_ended, second_ended}
 use Rattle.line_searches.specs.JoinedMatches.{matches_joined}
-use Rattle.icu_search.specs.LeastMatches.{Span}
+use Rattle.icu_search_places.specs.LeastMatches.{Span}
 use Rattle.line_searches.proofs.joined_matches.joined_matches.Goals.{then-matches-test+else-j-other, else-matches-test}
 use Rattle.line_searches.proofs.joined_matches.joined_matches.Goals as goal
 

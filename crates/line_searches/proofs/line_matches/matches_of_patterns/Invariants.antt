@@ -1,6 +1,6 @@
 -- What was found so far, and then what the patterns that are left find, is all.
 use Rattle.std.proofs.Common.{◌≡◌, [], chars, drop, map}
-use Rattle.icu_text_search.specs.Searchers.{search_of}
+use Rattle.icu_search.specs.Searchers.{search_of}
 use Rattle.line_searches.specs.LineSearches.{found_more}
 use Rattle.line_searches.proofs.line_matches.matches_of_patterns.Given as goal
 

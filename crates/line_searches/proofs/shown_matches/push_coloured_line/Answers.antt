@@ -2,7 +2,7 @@
 use Rattle.std.proofs.Common.{ℕ, List, ◌+◌, ◌++◌, ◌∷◌, ◌∙◌, ap, sym, drop, append_assoc}
 use Rattle.std.proofs.Math.ListN.{drop_of_length-le}
 use Rattle.std.proofs.lemmas.List.{drop_more}
-use Rattle.icu_search.specs.LeastMatches.{Span}
+use Rattle.icu_search_places.specs.LeastMatches.{Span}
 use Rattle.line_searches.specs.ShownMatches.{coloured_from, next_coloured}
 use Rattle.line_searches.proofs.shown_matches.push_coloured_line.Goals as goal
 

@@ -1,7 +1,7 @@
 -- What was appended, and then what is left, is the whole; those that were counted, and those that are left, are all.
 use Rattle.std.proofs.Common.{◌≡◌, ◌+◌, ◌≤◌, ◌++◌, drop, map}
-use Rattle.icu_text_search.specs.Searchers.{search_of}
-use Rattle.keyed_lines.specs.ShownLines.{shown_lines}
+use Rattle.icu_search.specs.Searchers.{search_of}
+use Rattle.line_sorts.specs.ShownLines.{shown_lines}
 use Rattle.line_searches.specs.WantedLines.{wanted_count, wanted_from}
 use Rattle.line_searches.proofs.wanted_lines.wanted_text.Given as goal
 

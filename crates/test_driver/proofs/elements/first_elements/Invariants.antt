@@ -1,5 +1,5 @@
 -- The elements may be asked for again.
-use Rattle.icu_elements.specs.CollationElements.{CanGive}
+use Rattle.icu_element_reading.specs.CollationElements.{CanGive}
 use Rattle.test_driver.proofs.elements.first_elements.Given as goal
 
 abbrev pub invariant-loop : goal.invariant-loop

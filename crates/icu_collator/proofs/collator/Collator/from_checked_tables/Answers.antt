@@ -1,10 +1,10 @@
 -- What is kept beside the tables is what was worked out from them.
 use Rattle.std.proofs.Common.{◌≡◌, Result, Ok, subst, IfOk, rules}
-use Rattle.icu_elements.specs.TextElements.{Reading}
-use Rattle.icu_well_formed.specs.Checked.{checked_tables}
-use Rattle.icu_facts.specs.FactsTables.{AreFacts}
-use Rattle.icu_facts.specs.Named.{NamesAll}
-use Rattle.icu_facts.specs.BoundaryTables.{boundary_reading}
+use Rattle.icu_element_reading.specs.TextElements.{Reading}
+use Rattle.icu_table_provider.specs.well_formed.Checked.{checked_tables}
+use Rattle.icu_element_facts.specs.FactsTables.{AreFacts}
+use Rattle.icu_element_facts.specs.Named.{NamesAll}
+use Rattle.icu_element_facts.specs.BoundaryTables.{boundary_reading}
 use Rattle.icu_collator.proofs.collator.Collator.from_checked_tables.Goals as goal
 
 -- what was kept is what was made

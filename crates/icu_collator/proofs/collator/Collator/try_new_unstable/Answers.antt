@@ -1,11 +1,11 @@
 -- The tables that the provider returned are those that were refused.
 use Rattle.std.proofs.Common.{◌≡◌, Result, Ok, Err, sym, subst, IfErr, IfOk}
 use Rattle.std.specs.Result.{IsErrAnd}
-use Rattle.icu_entries.specs.declared.error.DataError.{DataError}
-use Rattle.icu_entries.specs.declared.error.DataErrorKind.TheVariants.{NoMemory}
-use Rattle.icu_provider.specs.CollatorTables.{CollatorTables}
-use Rattle.icu_well_formed.specs.WellFormedTables.{IsWellFormedTables}
-use Rattle.icu_provider.specs.TableSets.{tables_in}
+use Rattle.icu_table_entries.specs.declared.error.DataError.{DataError}
+use Rattle.icu_table_entries.specs.declared.error.DataErrorKind.TheVariants.{NoMemory}
+use Rattle.icu_table_provider.specs.CollatorTables.{CollatorTables}
+use Rattle.icu_table_provider.specs.well_formed.WellFormedTables.{IsWellFormedTables}
+use Rattle.icu_table_provider.specs.TableSets.{tables_in}
 use Rattle.icu_collator.specs.Collators.{loaded_for}
 use Rattle.icu_collator.proofs.collator.Collator.try_new_unstable.Goals as goal
 

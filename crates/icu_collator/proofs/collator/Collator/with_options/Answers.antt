@@ -1,5 +1,5 @@
 use Rattle.std.proofs.Common.{rules}
-use Rattle.icu_well_formed.specs.Checked.{checked_tables}
+use Rattle.icu_table_provider.specs.well_formed.Checked.{checked_tables}
 use Rattle.icu_collator.proofs.OtherSettings.{facts_stay}
 use Rattle.icu_collator.proofs.collator.Collator.with_options.Goals as goal
 

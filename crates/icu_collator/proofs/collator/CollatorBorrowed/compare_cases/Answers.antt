@@ -1,9 +1,9 @@
 -- The weights of the level are the cases.
 use Rattle.std.proofs.Common.{◌≡◌, ◌∙◌, Some, sym, ap}
 use Rattle.unicode_normalization.specs.Forms.{nfd}
-use Rattle.icu_weighting.specs.Forms.{form_by}
+use Rattle.icu_order_texts.specs.weighting.Forms.{form_by}
 use Rattle.icu_collator.specs.Collators.{collation_borrowed}
-use Rattle.icu_levels.specs.declared.forms.KeyForm.{KeyForm}
+use Rattle.icu_order_levels.specs.declared.forms.KeyForm.{KeyForm}
 use Rattle.icu_collator.proofs.LevelLemmas.{cases_read}
 use Rattle.icu_collator.proofs.collator.CollatorBorrowed.compare_cases.Goals as goal
 

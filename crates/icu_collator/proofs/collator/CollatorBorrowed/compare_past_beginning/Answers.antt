@@ -1,6 +1,6 @@
 -- Texts of the same units are one text.
 use Rattle.std.proofs.Common.{arith, ◌≡◌, ◌∙◌, ℕ, List, sym, ap}
-use Rattle.icu_text_order.specs.TextOrder.{text_order}
+use Rattle.icu_order_texts.specs.TextOrder.{text_order}
 use Rattle.icu_collator.specs.Collators.{collation_borrowed}
 use Rattle.icu_collator.proofs.collator.CollatorBorrowed.compare_past_beginning.Goals as goal
 

@@ -1,11 +1,11 @@
 -- The weights of the level are the secondaries.
 use Rattle.std.proofs.Common.{◌≡◌, ◌∙◌, Some, sym, ap, rules}
 use Rattle.unicode_normalization.specs.Forms.{nfd}
-use Rattle.icu_levels.specs.Keys.{secondaries_order}
-use Rattle.icu_levels.specs.declared.forms.KeyForm.{KeyForm}
-use Rattle.icu_levels.specs.declared.forms.SecondaryForm.TheVariants.{Forward}
-use Rattle.icu_weighting.specs.Forms.{form_by}
-use Rattle.icu_text_order.specs.TextOrder.{lists_by}
+use Rattle.icu_order_levels.specs.Keys.{secondaries_order}
+use Rattle.icu_order_levels.specs.declared.forms.KeyForm.{KeyForm}
+use Rattle.icu_order_levels.specs.declared.forms.SecondaryForm.TheVariants.{Forward}
+use Rattle.icu_order_texts.specs.weighting.Forms.{form_by}
+use Rattle.icu_order_texts.specs.TextOrder.{lists_by}
 use Rattle.icu_collator.specs.Collators.{collation_borrowed}
 use Rattle.icu_collator.proofs.LevelLemmas.{secondaries_read}
 use Rattle.icu_collator.proofs.collator.CollatorBorrowed.compare_secondaries.Goals as goal

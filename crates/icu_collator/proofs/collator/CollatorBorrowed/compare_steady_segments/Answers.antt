@@ -1,10 +1,10 @@
 -- The readers give the elements of the texts.
 use Rattle.std.proofs.Common.{◌∙◌, ap}
 use Rattle.unicode_normalization.specs.Forms.{nfd}
-use Rattle.icu_levels.specs.ListOrder.{segments_order}
-use Rattle.icu_weighting.specs.Handled.{stayed_elements}
-use Rattle.icu_weighting.specs.Levels.{segments}
-use Rattle.icu_text_order.specs.TextOrder.{handled_by, lists_by}
+use Rattle.icu_order_levels.specs.ListOrder.{segments_order}
+use Rattle.icu_order_texts.specs.weighting.Handled.{stayed_elements}
+use Rattle.icu_order_texts.specs.weighting.Levels.{segments}
+use Rattle.icu_order_texts.specs.TextOrder.{handled_by, lists_by}
 use Rattle.icu_collator.specs.Collators.{collation_borrowed}
 use Rattle.icu_collator.specs.HandledRests.{steady_to_come}
 use Rattle.icu_collator.specs.inner.SegmentsLeft.{reversed_segments}

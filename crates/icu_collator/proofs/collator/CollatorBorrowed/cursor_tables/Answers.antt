@@ -1,7 +1,7 @@
 -- The characters are those of texts that are read as the collation says.
 use Rattle.std.proofs.Common.{◌∙◌, sym, subst}
-use Rattle.icu_elements.specs.TextElements.{Reading}
-use Rattle.icu_facts.specs.FactsTables.{AreFacts}
+use Rattle.icu_element_reading.specs.TextElements.{Reading}
+use Rattle.icu_element_facts.specs.FactsTables.{AreFacts}
 use Rattle.icu_collator.proofs.collator.CollatorBorrowed.cursor_tables.Goals as goal
 
 pub new-requires : goal.new-requires

@@ -1,10 +1,10 @@
 -- What is known of the first character says it of the text.
 use Rattle.std.proofs.Common.{◌≡◌, ◌⊎◌, ◌∷◌, inl, inr, ⊎_elim, true}
 use Rattle.unicode_normalization.specs.Forms.{nfd}
-use Rattle.icu_elements.specs.TextElements.{elements_of}
-use Rattle.icu_weighting.specs.Forms.{last_variable_by}
-use Rattle.icu_text_order.specs.TextCuts.{begins_with_primary}
-use Rattle.icu_text_order.specs.TextOrder.{reading_by}
+use Rattle.icu_element_reading.specs.TextElements.{elements_of}
+use Rattle.icu_order_texts.specs.weighting.Forms.{last_variable_by}
+use Rattle.icu_order_texts.specs.TextCuts.{begins_with_primary}
+use Rattle.icu_order_texts.specs.TextOrder.{reading_by}
 use Rattle.icu_collator.specs.Collators.{collation_borrowed}
 use Rattle.icu_collator.proofs.FirstPrimaryLemmas.{first_has_primary, facts_lead, may_be_rest}
 use Rattle.icu_collator.proofs.collator.CollatorBorrowed.first_facts_of.Goals as goal

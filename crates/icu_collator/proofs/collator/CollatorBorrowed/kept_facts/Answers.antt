@@ -1,8 +1,8 @@
 -- What is kept of a character is true of it, and of the texts that begin with it.
 use Rattle.std.proofs.Common.{rules}
-use Rattle.icu_facts.proofs.KeptLemmas.{facts_first}
-use Rattle.icu_text_order.specs.TextOrder.{reading_by}
-use Rattle.icu_facts.specs.FactsTables.{AreFacts}
+use Rattle.icu_element_facts.proofs.KeptLemmas.{facts_first}
+use Rattle.icu_order_texts.specs.TextOrder.{reading_by}
+use Rattle.icu_element_facts.specs.FactsTables.{AreFacts}
 use Rattle.icu_collator.specs.Collators.{collation_borrowed}
 use Rattle.icu_collator.proofs.collator.CollatorBorrowed.kept_facts.Goals as goal
 

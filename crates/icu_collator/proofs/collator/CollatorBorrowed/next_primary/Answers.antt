@@ -1,7 +1,7 @@
 -- Elements that don't count are passed over, and one above the variable ones gives its primary.
 use Rattle.std.proofs.Common.{◌≡◌, ◌<◌, ◌≤◌, ◌⊎◌, ⊎_elim, inl, inr, ℕ, [], subst, sym}
-use Rattle.icu_entries.specs.ElementConditions.{separator_primary}
-use Rattle.icu_weighting.specs.Forms.{last_variable_by}
+use Rattle.icu_table_entries.specs.ElementConditions.{separator_primary}
+use Rattle.icu_order_texts.specs.weighting.Forms.{last_variable_by}
 use Rattle.icu_collator.specs.Collators.{collation_borrowed}
 use Rattle.icu_collator.specs.inner.FirstPrimaries.{GivesPrimary}
 use Rattle.icu_collator.proofs.FirstPrimaryLemmas.{nothing_given, passed_next, after_none, primary_found}

@@ -1,6 +1,6 @@
 -- The first primaries decide.
 use Rattle.std.proofs.Common.{◌≡◌, Option, Ordering, IfSome, subst}
-use Rattle.icu_text_order.specs.TextOrder.{text_order}
+use Rattle.icu_order_texts.specs.TextOrder.{text_order}
 use Rattle.icu_collator.specs.Collators.{collation_borrowed}
 use Rattle.icu_collator.proofs.collator.CollatorBorrowed.order_by_first_characters.Goals as goal
 

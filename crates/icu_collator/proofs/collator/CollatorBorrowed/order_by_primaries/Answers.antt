@@ -1,7 +1,7 @@
 -- Both texts are read as far as their primaries are the same, and the first that differ decide.
 use Rattle.std.proofs.Common.{◌≡◌, ◌∷◌, ◌++◌, ◌∙◌, ℕ, [], sym, ap, subst, rules}
 use Rattle.unicode_normalization.specs.Forms.{nfd}
-use Rattle.icu_elements.specs.TextElements.{Reading, elements_after}
+use Rattle.icu_element_reading.specs.TextElements.{Reading, elements_after}
 use Rattle.icu_collator.specs.Collators.{collation_borrowed}
 use Rattle.icu_collator.specs.inner.FirstPrimaries.{ReadsOn}
 use Rattle.icu_collator.proofs.FirstPrimaryLemmas.{reads_from_start, reads_on, facts_decide}

@@ -1,6 +1,6 @@
 -- The first primaries decide.
 use Rattle.std.proofs.Common.{◌≡◌, ◌⊎◌, ◌∙◌, Option, Ordering, IfSome, map, sym, ap, subst, inl, inr}
-use Rattle.icu_provider.specs.CollatorTables.{reorder, reorder_by}
+use Rattle.icu_table_provider.specs.CollatorTables.{reorder, reorder_by}
 use Rattle.icu_collator.specs.Collators.{tables_borrowed}
 use Rattle.icu_collator.specs.inner.FirstPrimaries.{Decides, unequal_order}
 use Rattle.icu_collator.proofs.FirstPrimaryLemmas.{ends_decide, leads_decide}

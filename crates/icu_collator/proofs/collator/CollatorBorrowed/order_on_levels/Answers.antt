@@ -1,7 +1,7 @@
 -- Both texts are read in step by what is kept of their characters.
 use Rattle.std.proofs.Common.{◌∙◌, [], ap}
 use Rattle.unicode_normalization.specs.Forms.{nfd}
-use Rattle.icu_elements.specs.TextElements.{Reading, elements_after}
+use Rattle.icu_element_reading.specs.TextElements.{Reading, elements_after}
 use Rattle.icu_collator.specs.Collators.{collation_borrowed}
 use Rattle.icu_collator.specs.declared.forward_levels.Level.TheVariants.{Primary}
 use Rattle.icu_collator.proofs.FactsInStepLemmas.{facts_order}

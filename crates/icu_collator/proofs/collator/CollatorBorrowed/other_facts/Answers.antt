@@ -1,10 +1,10 @@
 -- What is known of a character is known of the texts that begin with it.
 use Rattle.std.proofs.Common.{sym, subst}
-use Rattle.icu_elements.specs.TextElements.{Reading}
-use Rattle.icu_facts.specs.FactsTables.{AreFacts}
-use Rattle.icu_facts.specs.KeptFacts.{AreTrueFacts}
-use Rattle.icu_facts.proofs.KeptLemmas.{facts_first}
-use Rattle.icu_text_order.specs.TextOrder.{reading_by}
+use Rattle.icu_element_reading.specs.TextElements.{Reading}
+use Rattle.icu_element_facts.specs.FactsTables.{AreFacts}
+use Rattle.icu_element_facts.specs.KeptFacts.{AreTrueFacts}
+use Rattle.icu_element_facts.proofs.KeptLemmas.{facts_first}
+use Rattle.icu_order_texts.specs.TextOrder.{reading_by}
 use Rattle.icu_collator.specs.Collators.{collation_borrowed}
 use Rattle.icu_collator.proofs.collator.CollatorBorrowed.other_facts.Goals as goal
 

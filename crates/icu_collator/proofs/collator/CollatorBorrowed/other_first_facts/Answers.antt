@@ -1,6 +1,6 @@
 -- What the first character says holds of the text.
 use Rattle.std.proofs.Common.{List, ℕ, IfSome, sym, subst}
-use Rattle.icu_text_order.specs.TextCuts.{IsRest}
+use Rattle.icu_order_texts.specs.TextCuts.{IsRest}
 use Rattle.icu_collator.specs.Collators.{collation_borrowed}
 use Rattle.icu_collator.specs.inner.FirstPrimaries.{LeadsWith}
 use Rattle.icu_collator.proofs.FirstPrimaryLemmas.{nothing_leads}

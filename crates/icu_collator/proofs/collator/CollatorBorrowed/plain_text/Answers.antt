@@ -1,11 +1,11 @@
 -- All elements stay.
 use Rattle.std.proofs.Common.{List, ◌∙◌, map, sym, ap}
 use Rattle.unicode_normalization.specs.Forms.{nfd}
-use Rattle.icu_entries.specs.Elements.{Element}
-use Rattle.icu_elements.specs.TextElements.{Reading, elements_of}
-use Rattle.icu_weighting.specs.Forms.{last_variable_by}
-use Rattle.icu_weighting.specs.Handled.{stayed}
-use Rattle.icu_text_order.specs.TextOrder.{reading_by}
+use Rattle.icu_table_entries.specs.Elements.{Element}
+use Rattle.icu_element_reading.specs.TextElements.{Reading, elements_of}
+use Rattle.icu_order_texts.specs.weighting.Forms.{last_variable_by}
+use Rattle.icu_order_texts.specs.weighting.Handled.{stayed}
+use Rattle.icu_order_texts.specs.TextOrder.{reading_by}
 use Rattle.icu_collator.specs.Collators.{collation_borrowed}
 use Rattle.icu_collator.proofs.OrdersInTurn.{all_stay}
 use Rattle.icu_collator.proofs.collator.CollatorBorrowed.plain_text.Goals as goal

@@ -1,6 +1,6 @@
 -- The common beginning doesn't count.
 use Rattle.std.proofs.Common.{◌≡◌, IfSome, Ordering, subst, rules}
-use Rattle.icu_text_order.specs.TextOrder.{text_order}
+use Rattle.icu_order_texts.specs.TextOrder.{text_order}
 use Rattle.icu_collator.specs.Collators.{collation_borrowed}
 use Rattle.icu_collator.proofs.FirstPrimaryLemmas.{rests_order}
 use Rattle.icu_collator.proofs.collator.CollatorBorrowed.rests_at.Goals as goal

@@ -1,7 +1,7 @@
 -- The key is that of the text, whose characters don't count.
 use Rattle.std.proofs.Common.{ℕ, List, refl, subst}
 use Rattle.unicode_normalization.specs.Forms.{nfd}
-use Rattle.icu_keys.specs.KeyWrites.{WritesKey}
+use Rattle.icu_key_writers.specs.KeyWrites.{WritesKey}
 use Rattle.icu_collator.specs.Collators.{collation_borrowed}
 use Rattle.icu_collator.proofs.KeyLemmas.{key_read, uncounted}
 use Rattle.icu_collator.proofs.collator.CollatorBorrowed.write_elements_key.Goals as goal

@@ -1,7 +1,7 @@
 -- What was read is what the key of the text is of.
 use Rattle.std.proofs.Common.{◌∙◌, ℕ, List, refl, subst}
 use Rattle.unicode_normalization.specs.Forms.{nfd}
-use Rattle.icu_keys.specs.KeyWrites.{WritesKey}
+use Rattle.icu_key_writers.specs.KeyWrites.{WritesKey}
 use Rattle.icu_collator.specs.Collators.{collation_borrowed}
 use Rattle.icu_collator.proofs.KeyLemmas.{key_read}
 use Rattle.icu_collator.proofs.collator.CollatorBorrowed.write_identical_key.Goals as goal

@@ -1,5 +1,5 @@
 use Rattle.std.proofs.Common.{◌≡◌, length}
-use Rattle.icu_levels.specs.ListOrder.{list_order}
+use Rattle.icu_order_levels.specs.ListOrder.{list_order}
 use Rattle.icu_collator.specs.inner.LevelWeights.{level_weights}
 use Rattle.icu_collator.proofs.forward_levels.Level.order.Given as goal
 

@@ -1,7 +1,7 @@
 -- Weights are compared, or there are none.
 use Rattle.std.proofs.Common.{Ordering, sym, ap, ◌∙◌}
 use Rattle.std.specs.Ordering.{ordering_then}
-use Rattle.icu_weighting.specs.HandledSources.{handled_as}
+use Rattle.icu_order_texts.specs.weighting.HandledSources.{handled_as}
 use Rattle.icu_collator.specs.inner.InStep.{order_on}
 use Rattle.icu_collator.proofs.InStepLemmas.{weighed_order, tied_order}
 use Rattle.icu_collator.proofs.forward_levels.Level.order_of_weights.Goals as goal

@@ -1,6 +1,6 @@
 use Rattle.std.proofs.Common.{◌≡◌, length}
 use Rattle.icu_collator.specs.HandledRests.{handled_to_come}
-use Rattle.icu_cursor.specs.Cursors.{cursor_gives}
+use Rattle.icu_element_cursor.specs.Cursors.{cursor_gives}
 use Rattle.icu_collator.proofs.handled.HandledTextComparedSource.next_compared.Given as goal
 
 abbrev pub invariant-passing : goal.invariant-passing

@@ -1,6 +1,6 @@
 use Rattle.std.proofs.Common.{◌≡◌, length}
 use Rattle.icu_collator.specs.HandledRests.{steady_to_come}
-use Rattle.icu_cursor.specs.SteadyCursors.{steady_gives}
+use Rattle.icu_element_cursor.specs.SteadyCursors.{steady_gives}
 use Rattle.icu_collator.proofs.steady_text.SteadyTextSteadySource.next_steady.Given as goal
 
 abbrev pub invariant-passing : goal.invariant-passing

@@ -1,6 +1,6 @@
 use Rattle.std.proofs.Common.{◌∙◌}
 use Rattle.icu_collator.specs.Collators.{collation_borrowed}
-use Rattle.icu_keyed_names.specs.KeyedLists.{keyed_names}
+use Rattle.icu_index_keys.specs.KeyedLists.{keyed_names}
 use Rattle.icu_index.proofs.NameLemmas.{names_begun}
 use Rattle.icu_index.proofs.index.NameIndex.beginning_with.Goals as goal
 

@@ -1,7 +1,7 @@
 use Rattle.std.proofs.Common.{◌≡◌, ◌∙◌, ◌++◌, ap}
 use Rattle.std.proofs.lemmas.Result.{on_ok_weaker}
 use Rattle.icu_collator.specs.Collators.{collation_borrowed}
-use Rattle.icu_keyed_names.specs.KeyedLists.{keyed_names, names_in, placed}
+use Rattle.icu_index_keys.specs.KeyedLists.{keyed_names, names_in, placed}
 use Rattle.icu_index.proofs.NameLemmas.{keyed_after, names_keep, placed_is_inserted}
 use Rattle.icu_index.specs.Listings.{name_order}
 use Rattle.icu_index.specs.inner.NameKeys.{key_of}

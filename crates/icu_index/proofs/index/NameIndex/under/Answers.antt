@@ -1,8 +1,8 @@
 use Rattle.std.proofs.Common.{◌∙◌, subst}
-use Rattle.icu_headings.specs.Headed.{heading_starts}
-use Rattle.icu_headings.specs.HeadingLaws.{KeysStandUnder}
+use Rattle.icu_index.specs.headings.Headed.{heading_starts}
+use Rattle.icu_index.specs.headings.HeadingLaws.{KeysStandUnder}
 use Rattle.icu_collator.specs.Collators.{collation_borrowed}
-use Rattle.icu_keyed_names.specs.KeyedLists.{keyed_names}
+use Rattle.icu_index_keys.specs.KeyedLists.{keyed_names}
 use Rattle.icu_index.proofs.NameLemmas.{names_stand_under}
 use Rattle.icu_index.proofs.index.NameIndex.under.Goals as goal
 

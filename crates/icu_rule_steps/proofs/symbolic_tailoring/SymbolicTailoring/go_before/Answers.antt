@@ -1,7 +1,7 @@
 -- The state before the elements.
 use Rattle.std.proofs.Common.{ap, sym, ◌∙◌}
-use Rattle.icu_symbolic_mappings.specs.KeptMappings.{mappings_in}
-use Rattle.icu_tailoring.specs.Steps.{before_level}
+use Rattle.icu_rule_steps.specs.symbolic_mappings.KeptMappings.{mappings_in}
+use Rattle.icu_rule_meaning.specs.Steps.{before_level}
 use Rattle.icu_rule_steps.specs.ReadRules.{maybe_before}
 use Rattle.icu_rule_steps.specs.RuleFaults.{before_fault, maybe_before_fault}
 use Rattle.icu_rule_steps.specs.SymbolicTailorings.{root_in, settings_in, state_in}

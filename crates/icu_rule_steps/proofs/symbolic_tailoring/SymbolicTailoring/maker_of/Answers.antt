@@ -1,9 +1,9 @@
 -- Statements are looked at in turn.
 use Rattle.std.proofs.Common.{◌+◌, ◌∷◌, ℕ, List, drop, ap, sym, ◌∙◌}
 use Rattle.std.proofs.lemmas.List.{drop_all, drop_more}
-use Rattle.icu_rules.specs.declared.rules.PlacedStatement.{PlacedStatement}
-use Rattle.icu_tailoring.specs.TailoredRoots.{Root}
-use Rattle.icu_tailoring.specs.Steps.{first_state}
+use Rattle.icu_rule_parser.specs.declared.rules.PlacedStatement.{PlacedStatement}
+use Rattle.icu_rule_meaning.specs.TailoredRoots.{Root}
+use Rattle.icu_rule_meaning.specs.Steps.{first_state}
 use Rattle.icu_rule_steps.specs.WeightMakers.{maker_of}
 use Rattle.icu_rule_steps.specs.SymbolicTailorings.{root_in, state_in}
 use Rattle.icu_rule_steps.proofs.WeightMakerLemmas.{one_searched, searched_found, searched_all}

@@ -1,9 +1,9 @@
 -- Nothing but the root.
 use Rattle.std.proofs.Common.{List, Bor, map, reverse, ap, ◌∙◌, refl}
-use Rattle.icu_rules.specs.declared.statement.RuleSetting.{RuleSetting}
-use Rattle.icu_tailoring.specs.TailoredMappings.{root_mappings}
-use Rattle.icu_tailoring.specs.TailoredRoots.{Root}
-use Rattle.icu_weight_tree.specs.RuleStates.{state_with}
+use Rattle.icu_rule_parser.specs.declared.statement.RuleSetting.{RuleSetting}
+use Rattle.icu_rule_meaning.specs.TailoredMappings.{root_mappings}
+use Rattle.icu_rule_meaning.specs.TailoredRoots.{Root}
+use Rattle.icu_rule_meaning.specs.weight_tree.RuleStates.{state_with}
 use Rattle.icu_rule_steps.specs.SymbolicTailorings.{root_in}
 use Rattle.icu_rule_steps.proofs.symbolic_tailoring.SymbolicTailoring.new.Goals as goal
 

@@ -1,12 +1,12 @@
 -- Each statement is read in turn.
 use Rattle.std.proofs.Common.{◌≡◌, ◌+◌, ◌∷◌, ℕ, List, drop, ap, sym, ◌∙◌}
 use Rattle.std.proofs.lemmas.List.{drop_more}
-use Rattle.icu_rules.specs.declared.rules.PlacedStatement.{PlacedStatement}
-use Rattle.icu_tailoring.specs.TailoredRoots.{Root}
+use Rattle.icu_rule_parser.specs.declared.rules.PlacedStatement.{PlacedStatement}
+use Rattle.icu_rule_meaning.specs.TailoredRoots.{Root}
 use Rattle.icu_rule_steps.specs.SymbolicTailorings.{kept_mappings, root_in, state_in}
 use Rattle.icu_rule_steps.proofs.RuleLoopLemmas.{one_placed}
-use Rattle.icu_tailoring.specs.Rules.{rules_of, statement_rules}
-use Rattle.icu_symbolic_mappings.specs.TouchedCharacters.{is_related, suppressed_by}
+use Rattle.icu_rule_meaning.specs.Rules.{rules_of, statement_rules}
+use Rattle.icu_rule_steps.specs.symbolic_mappings.TouchedCharacters.{is_related, suppressed_by}
 use Rattle.icu_rule_steps.proofs.TouchedRuleLemmas.{touched_more}
 use Rattle.icu_rule_steps.proofs.symbolic_tailoring.SymbolicTailoring.of_statements.Goals as goal
 

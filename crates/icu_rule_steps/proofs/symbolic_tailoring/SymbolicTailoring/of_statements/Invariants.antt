@@ -1,7 +1,7 @@
 use Rattle.std.proofs.Common.{drop}
 use Rattle.icu_rule_steps.specs.SymbolicTailorings.{kept_mappings, root_in, state_in}
-use Rattle.icu_tailoring.specs.Rules.{rules_of}
-use Rattle.icu_symbolic_mappings.specs.TouchedCharacters.{is_related, suppressed_by}
+use Rattle.icu_rule_meaning.specs.Rules.{rules_of}
+use Rattle.icu_rule_steps.specs.symbolic_mappings.TouchedCharacters.{is_related, suppressed_by}
 use Rattle.icu_rule_steps.proofs.RuleLoopLemmas.{IsPlacedTo}
 use Rattle.icu_rule_steps.proofs.TouchedRuleLemmas.{IsTouchedTo}
 use Rattle.icu_rule_steps.proofs.symbolic_tailoring.SymbolicTailoring.of_statements.Given as goal

@@ -1,7 +1,7 @@
 -- The state that the reset makes.
 use Rattle.std.proofs.Common.{◌∙◌}
-use Rattle.icu_tailoring.specs.Rules.{place_of_anchor}
-use Rattle.icu_tailoring.specs.TailoredRoots.{Root}
+use Rattle.icu_rule_meaning.specs.Rules.{place_of_anchor}
+use Rattle.icu_rule_meaning.specs.TailoredRoots.{Root}
 use Rattle.icu_rule_steps.specs.SymbolicTailorings.{kept_mappings, root_in, state_in}
 use Rattle.icu_rule_steps.proofs.StateLemmas.{reset_read}
 use Rattle.icu_rule_steps.proofs.TouchedRuleLemmas.{touches_nothing}

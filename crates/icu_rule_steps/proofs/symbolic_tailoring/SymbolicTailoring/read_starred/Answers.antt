@@ -2,15 +2,15 @@
 use Rattle.std.proofs.Common.{◌+◌, ◌||◌, ◌++◌, ℕ, List, drop, get_or, map, ap}
 use Rattle.std.specs.List.{flat_map}
 use Rattle.icu_options.specs.declared.settings.Strength.{Strength}
-use Rattle.icu_rules.specs.declared.statement.CharacterRange.{CharacterRange}
-use Rattle.icu_tailoring.specs.Rules.{Rule, characters_of, lone_relation, starred_rules}
-use Rattle.icu_tailoring.specs.TailoredRoots.{Root}
-use Rattle.icu_tailoring.specs.Steps.{TailoringState}
+use Rattle.icu_rule_parser.specs.declared.statement.CharacterRange.{CharacterRange}
+use Rattle.icu_rule_meaning.specs.Rules.{Rule, characters_of, lone_relation, starred_rules}
+use Rattle.icu_rule_meaning.specs.TailoredRoots.{Root}
+use Rattle.icu_rule_meaning.specs.Steps.{TailoringState}
 use Rattle.icu_rule_steps.specs.RuleFaults.{first_fault}
 use Rattle.icu_rule_steps.specs.ReadRules.{IsReason}
 use Rattle.icu_rule_steps.specs.SymbolicTailorings.{kept_mappings, root_in, state_in}
 use Rattle.icu_rule_steps.proofs.RuleLoopLemmas.{read_none, read_more, more_refused, handed_on, range_next}
-use Rattle.icu_symbolic_mappings.specs.TouchedCharacters.{root_of, is_related, suppressed_by, suppressed_in, touched_in}
+use Rattle.icu_rule_steps.specs.symbolic_mappings.TouchedCharacters.{root_of, is_related, suppressed_by, suppressed_in, touched_in}
 use Rattle.icu_rule_steps.proofs.TouchedRuleLemmas.{touched_more, touched_none}
 use Rattle.icu_rule_steps.proofs.symbolic_tailoring.SymbolicTailoring.read_starred.Goals as goal
 

@@ -1,6 +1,6 @@
 use Rattle.std.proofs.Common.{drop, map}
 use Rattle.std.specs.List.{flat_map}
-use Rattle.icu_tailoring.specs.Rules.{characters_of, lone_relation, starred_rules}
+use Rattle.icu_rule_meaning.specs.Rules.{characters_of, lone_relation, starred_rules}
 use Rattle.icu_rule_steps.specs.SymbolicTailorings.{kept_mappings, root_in, state_in}
 use Rattle.icu_rule_steps.proofs.RuleLoopLemmas.{IsReadTo}
 use Rattle.icu_rule_steps.proofs.TouchedRuleLemmas.{IsTouchedBy}

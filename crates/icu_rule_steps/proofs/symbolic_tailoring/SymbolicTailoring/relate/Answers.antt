@@ -1,6 +1,6 @@
 -- The state that the relation makes.
 use Rattle.std.proofs.Common.{◌∙◌}
-use Rattle.icu_tailoring.specs.TailoredRoots.{Root}
+use Rattle.icu_rule_meaning.specs.TailoredRoots.{Root}
 use Rattle.icu_rule_steps.specs.SymbolicTailorings.{root_in, state_in}
 use Rattle.icu_rule_steps.proofs.StateLemmas.{relation_read}
 use Rattle.icu_rule_steps.proofs.symbolic_tailoring.SymbolicTailoring.relate.Goals as goal

@@ -1,14 +1,14 @@
 -- Each character of the range is related in turn.
 use Rattle.std.proofs.Common.{◌+◌, ◌||◌, ◌++◌, ℕ, Bool, List, map, ap, refl}
-use Rattle.icu_tailoring.specs.Rules.{Rule, characters_of, lone_relation}
-use Rattle.icu_tailoring.specs.TailoredRoots.{Root}
-use Rattle.icu_tailoring.specs.Steps.{TailoringState}
+use Rattle.icu_rule_meaning.specs.Rules.{Rule, characters_of, lone_relation}
+use Rattle.icu_rule_meaning.specs.TailoredRoots.{Root}
+use Rattle.icu_rule_meaning.specs.Steps.{TailoringState}
 use Rattle.icu_rule_steps.specs.RuleFaults.{first_fault}
 use Rattle.icu_rule_steps.specs.ReadRules.{IsReason}
 use Rattle.icu_rule_steps.specs.SymbolicTailorings.{kept_mappings, root_in, state_in}
 use Rattle.icu_rule_steps.proofs.RuleLoopLemmas.{read_one, read_same, one_refused, handed_on, scalar_next, scalar_none, lone_relations}
-use Rattle.icu_rules.specs.declared.statement.CharacterRange.{CharacterRange}
-use Rattle.icu_symbolic_mappings.specs.TouchedCharacters.{root_of, is_related, suppressed_by, suppressed_in, touched_in}
+use Rattle.icu_rule_parser.specs.declared.statement.CharacterRange.{CharacterRange}
+use Rattle.icu_rule_steps.specs.symbolic_mappings.TouchedCharacters.{root_of, is_related, suppressed_by, suppressed_in, touched_in}
 use Rattle.icu_rule_steps.proofs.TouchedRuleLemmas.{touched_one, touched_same}
 use Rattle.icu_rule_steps.proofs.symbolic_tailoring.SymbolicTailoring.relate_range.Goals.{in-Some+in_ok-relate, in_default}
 use Rattle.icu_rule_steps.proofs.symbolic_tailoring.SymbolicTailoring.relate_range.Goals as goal

@@ -1,7 +1,7 @@
 use Rattle.std.proofs.Common.{◌-◌, map}
 use Rattle.std.specs.Prelude.{filter}
 use Rattle.std.specs.List.{range_with_len}
-use Rattle.icu_tailoring.specs.Rules.{characters_of, is_scalar, lone_relation}
+use Rattle.icu_rule_meaning.specs.Rules.{characters_of, is_scalar, lone_relation}
 use Rattle.icu_rule_steps.specs.SymbolicTailorings.{kept_mappings, root_in, state_in}
 use Rattle.icu_rule_steps.proofs.RuleLoopLemmas.{IsReadTo}
 use Rattle.icu_rule_steps.proofs.TouchedRuleLemmas.{IsTouchedBy}

@@ -1,5 +1,5 @@
 -- The state with these elements.
-use Rattle.icu_symbolic_mappings.specs.KeptMappings.{mappings_in}
+use Rattle.icu_rule_steps.specs.symbolic_mappings.KeptMappings.{mappings_in}
 use Rattle.icu_rule_steps.specs.SymbolicTailorings.{settings_in}
 use Rattle.icu_rule_steps.proofs.symbolic_tailoring.SymbolicTailoring.set_elements.Goals as goal
 

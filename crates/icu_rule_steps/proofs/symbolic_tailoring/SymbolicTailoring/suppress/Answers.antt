@@ -1,6 +1,6 @@
 -- The state without the contexts.
 use Rattle.std.proofs.Common.{refl}
-use Rattle.icu_symbolic_mappings.specs.KeptMappings.{mappings_in}
+use Rattle.icu_rule_steps.specs.symbolic_mappings.KeptMappings.{mappings_in}
 use Rattle.icu_rule_steps.specs.SymbolicTailorings.{state_in}
 use Rattle.icu_rule_steps.proofs.StateLemmas.{suppressed_is}
 use Rattle.icu_rule_steps.proofs.symbolic_tailoring.SymbolicTailoring.suppress.Goals as goal

@@ -1,8 +1,8 @@
 -- The elements with their case.
 use Rattle.std.proofs.Common.{◌∙◌, refl}
-use Rattle.icu_symbolic_mappings.specs.KeptMappings.{mappings_in}
+use Rattle.icu_rule_steps.specs.symbolic_mappings.KeptMappings.{mappings_in}
 use Rattle.icu_rule_steps.specs.SymbolicTailorings.{root_in, state_in}
-use Rattle.icu_tailoring.specs.TailoredRoots.{Root}
+use Rattle.icu_rule_meaning.specs.TailoredRoots.{Root}
 use Rattle.icu_rule_steps.proofs.StateLemmas.{case_is}
 use Rattle.icu_rule_steps.proofs.symbolic_tailoring.SymbolicTailoring.take_case.Goals as goal
 

@@ -1,8 +1,8 @@
 -- What was said is what the rules say.
 use Rattle.std.proofs.Common.{subst}
 use Rattle.std.proofs.lemmas.Result.{IfOk-weaker}
-use Rattle.icu_tailoring.specs.Steps.{TailoringState}
-use Rattle.icu_checked_root.specs.StoredRoots.{stored_root}
+use Rattle.icu_rule_meaning.specs.Steps.{TailoringState}
+use Rattle.icu_rule_root.specs.StoredRoots.{stored_root}
 use Rattle.icu_rule_tables.specs.StatesByRules.{NumbersState}
 use Rattle.icu_rule_tables.specs.Tailorings.{HasTablesOf}
 use Rattle.icu_rule_tables.proofs.tailoring.Tailoring.from_rules.Goals as goal

@@ -1,14 +1,14 @@
 -- The tables are those of the root, with what was made.
 use Rattle.std.proofs.Common.{ap, sym, subst, option_map, ◌∙◌}
-use Rattle.icu_collation_data.specs.Data.{Data}
-use Rattle.icu_tailored_entries.specs.GivenMappings.{TailorsCharacter}
+use Rattle.icu_table_data.specs.Data.{Data}
+use Rattle.icu_rule_tables.specs.tailored_entries.GivenMappings.{TailorsCharacter}
 use Rattle.icu_rule_tables.specs.StatesByRules.{mappings_beside}
-use Rattle.icu_symbolic_mappings.specs.TouchedCharacters.{root_of}
-use Rattle.icu_symbolic_mappings.specs.declared.kept_mappings.Mappings.{Mappings}
-use Rattle.icu_checked_root.specs.declared.checked_root.CheckedRoot.{CheckedRoot}
-use Rattle.icu_table_builder.specs.OwnedData.{owned_data}
-use Rattle.icu_provider.specs.OwnedTables.{owned_diacritics, owned_reordering}
-use Rattle.icu_checked_root.specs.StoredRoots.{stored_root, tables_beside}
+use Rattle.icu_rule_steps.specs.symbolic_mappings.TouchedCharacters.{root_of}
+use Rattle.icu_rule_steps.specs.declared.symbolic_mappings.kept_mappings.Mappings.{Mappings}
+use Rattle.icu_rule_root.specs.declared.checked_root.CheckedRoot.{CheckedRoot}
+use Rattle.icu_table_provider.specs.builder.OwnedData.{owned_data}
+use Rattle.icu_table_provider.specs.OwnedTables.{owned_diacritics, owned_reordering}
+use Rattle.icu_rule_root.specs.StoredRoots.{stored_root, tables_beside}
 use Rattle.icu_rule_steps.specs.SymbolicTailorings.{settings_in}
 use Rattle.icu_rule_tables.specs.RuleErrors.{IsErrorOfRules}
 use Rattle.icu_rule_tables.specs.Tailorings.{jamo_beside, root_beside}

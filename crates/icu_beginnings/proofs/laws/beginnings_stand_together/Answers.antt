@@ -1,5 +1,0 @@
-use Rattle.icu_beginnings.proofs.AboveLemmas.{beginnings_between}
-use Rattle.icu_beginnings.proofs.laws.beginnings_stand_together.Goals as goal
-
-pub returns : goal.returns
-returns c = λ ps bs f g. beginnings_between ps bs f g

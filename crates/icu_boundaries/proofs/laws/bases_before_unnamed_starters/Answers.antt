@@ -1,5 +1,0 @@
-use Rattle.icu_boundaries.proofs.BaseLemmas.{base_alone}
-use Rattle.icu_boundaries.proofs.laws.bases_before_unnamed_starters.Goals as goal
-
-pub returns : goal.returns
-returns g = λ reading before c x more no_prefix starter unnamed no_number. base_alone reading before c x more no_prefix starter unnamed no_number

@@ -1,5 +1,0 @@
-use Rattle.icu_boundaries.proofs.NumberRunLemmas.{elements_after-digits}
-use Rattle.icu_boundaries.proofs.laws.digit_runs_are_numbers.Goals as goal
-
-pub returns : goal.returns
-returns g = λ reading lead before d ds text is own all ends unmarked. elements_after-digits reading lead before d ds text is own all ends unmarked

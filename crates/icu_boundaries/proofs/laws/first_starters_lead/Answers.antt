@@ -1,5 +1,0 @@
-use Rattle.icu_boundaries.proofs.AloneLemmas.{leading}
-use Rattle.icu_boundaries.proofs.laws.first_starters_lead.Goals as goal
-
-pub returns : goal.returns
-returns g = λ reading before c s ts cs split starter alone. leading reading before c s ts cs split starter alone

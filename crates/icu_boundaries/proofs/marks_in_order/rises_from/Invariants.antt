@@ -1,6 +1,0 @@
-use Rattle.std.proofs.Common.{◌≡◌, drop}
-use Rattle.icu_boundaries.specs.Alone.{rises_from}
-use Rattle.icu_boundaries.proofs.marks_in_order.rises_from.Given as goal
-
-abbrev pub invariant-loop-c : goal.invariant-loop-c
-invariant-loop-c l = rises_from l.class l.text ≡ rises_from l.last (drop l.c-index l.text)

@@ -1,9 +1,0 @@
-use Rattle.std.proofs.Common.{◌≡◌, ◌++◌, map, take}
-use Rattle.icu_collation_data.specs.StoredData.{data_of, found_context}
-use Rattle.icu_symbolic_mappings.specs.StoredMappings.{root_mapping}
-use Rattle.icu_checked_root.specs.RootEntries.{mappings_of_prefixes}
-use Rattle.icu_checked_root.proofs.entry_mappings.push_prefixes.Given as goal
-
--- the mappings behind the prefixes so far were added
-abbrev pub invariant-loop-index : goal.invariant-loop-index
-invariant-loop-index l = map root_mapping l.found.items ≡ map root_mapping l.fn.found.items ++ mappings_of_prefixes (data_of l.fn.home) l.fn.c (take l.index (found_context l.fn.context).mappings)

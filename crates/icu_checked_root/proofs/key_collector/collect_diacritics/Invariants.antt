@@ -1,7 +1,0 @@
-use Rattle.icu_collation_data.specs.CollectedWeights.{Adds}
-use Rattle.icu_checked_root.specs.inner.KeyCollections.{HoldsBelow, IsDiacriticKey}
-use Rattle.icu_checked_root.proofs.key_collector.collect_diacritics.Given as goal
-
--- the keys of the places so far were added
-abbrev pub invariant-loop-place : goal.invariant-loop-place
-invariant-loop-place l = Adds (HoldsBelow (IsDiacriticKey l.fn.secondaries) l.place) l.fn.collector.keys.items l.collector.keys.items

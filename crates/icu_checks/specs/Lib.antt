@@ -1,2 +1,0 @@
-pub mod TableParts
-pub mod inner

@@ -1,6 +1,0 @@
-use Rattle.icu_table_builder.specs.Building.{built_data}
-use Rattle.icu_cldr.proofs.IdeographValueLemmas.{lists_set}
-use Rattle.icu_cldr.proofs.ideograph_entries.set_one.Goals as goal
-
-pub returns-clause-lists : goal.returns-clause-lists
-returns-clause-lists c = lists_set (built_data c.args.builder.now) (built_data c.set_entry.new.self) _ _ _ c.set_entry.ensures

@@ -1,0 +1,9 @@
+pub mod CollationPlaces
+pub mod CollationEvents
+pub mod LdmlErrors
+pub mod CollationFiles
+pub mod LocaleParents
+pub mod LocaleFiles
+pub mod CollationTypes
+pub mod xml
+pub mod index_labels

@@ -1,0 +1,4 @@
+pub mod Subtags
+pub mod LanguageTags
+pub mod Keywords
+pub mod locale_rules

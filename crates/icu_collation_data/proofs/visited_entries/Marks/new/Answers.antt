@@ -1,5 +1,0 @@
-use Rattle.icu_collation_data.proofs.VisitedLemmas.{none_marked}
-use Rattle.icu_collation_data.proofs.visited_entries.Marks.new.Goals as goal
-
-pub returns : goal.returns
-returns c = none_marked 8192

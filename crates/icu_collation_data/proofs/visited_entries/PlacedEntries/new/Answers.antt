@@ -1,5 +1,0 @@
-use Rattle.icu_collation_data.proofs.VisitedLemmas.{none_remembered}
-use Rattle.icu_collation_data.proofs.visited_entries.PlacedEntries.new.Goals as goal
-
-pub returns : goal.returns
-returns c = none_remembered 1024

@@ -1,7 +1,0 @@
-use Rattle.std.proofs.Common.{[], rules}
-use Rattle.icu_facts.specs.KeptFacts.{char_elements}
-use Rattle.icu_cursor.proofs.cursor.ElementCursor.take_base.Goals as goal
-
-pub take_alone-requires-clause-stands : goal.take_alone-requires-clause-stands
-take_alone-requires-clause-stands g c =
-    c.in-Some.ensures (search rules) (char_elements c.args.facts.now) (c.requires.facts.base c.requires.base [] tt)

@@ -1,9 +1,0 @@
-use Rattle.std.proofs.Common.{ap, ◌∙◌}
-use Rattle.icu_elements.specs.LastChars.{recent_chars}
-use Rattle.icu_elements.specs.TextElements.{elements_after}
-use Rattle.icu_elements.proofs.StepLemmas.{elements_after_nil}
-use Rattle.icu_cursor.proofs.short_piece.begin_short.Goals as goal
-
-pub returns-in-None-clause-none : goal.returns-in-None-clause-none
-returns-in-None-clause-none g c = λ _.
-    c.restart-in-None.ensures ∙ ap (elements_after _ (recent_chars c.new.result)) c.clear.ensures ∙ elements_after_nil _ (recent_chars c.new.result)

@@ -1,5 +1,0 @@
-use Rattle.icu_decomposed_text.proofs.MatchableLemmas.{none_over}
-use Rattle.icu_decomposed_text.proofs.matchable_text.MatchableText.new.Goals as goal
-
-pub returns-clause-passed : goal.returns-clause-passed
-returns-clause-passed g c = none_over g.T.EncodedText.text c.new.result c.new.ensures.look

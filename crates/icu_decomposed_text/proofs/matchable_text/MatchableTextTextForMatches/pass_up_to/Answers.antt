@@ -1,5 +1,0 @@
-use Rattle.icu_decomposed_text.proofs.MatchableLemmas.{counts_over}
-use Rattle.icu_decomposed_text.proofs.matchable_text.MatchableTextTextForMatches.pass_up_to.Goals as goal
-
-pub returns-clause-passed : goal.returns-clause-passed
-returns-clause-passed g c = counts_over g.T.EncodedText.text c.pass_up_to.new.self _ _ c.pass_up_to.ensures.unread c.pass_up_to.ensures.passed

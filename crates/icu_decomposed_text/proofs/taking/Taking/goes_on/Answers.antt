@@ -1,7 +1,0 @@
-use Rattle.std.proofs.Common.{◌+◌, refl, sym, subst}
-use Rattle.icu_decomposed_text.specs.inner.BeginningMarks.{BeginsAbove}
-use Rattle.icu_decomposed_text.proofs.BeginningMarkLemmas.{above-nil}
-use Rattle.icu_decomposed_text.proofs.taking.Taking.goes_on.Goals as goal
-
-pub returns-in-None : goal.returns-in-None
-returns-in-None g c = λ _. subst (BeginsAbove (c.args.class + 1)) (sym (c.in-None.ensures.none refl)) (above-nil (c.args.class + 1))

@@ -1,9 +1,0 @@
-use Rattle.std.proofs.Common.{◌≡◌, drop}
-use Rattle.icu_decomposed_text.proofs.text_for_matches.skip.Given as goal
-
--- so many were read
-abbrev pub invariant-loop-index : goal.invariant-loop-index
-invariant-loop-index g l = record {
-  unread : g.X.TextForMatches.unread l.text ≡ drop l.index (g.X.TextForMatches.unread l.fn.text);
-  passed : g.X.TextForMatches.passed l.text ≡ 0;
-}

@@ -1,4 +1,0 @@
-pub mod MarkClasses
-pub mod MatchableTexts
-pub mod UnreadTexts
-pub mod inner

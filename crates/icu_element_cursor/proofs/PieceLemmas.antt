@@ -1,0 +1,103 @@
+-- Texts that are read piece by piece.
+use Rattle.std.proofs.Common.{◌≡◌, ℕ, ◌+◌, true, List, [], ◌∷◌, ◌++◌, drop, flat_map, refl, sym, ap, subst, ◌∙◌, append-nil, append_assoc}
+use Rattle.std.proofs.lemmas.List.{drop-drop}
+use Rattle.ucd_normal.specs.declared.forms.Form.TheVariants.{Nfd}
+use Rattle.unicode_normalization.specs.Decompose.{decompose}
+use Rattle.unicode_normalization.specs.Forms.{nfd, normalize, decomposed}
+use Rattle.unicode_normalization.specs.Order.{is_ordered, canonical_order}
+use Rattle.unicode_normalization.proofs.OrderLemmas.{canonical_order-front, canonical_order-nil, is_ordered-canonical_order}
+use Rattle.std.proofs.lemmas.Grind.{flat_map-append}
+use Rattle.icu_table_entries.specs.Elements.{Element}
+use Rattle.icu_element_reading.specs.TextElements.{Reading, elements_after}
+use Rattle.icu_element_reading.proofs.StepLemmas.{elements_after_nil}
+use Rattle.icu_element_reading.proofs.boundaries.CutLemmas.{boundary_cut, boundary_start}
+use Rattle.icu_element_reading.proofs.boundaries.NfdLemmas.{nfd-nil}
+use Rattle.icu_element_facts.specs.BoundaryTables.{HasBoundaryBefore}
+use Rattle.icu_element_cursor.specs.inner.Places.{MayBeCut, BeginsAtBoundary}
+use Rattle.icu_element_cursor.specs.inner.Pieces.{IsPiece, AreDecomposed, IsShortPiece, IsPieceBegun}
+
+-- the characters behind the first of those that are left
+pub next_dropped : (xs left after : List ℕ) (i c : ℕ) → left ≡ drop i xs → left ≡ c ∷ after → after ≡ drop (i + 1) xs
+next_dropped xs left after i c is next = ap (drop 1) (sym next ∙ is) ∙ drop-drop 1 i xs
+
+pub rest_dropped : (xs left after : List ℕ) (i : ℕ) → left ≡ drop i xs → after ≡ drop 1 left → after ≡ drop (i + 1) xs
+rest_dropped xs left after i is next = next ∙ ap (drop 1) is ∙ drop-drop 1 i xs
+
+pub nothing : (reading : Reading) (before : List ℕ) → elements_after reading before (nfd []) ≡ []
+nothing reading before = ap (elements_after reading before) nfd-nil ∙ elements_after_nil reading before
+
+-- a text may be cut at a boundary
+pub may_be_cut : (reading : Reading) (c : ℕ) → HasBoundaryBefore reading c → MayBeCut reading c
+may_be_cut reading c boundary = λ before after piece text.
+    boundary_cut reading c boundary.first boundary.more text boundary.decomposes boundary.boundary before piece
+    ∙ ap (λ (es : List Element). elements_after reading before (nfd piece) ++ es) (boundary_start reading c boundary.first boundary.more text boundary.decomposes boundary.boundary [] after)
+
+-- the elements of a text are those of its two parts, and those of the second are the same whatever stands before
+pub parted : (reading : Reading) (before after piece rest : List ℕ) → BeginsAtBoundary reading rest
+    → elements_after reading before (nfd (piece ++ rest)) ≡ elements_after reading before (nfd piece) ++ elements_after reading after (nfd rest)
+parted reading before after piece [] boundary =
+    ap (λ l. elements_after reading before (nfd l)) (append-nil piece)
+    ∙ sym (append-nil (elements_after reading before (nfd piece)))
+    ∙ ap (λ (es : List Element). elements_after reading before (nfd piece) ++ es) (sym (nothing reading after))
+parted reading before after piece (c ∷ cs) boundary = boundary before after piece cs
+
+pub pieces_part : (reading : Reading) (before after text piece rest : List ℕ) → IsPiece reading text piece rest
+    → elements_after reading before (nfd text) ≡ elements_after reading before (nfd piece) ++ elements_after reading after (nfd rest)
+pieces_part reading before after text piece rest h =
+    ap (λ l. elements_after reading before (nfd l)) h.parts ∙ parted reading before after piece rest h.boundary
+
+-- ---- pieces that are decomposed
+
+-- they stand in canonical order
+pub in_order : (text done rest : List ℕ) → AreDecomposed text done rest → is_ordered done ≡ true
+unfolding normalize decomposed
+in_order text done rest h = ap is_ordered h.value ∙ is_ordered-canonical_order (flat_map (decompose Nfd) h.chars)
+
+-- none so far
+pub none_decomposed : (text done : List ℕ) → done ≡ [] → AreDecomposed text done text
+none_decomposed text done none = record { chars = []; parts = refl; value = none ∙ sym nfd-nil }
+
+one_more : (chars : List ℕ) (c : ℕ) → canonical_order (nfd chars ++ decompose Nfd c) ≡ nfd (chars ++ c ∷ [])
+unfolding normalize decomposed
+one_more chars c =
+    canonical_order-front (flat_map (decompose Nfd) chars) (decompose Nfd c)
+    ∙ ap (λ l. canonical_order (flat_map (decompose Nfd) chars ++ l)) (sym (append-nil (decompose Nfd c)))
+    ∙ ap canonical_order (sym (flat_map-append (decompose Nfd) chars (c ∷ [])))
+
+-- one more
+pub more_decomposed : (text done rest new after : List ℕ) (c : ℕ) → AreDecomposed text done rest → rest ≡ c ∷ after → new ≡ canonical_order (done ++ decompose Nfd c)
+    → AreDecomposed text new after
+more_decomposed text done rest new after c h next is = record {
+  chars = h.chars ++ c ∷ [];
+  parts = h.parts ∙ ap (λ l. h.chars ++ l) next ∙ sym (append_assoc h.chars (c ∷ []) after);
+  value = is ∙ ap (λ l. canonical_order (l ++ decompose Nfd c)) h.value ∙ one_more h.chars c;
+}
+
+-- one more, whose parts stand behind those of the others and aren't put in order
+pub more_parts : (text done rest new after : List ℕ) (c : ℕ) → AreDecomposed text (canonical_order done) rest → rest ≡ c ∷ after → new ≡ done ++ decompose Nfd c
+    → AreDecomposed text (canonical_order new) after
+more_parts text done rest new after c h next is =
+    more_decomposed text (canonical_order done) rest (canonical_order new) after c h next (ap canonical_order is ∙ sym (canonical_order-front done (decompose Nfd c)))
+
+-- no part so far
+pub no_parts : (text done : List ℕ) → done ≡ [] → AreDecomposed text (canonical_order done) text
+no_parts text done none = none_decomposed text (canonical_order done) (ap canonical_order none ∙ canonical_order-nil)
+
+-- parts are put in order
+pub parts_in_order : (reading : Reading) (text done rest new after : List ℕ) → AreDecomposed text (canonical_order done) rest → BeginsAtBoundary reading rest → new ≡ canonical_order done → after ≡ rest
+    → IsShortPiece reading text new after
+parts_in_order reading text done rest new after h boundary is same =
+    record { piece = h.chars; is = record { parts = h.parts ∙ ap (λ l. h.chars ++ l) (sym same); boundary = subst (BeginsAtBoundary reading) (sym same) boundary }; value = is ∙ h.value }
+
+-- up to a boundary
+pub short_piece : (reading : Reading) (text done rest : List ℕ) → AreDecomposed text done rest → BeginsAtBoundary reading rest → IsShortPiece reading text done rest
+short_piece reading text done rest h boundary = record { piece = h.chars; is = record { parts = h.parts; boundary = boundary }; value = h.value }
+
+-- its elements
+pub piece_elements : (reading : Reading) (before text done rest : List ℕ) (es : List Element) → IsShortPiece reading text done rest → es ≡ elements_after reading before done
+    → IsPieceBegun reading before text es rest
+piece_elements reading before text done rest es h given = record { piece = h.piece; is = h.is; elements = given ∙ ap (elements_after reading before) h.value }
+
+-- a piece is begun where no elements stand before it
+pub begun_alone : (reading : Reading) (before text rest : List ℕ) (few es : List Element) → few ≡ [] → IsPieceBegun reading before text es rest → IsPieceBegun reading before text (few ++ es) rest
+begun_alone reading before text rest few es none h = record { piece = h.piece; is = h.is; elements = ap (λ (fs : List Element). fs ++ es) none ∙ h.elements }

@@ -1,0 +1,12 @@
+use Rattle.icu_table_data.specs.StoredData.{found_context}
+use Rattle.icu_element_cursor.specs.Cursors.{cursor_reading}
+use Rattle.icu_element_cursor.proofs.StandLemmas.{cut_stands}
+use Rattle.icu_element_cursor.proofs.UnjoinedLemmas.{unjoined_stands}
+use Rattle.icu_element_cursor.proofs.unjoined.is_unjoined.Goals as goal
+
+pub returns-in-Some : goal.returns-in-Some
+returns-in-Some g c = λ yes es stands.
+    let reading = cursor_reading c.args.tables.now in
+    let h = c.joins_none.ensures yes in
+    cut_stands reading c.args.c es (g.T.EncodedText.text c.args.text) h.front h.rest h.parts h.boundary
+    (unjoined_stands reading c.args.c (found_context c.in-Some.context) c.in-Some.ensures.begins h.front h.unjoined es stands)

@@ -1,0 +1,85 @@
+//! A short piece of a text, up to the next boundary.
+
+ghost use Rattle.std.specs.Prelude.{◌≡◌, ◌≤◌, ◌∷◌, [], None, IfSome, length};
+ghost use Rattle.icu_text_decomposition.specs.short_text.ShortTexts.{short_unread};
+ghost use Rattle.icu_element_reading.specs.steady_elements.SteadyElements.{elements_left};
+ghost use Rattle.icu_element_cursor.specs.Cursors.{cursor_reading};
+ghost use Rattle.icu_element_cursor.specs.inner.ReadCharacters.{context_read};
+ghost use Rattle.icu_element_cursor.specs.inner.Pieces.{IsShortPiece, IsPieceBegun};
+ghost use Rattle.icu_element_cursor.specs.inner.Places.{BeginsAtBoundary};
+
+use crate::cursor_tables::CursorTables;
+use crate::last_characters::LastCharacters;
+use icu_element_reading::RecentChars;
+use icu_element_reading::steady_elements::SteadyElements;
+use icu_text_decomposition::short_text::ShortText;
+use icu_text_encodings::EncodedText;
+
+/// Takes the next character of a text, where the text may not be cut before it.
+#[inline]
+pub(crate) fn take_inside<T: EncodedText>(tables: &CursorTables<'_>, text: &mut T) -> Option<char>
+    ensures char { IfSome result (λ c. T.text text.old ≡ c ∷ T.text text.new) }
+    ensures none { result ≡ None → T.text text.new ≡ T.text text.old }
+    ensures boundary { result ≡ None
+        → BeginsAtBoundary (cursor_reading tables.now) (T.text text.old) }
+{
+    let (c, after) = text.split_first_char()?;
+    if tables.has_boundary_before(c) {
+        return None;
+    }
+    *text = after;
+    Some(c)
+}
+
+/// Decomposes the piece that a character begins, and returns the text from its end on: it ends before the next
+/// character before which the text may be cut. `None` where it has more characters than there is room for.
+fn split_short<T: EncodedText>(
+    tables: &CursorTables<'_>,
+    first: char,
+    text: T,
+    piece: &mut ShortText,
+) -> Option<T>
+    ensures piece { IfSome result (λ rest. IsShortPiece (cursor_reading tables.now)
+        (first ∷ T.text text) (short_unread piece.new) (T.text rest)) }
+    ensures rest { IfSome result (λ rest. length (T.text rest) ≤ length (T.text text)) }
+{
+    piece.clear();
+    if !piece.push(first) {
+        return None;
+    }
+    let mut rest = text;
+    'chars: while let Some(c) = take_inside(tables, &mut rest) {
+        if !piece.push(c) {
+            return None;
+        }
+    }
+    Some(rest)
+}
+
+/// Begins to read the piece that a character begins, after these characters, and returns the text from its end on.
+/// `None` where it has more characters than there is room for: nothing is read then.
+pub(crate) fn begin_short<'d, T: EncodedText>(
+    tables: &CursorTables<'d>,
+    before: LastCharacters,
+    first: char,
+    text: T,
+    piece: &mut SteadyElements<'d, ShortText>,
+) -> Option<T>
+    ensures begun { IfSome result (λ rest. IsPieceBegun (cursor_reading tables.now)
+        (context_read before) (first ∷ T.text text) (elements_left short_unread piece.new)
+        (T.text rest)) }
+    ensures rest { IfSome result (λ rest. length (T.text rest) ≤ length (T.text text)) }
+    ensures none { result ≡ None → elements_left short_unread piece.new ≡ [] }
+{
+    match split_short(tables, first, text, &mut piece.place.text) {
+        Some(rest) => {
+            piece.restart(before.recent(), tables.reading());
+            Some(rest)
+        }
+        None => {
+            piece.place.text.clear();
+            piece.restart(RecentChars::new(), tables.reading());
+            None
+        }
+    }
+}

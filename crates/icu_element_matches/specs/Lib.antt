@@ -1,0 +1,10 @@
+pub mod WellFormedEntries
+pub mod MarksAhead
+pub mod Matches
+pub mod MatchesAhead
+pub mod Texts
+pub mod inner
+pub mod match_laws
+pub mod steady_matches
+pub mod numbers
+pub mod steady_numbers

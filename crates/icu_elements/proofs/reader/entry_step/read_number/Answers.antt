@@ -1,7 +1,0 @@
-use Rattle.icu_collation_data.specs.StoredData.{data_of}
-use Rattle.icu_elements.proofs.ReadableLemmas.{match_decimal}
-use Rattle.icu_elements.proofs.reader.entry_step.read_number.Goals as goal
-
-pub take_number-requires-clause-decimal : goal.take_number-requires-clause-decimal
-take_number-requires-clause-decimal c =
-    match_decimal (data_of c.args.home) c.args.c c.args.found.now.ce32 c.requires.well_formed c.requires.is_digit

@@ -1,8 +1,0 @@
--- A unit below 80 is a character.
-use Rattle.std.proofs.Common.{rules, ◌∙◌, ap}
-use Rattle.icu_encodings.specs.DecodedTexts.{utf8_text}
-use Rattle.icu_encodings.proofs.UnitCutLemmas.{first_rest, utf8_first_byte}
-use Rattle.icu_encodings.proofs.encoded_text.Utf8TextEncodedText.split_first_ascii.Goals as goal
-
-pub returns-in-len1-up-clause-first : goal.returns-in-len1-up-clause-first
-returns-in-len1-up-clause-first c = ap utf8_text (first_rest c.args.self.0.now (search rules)) ∙ utf8_first_byte _ _ (search rules)

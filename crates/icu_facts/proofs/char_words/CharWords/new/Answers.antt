@@ -1,6 +1,0 @@
--- No block is made yet.
-use Rattle.icu_facts.specs.BoundaryTables.{boundary_reading}
-use Rattle.icu_facts.proofs.char_words.CharWords.new.Goals as goal
-
-pub loop-index-init : goal.loop-index-init
-loop-index-init c = (c.in_ok-made.ensures.count, c.in_ok-made.ensures.made (boundary_reading c.args.places.now))

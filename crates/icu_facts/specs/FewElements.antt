@@ -1,8 +1,0 @@
--- A list of three elements at most.
-use Rattle.std.specs.Prelude.{List, take}
-use Rattle.icu_entries.specs.Elements.{Element}
-use Rattle.icu_facts.specs.declared.few_elements.FewElements.{FewElements}
-
--- the elements in it
-unfoldable pub few_elements : FewElements → List Element
-few_elements few = take few.count few.elements

@@ -1,6 +1,0 @@
-use Rattle.std.proofs.Common.{◌∷◌, length, take}
-use Rattle.icu_fingerprint.specs.inner.HandedWords.{HandsWords}
-use Rattle.icu_fingerprint.proofs.form_words.put_u16s.Given as goal
-
-abbrev pub invariant-loop-x : goal.invariant-loop-x
-invariant-loop-x l = HandsWords l.fn.hasher l.hasher (length l.list ∷ take l.x-index l.list)

@@ -1,5 +1,0 @@
-use Rattle.icu_fingerprint.proofs.OneForm.{are_one}
-use Rattle.icu_fingerprint.proofs.laws.forms_determine_keys.Goals as goal
-
-pub returns : goal.returns
-returns c = λ one other form f g. are_one one other form f g

@@ -1,7 +1,0 @@
-//! Which relations of rules hold by all of them (UTS #35 part 5, "Collation Tailorings").
-#![tactic(auto)]
-
-pub mod held_relations;
-mod related;
-
-pub use held_relations::relation_holds;

@@ -1,0 +1,10 @@
+use Rattle.std.proofs.Common.{rules}
+use Rattle.std.proofs.lemmas.List.Sorted.{IsPartitionPoint-from_clause}
+use Rattle.icu_index_keys.proofs.LeafPlaceLemmas.{parted_by}
+use Rattle.icu_index_keys.specs.inner.NameEntries.{entry_before}
+use Rattle.icu_index_keys.proofs.leaf_places.entries_before.Goals as goal
+
+pub returns-clause-point : goal.returns-clause-point
+returns-clause-point c = λ parted.
+    let test = entry_before c.args.bytes.now c.args.sought.now.border in
+    IsPartitionPoint-from_clause test c.args.leaf.now c.partition_point.result c.partition_point.ensures.partitioned (parted_by test c.args.leaf.now parted) (λ a r f k. search rules)

@@ -1,0 +1,3 @@
+pub use Rattle.icu_order_levels.specs.ListOrder
+pub mod KeyOrders
+pub mod Starts

@@ -1,9 +1,0 @@
-use Rattle.std.proofs.Common.{◌≡◌, length}
-use Rattle.icu_index_labels.specs.IndexSets.{index_set_from}
-use Rattle.icu_index_labels.proofs.index_events.index_set_of.Given as goal
-
-abbrev pub invariant-reading : goal.invariant-reading
-invariant-reading l = index_set_from l.unread ≡ index_set_from l.events
-
-abbrev pub decreases-reading : goal.decreases-reading
-decreases-reading l = length l.unread

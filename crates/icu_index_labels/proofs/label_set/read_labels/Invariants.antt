@@ -1,9 +1,0 @@
-use Rattle.std.proofs.Common.{length, map, string_bytes}
-use Rattle.icu_index_labels.proofs.LabelLemmas.{GoOnLabels}
-use Rattle.icu_index_labels.proofs.label_set.read_labels.Given as goal
-
-abbrev pub invariant-reading : goal.invariant-reading
-invariant-reading l = GoOnLabels (map string_bytes l.labels.items) l.unread l.text
-
-abbrev pub decreases-reading : goal.decreases-reading
-decreases-reading l = length l.unread

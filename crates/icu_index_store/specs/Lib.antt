@@ -1,0 +1,13 @@
+pub use Rattle.icu_collator.specs.Collators
+pub use Rattle.icu_text_encodings.specs.DecodedTexts
+pub use Rattle.icu_index.specs.headings.Headed
+pub use Rattle.icu_index.specs.headings.HeadingLaws
+pub use Rattle.icu_index_store.specs.stored_names.StatementTexts
+pub use Rattle.icu_order_texts.specs.text_beginnings.TextBeginnings
+pub mod StoreLaws
+pub mod Stores
+pub mod StoreRanges
+pub mod stored_names
+pub mod stored_rows
+pub mod stored_listings
+pub mod stored_lines

@@ -1,0 +1,153 @@
+//! How an index is opened over a database.
+
+ghost use Rattle.std.specs.Prelude.{◌≡◌, IfErr, IfOk, IsTrue, OnOk};
+ghost use Rattle.icu_index_store.specs.stored_rows.Renewals.{LeavesDatabase, StaysIndex};
+ghost use Rattle.sqlite.specs.Held.{state};
+ghost use Rattle.sqlite.specs.State.{HasCleanDisk, KeepsCommit, Survives};
+ghost use Rattle.icu_index_store.specs.Stores.{printed_collation, store_collation};
+
+use crate::printed_collator::PrintedCollator;
+use crate::setting_words::written_settings;
+use crate::stored_index::StoredIndex;
+use crate::stored_names::{KeptFingerprint, keep_fingerprint, kept_fingerprint, make_tables};
+use sqlite::{Alter, Connection, Error, ErrorCode, Transaction};
+use std::alloc::{AllocError, Global};
+use std::fmt;
+
+/// What the keys of a database were made by, and what they were to be made by.
+#[derive(Debug, Drop)]
+pub struct FingerprintDifference {
+    /// The settings of the keys that are there.
+    pub stored: String,
+    /// The settings of the collator that the index was to be opened with.
+    pub wanted: String,
+}
+
+impl fmt::Display for FingerprintDifference {
+    fn fmt<W: fmt::Write>(&self, f: &mut fmt::Formatter<W>) -> fmt::Result {
+        let stored = self.stored.as_str();
+        let wanted = self.wanted.as_str();
+        if stored == wanted {
+            return write!(
+                f,
+                "its keys were made by other tables with the same settings ({stored})"
+            );
+        }
+        write!(f, "its keys were made with {stored}, and not with {wanted}")
+    }
+}
+
+/// Why an index isn't opened.
+#[derive(Debug, Drop)]
+pub enum OpenError {
+    /// The database refused a statement, or failed.
+    Database(Error),
+    /// The keys were made by other tables or settings: make them anew by `rebuild`, or take the collator that they
+    /// were made by.
+    Differs(FingerprintDifference),
+}
+
+impl From<Error> for OpenError {
+    fn from(error: Error) -> OpenError {
+        OpenError::Database(error)
+    }
+}
+
+impl From<AllocError> for OpenError {
+    fn from(error: AllocError) -> OpenError {
+        OpenError::Database(Error::from(error))
+    }
+}
+
+/// The index that a collator orders.
+pub(crate) fn index_of(alloc: Global, collator: &PrintedCollator) -> StoredIndex<'_>
+    ensures { store_collation result ≡ printed_collation collator.entry.now }
+{
+    StoredIndex {
+        alloc,
+        collator: collator.collator().as_borrowed(),
+    }
+}
+
+/// The settings of a collator, as words.
+pub(crate) fn settings_of(alloc: Global, collator: &PrintedCollator) -> Result<String, AllocError> {
+    written_settings(alloc, collator.collator().as_borrowed().resolved_options())
+}
+
+/// The fingerprint that the keys of a database were made by, if there is one. The tables are made where there are none.
+fn found_print<S: Alter>(
+    transaction: &mut Transaction<'_, S>,
+) -> Result<Option<KeptFingerprint>, Error>
+    ensures same_reference { transaction.new.conn.ghost_name ≡ transaction.old.conn.ghost_name }
+    ensures stays { HasCleanDisk (state S.Store transaction.new.conn.now)
+        → IsTrue (state S.Store transaction.old.conn.now).in_transaction
+        → OnOk result (IsTrue (state S.Store transaction.new.conn.now).in_transaction
+        × StaysIndex (state S.Store transaction.old.conn.now).now
+        (state S.Store transaction.new.conn.now).now) }
+    ensures kept { HasCleanDisk (state S.Store transaction.new.conn.now)
+        → IsTrue (state S.Store transaction.old.conn.now).in_transaction
+        → KeepsCommit (state S.Store transaction.old.conn.now)
+        (state S.Store transaction.new.conn.now) }
+    ensures survives { Survives (state S.Store transaction.old.conn.now)
+        (state S.Store transaction.new.conn.now) (λ _. ⊥) }
+{
+    make_tables(transaction)?;
+    let kept = kept_fingerprint(transaction)?;
+    Ok(kept)
+}
+
+/// Whether a database's fingerprint is the collator's; one that has none gets it.
+pub(crate) fn fits<S: Alter>(
+    transaction: &mut Transaction<'_, S>,
+    collator: &PrintedCollator,
+    wanted: &str,
+) -> Result<Option<KeptFingerprint>, Error>
+    ensures same_reference { transaction.new.conn.ghost_name ≡ transaction.old.conn.ghost_name }
+    ensures stays { HasCleanDisk (state S.Store transaction.new.conn.now)
+        → IsTrue (state S.Store transaction.old.conn.now).in_transaction
+        → OnOk result (IsTrue (state S.Store transaction.new.conn.now).in_transaction
+        × StaysIndex (state S.Store transaction.old.conn.now).now
+        (state S.Store transaction.new.conn.now).now) }
+    ensures kept { HasCleanDisk (state S.Store transaction.new.conn.now)
+        → IsTrue (state S.Store transaction.old.conn.now).in_transaction
+        → KeepsCommit (state S.Store transaction.old.conn.now)
+        (state S.Store transaction.new.conn.now) }
+    ensures survives { Survives (state S.Store transaction.old.conn.now)
+        (state S.Store transaction.new.conn.now) (λ _. ⊥) }
+{
+    match found_print(transaction)? {
+        Some(kept) if kept.fingerprint.as_slice() != collator.fingerprint() => Ok(Some(kept)),
+        Some(_) => Ok(None),
+        None => {
+            keep_fingerprint(transaction, collator.fingerprint(), wanted)?;
+            Ok(None)
+        }
+    }
+}
+
+/// Opens the index of a database, which gets the tables of one where there is none. An index whose keys were made by
+/// other tables or settings is refused, and stays as it is. All is done in one transaction.
+pub fn open<'c, S: Alter>(
+    alloc: Global,
+    connection: &mut Connection<S>,
+    collator: &'c PrintedCollator,
+) -> Result<StoredIndex<'c>, OpenError>
+    ensures collation { IfOk result (λ index.
+        store_collation index ≡ printed_collation collator.entry.now) }
+    ensures names { HasCleanDisk (state S.Store connection.new) → OnOk result (StaysIndex
+        (state S.Store connection.old).now (state S.Store connection.new).now) }
+    ensures undone { HasCleanDisk (state S.Store connection.new) → IfErr result (λ _.
+        LeavesDatabase (state S.Store connection.old) (state S.Store connection.new)) }
+{
+    let wanted = settings_of(alloc, collator)?;
+    if !connection.is_autocommit() {
+        return Err(OpenError::Database(Error::SqliteFailure(ErrorCode::TransactionState)));
+    }
+    let mut transaction = connection.transaction();
+    if let Some(kept) = fits(&mut transaction, collator, wanted.as_str())? {
+        let stored = kept.settings;
+        return Err(OpenError::Differs(FingerprintDifference { stored, wanted }));
+    }
+    transaction.commit()?;
+    Ok(index_of(alloc, collator))
+}

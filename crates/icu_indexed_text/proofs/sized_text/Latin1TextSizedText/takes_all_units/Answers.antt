@@ -1,5 +1,0 @@
-use Rattle.icu_indexed_text.proofs.SizeLemmas.{latin1_all}
-use Rattle.icu_indexed_text.proofs.sized_text.Latin1TextSizedText.takes_all_units.Goals as goal
-
-pub returns-clause-all : goal.returns-clause-all
-returns-clause-all c = latin1_all c.args.self.0.now

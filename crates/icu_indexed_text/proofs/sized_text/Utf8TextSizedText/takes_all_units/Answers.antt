@@ -1,5 +1,0 @@
-use Rattle.icu_indexed_text.proofs.SizeLemmas.{utf8_all}
-use Rattle.icu_indexed_text.proofs.sized_text.Utf8TextSizedText.takes_all_units.Goals as goal
-
-pub returns-clause-all : goal.returns-clause-all
-returns-clause-all c = utf8_all c.args.self.0.now

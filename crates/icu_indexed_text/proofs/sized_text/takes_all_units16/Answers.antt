@@ -1,6 +1,0 @@
-use Rattle.std.proofs.Common.{arith}
-use Rattle.icu_indexed_text.proofs.SizeLemmas.{utf16_all}
-use Rattle.icu_indexed_text.proofs.sized_text.takes_all_units16.Goals as goal
-
-pub returns : goal.returns
-returns c = utf16_all c.args.units.now (λ i. omega (arith, c.type_inv.units i))

@@ -1,0 +1,54 @@
+use Rattle.std.proofs.Common.{ℕ, List, Err, sym, subst}
+use Rattle.std.proofs.lemmas.List.{append-nil}
+use Rattle.std.proofs.lemmas.Result.{err_from_is_err_and}
+use Rattle.icu_order_levels.specs.Keys.{part_bytes}
+use Rattle.icu_key_writers.specs.KeyWrites.{KeyWrites}
+use Rattle.icu_key_writers.proofs.KeyWriting.{key_after, key_front}
+use Rattle.icu_key_texts.specs.LevelRests.{characters_left}
+use Rattle.icu_key_texts.proofs.later_levels.LaterLevels.write.Goals as goal
+
+pub returns-in_err-write_secondaries-clause-bytes : goal.returns-in_err-write_secondaries-clause-bytes
+returns-in_err-write_secondaries-clause-bytes g c = λ reorder.
+    let p = err_from_is_err_and c.from_residual.result c.from_residual.ensures.1 in
+    rw (sym c.form-form.ensures) (rw (p.1, p.2) (key_front g.S.CollationKeySink.effects (Unit {0}) (Unit {0}) _ _ _ _ _ _ c.in_err-write_secondaries.field-0.0 c.in_err-write_secondaries.ensures.bytes))
+
+pub returns-in_err-write_cases-clause-bytes : goal.returns-in_err-write_cases-clause-bytes
+returns-in_err-write_cases-clause-bytes g c = λ reorder.
+    let p = err_from_is_err_and c.from_residual-in_err-write_cases.result c.from_residual-in_err-write_cases.ensures.1 in
+    rw (sym c.form-form.ensures) (rw (p.1, p.2) (key_after g.S.CollationKeySink.effects {O = Unit {0}} _ _ _ _ _ _ _ _ (Err c.in_err-write_cases.field-0.0)
+    (λ y z t u b d. g.met.S.CollationKeySink.took_both _ y z _ t u b d c.requires) c.in_ok-write_secondaries.ensures.bytes
+    (key_front g.S.CollationKeySink.effects (Unit {0}) (Unit {0}) _ _ _ _ _ _ c.in_err-write_cases.field-0.0 c.in_err-write_cases.ensures.bytes)))
+
+pub returns-in_err-write_tertiaries-clause-bytes : goal.returns-in_err-write_tertiaries-clause-bytes
+returns-in_err-write_tertiaries-clause-bytes g c = λ reorder.
+    let p = err_from_is_err_and c.from_residual-in_err-write_tertiaries.result c.from_residual-in_err-write_tertiaries.ensures.1 in
+    rw (sym c.form-form.ensures) (rw (p.1, p.2) (key_after g.S.CollationKeySink.effects {O = Unit {0}} _ _ _ _ _ _ _ _ (Err c.in_err-write_tertiaries.field-0.0)
+    (λ y z t u b d. g.met.S.CollationKeySink.took_both _ y z _ t u b d c.requires) c.in_ok-write_secondaries.ensures.bytes
+    (key_after g.S.CollationKeySink.effects {O = Unit {0}} _ _ _ _ _ _ _ _ (Err c.in_err-write_tertiaries.field-0.0)
+    (λ y z t u b d. g.met.S.CollationKeySink.took_both _ y z _ t u b d c.in_ok-write_secondaries.ensures.sound) c.in_ok-write_cases.ensures.bytes
+    (key_front g.S.CollationKeySink.effects (Unit {0}) (Unit {0}) _ _ _ _ _ _ c.in_err-write_tertiaries.field-0.0 c.in_err-write_tertiaries.ensures.bytes))))
+
+pub returns-in_err-write_quaternaries-clause-bytes : goal.returns-in_err-write_quaternaries-clause-bytes
+returns-in_err-write_quaternaries-clause-bytes g c = λ reorder.
+    let p = err_from_is_err_and c.from_residual-in_err-write_quaternaries.result c.from_residual-in_err-write_quaternaries.ensures.1 in
+    rw (sym c.form-form.ensures) (rw (p.1, p.2) (key_after g.S.CollationKeySink.effects {O = Unit {0}} _ _ _ _ _ _ _ _ (Err c.in_err-write_quaternaries.field-0.0)
+    (λ y z t u b d. g.met.S.CollationKeySink.took_both _ y z _ t u b d c.requires) c.in_ok-write_secondaries.ensures.bytes
+    (key_after g.S.CollationKeySink.effects {O = Unit {0}} _ _ _ _ _ _ _ _ (Err c.in_err-write_quaternaries.field-0.0)
+    (λ y z t u b d. g.met.S.CollationKeySink.took_both _ y z _ t u b d c.in_ok-write_secondaries.ensures.sound) c.in_ok-write_cases.ensures.bytes
+    (key_after g.S.CollationKeySink.effects {O = Unit {0}} _ _ _ _ _ _ _ _ (Err c.in_err-write_quaternaries.field-0.0)
+    (λ y z t u b d. g.met.S.CollationKeySink.took_both _ y z _ t u b d c.in_ok-write_cases.ensures.sound) c.in_ok-write_tertiaries.ensures.bytes
+    (key_front g.S.CollationKeySink.effects (Unit {0}) (Unit {0}) _ _ _ _ _ _ c.in_err-write_quaternaries.field-0.0 (c.in_err-write_quaternaries.ensures.bytes reorder))))))
+
+pub returns-clause-bytes : goal.returns-clause-bytes
+returns-clause-bytes g c = λ reorder.
+    let end = subst (λ (l : List ℕ). KeyWrites g.S.CollationKeySink.effects c.write_quaternaries.new.sink c.write_quaternaries.new.state l c.write_identical.result c.write_identical.new.sink c.write_identical.new.state)
+    (sym (append-nil (part_bytes (characters_left c.form-form.result.identical c.args.characters.now)))) c.write_identical.ensures.bytes in
+    rw (sym c.form-form.ensures) (key_after g.S.CollationKeySink.effects _ _ _ _ _ _ _ _ _
+    (λ y z t u b d. g.met.S.CollationKeySink.took_both _ y z _ t u b d c.requires) c.in_ok-write_secondaries.ensures.bytes
+    (key_after g.S.CollationKeySink.effects _ _ _ _ _ _ _ _ _
+    (λ y z t u b d. g.met.S.CollationKeySink.took_both _ y z _ t u b d c.in_ok-write_secondaries.ensures.sound) c.in_ok-write_cases.ensures.bytes
+    (key_after g.S.CollationKeySink.effects _ _ _ _ _ _ _ _ _
+    (λ y z t u b d. g.met.S.CollationKeySink.took_both _ y z _ t u b d c.in_ok-write_cases.ensures.sound) c.in_ok-write_tertiaries.ensures.bytes
+    (key_after g.S.CollationKeySink.effects _ _ _ _ _ _ _ _ _
+    (λ y z t u b d. g.met.S.CollationKeySink.took_both _ y z _ t u b d c.in_ok-write_tertiaries.ensures.sound) (c.in_ok-write_quaternaries.ensures.bytes reorder)
+    end))))

@@ -1,0 +1,17 @@
+use Rattle.std.proofs.Common.{[], ◌∷◌}
+use Rattle.std.proofs.lemmas.Result.{err_from_is_err_and}
+use Rattle.icu_order_levels.specs.Identical.{identical_level}
+use Rattle.icu_key_writers.proofs.Writing.{fails_front, fails_one, writes_after}
+use Rattle.icu_key_texts.proofs.written_levels.write_opened_characters.Goals as goal
+
+pub returns-in_err-write_byte-clause-bytes : goal.returns-in_err-write_byte-clause-bytes
+returns-in_err-write_byte-clause-bytes g c =
+    let p = err_from_is_err_and c.from_residual.result c.from_residual.ensures.1 in
+    rw (p.1, p.2) (fails_front g.S.CollationKeySink.effects _ _ _ _ (1 ∷ []) (identical_level c.args.characters.now) _
+    (fails_one g.S.CollationKeySink.effects _ _ _ _ (1 ∷ []) _ (g.met.S.CollationKeySink.took_nothing _ _ c.requires) c.in_err-write_byte.ensures.outcome))
+
+pub returns-clause-bytes : goal.returns-clause-bytes
+returns-clause-bytes g c =
+    writes_after g.S.CollationKeySink.effects _ _ _ _ _ _ (1 ∷ []) (identical_level c.args.characters.now) _
+    (λ y z t u b d. g.met.S.CollationKeySink.took_both _ y z _ t u b d c.requires)
+    c.in_ok-write_byte.ensures.outcome c.write_characters.ensures.bytes

@@ -1,0 +1,17 @@
+use Rattle.std.proofs.Common.{[], ◌∷◌, replicate}
+use Rattle.std.proofs.lemmas.Result.{err_from_is_err_and}
+use Rattle.icu_order_levels.specs.Tertiaries.{tertiary_level, tertiary_runs}
+use Rattle.icu_key_writers.proofs.Writing.{fails_front, fails_one, writes_after}
+use Rattle.icu_key_writers.proofs.common_levels.write_opened_tertiaries.Goals as goal
+
+pub returns-in_err-write_byte-clause-bytes : goal.returns-in_err-write_byte-clause-bytes
+returns-in_err-write_byte-clause-bytes g c =
+    let p = err_from_is_err_and c.from_residual.result c.from_residual.ensures.1 in
+    rw (p.1, p.2) (fails_front g.S.CollationKeySink.effects _ _ _ _ (1 ∷ []) (tertiary_level c.args.form (replicate c.args.count (tertiary_runs c.args.form).common)) _
+    (fails_one g.S.CollationKeySink.effects _ _ _ _ (1 ∷ []) _ (g.met.S.CollationKeySink.took_nothing _ _ c.requires) c.in_err-write_byte.ensures.outcome))
+
+pub returns-clause-bytes : goal.returns-clause-bytes
+returns-clause-bytes g c =
+    writes_after g.S.CollationKeySink.effects _ _ _ _ _ _ (1 ∷ []) (tertiary_level c.args.form (replicate c.args.count (tertiary_runs c.args.form).common)) _
+    (λ y z t u b d. g.met.S.CollationKeySink.took_both _ y z _ t u b d c.requires)
+    c.in_ok-write_byte.ensures.outcome c.write_tertiaries.ensures.bytes

@@ -1,0 +1,5 @@
+use Rattle.icu_order_levels.specs.Quaternaries.{quaternary_bytes}
+use Rattle.icu_key_writers.proofs.quaternaries.QuaternaryWriter.close.Goals as goal
+
+pub returns-clause-bytes : goal.returns-clause-bytes
+returns-clause-bytes g c = c.write_end.ensures.bytes quaternary_bytes

@@ -1,0 +1,5 @@
+use Rattle.icu_order_levels.specs.WeightBytes.{weight_bytes}
+use Rattle.icu_key_writers.proofs.secondaries.SecondaryWriter.close.Goals as goal
+
+pub returns-clause-bytes : goal.returns-clause-bytes
+returns-clause-bytes g c = c.write_end.ensures.bytes (weight_bytes 2)

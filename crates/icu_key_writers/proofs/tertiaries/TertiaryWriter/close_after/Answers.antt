@@ -1,0 +1,17 @@
+use Rattle.std.proofs.Common.{[], ◌++◌, replicate}
+use Rattle.std.proofs.lemmas.Result.{err_from_is_err_and}
+use Rattle.icu_order_levels.specs.Tertiaries.{tertiary_runs}
+use Rattle.icu_key_writers.specs.WriterRests.{tertiary_rest, tertiary_form_of}
+use Rattle.icu_key_writers.proofs.Writing.{brings_written}
+use Rattle.icu_key_writers.proofs.tertiaries.TertiaryWriter.close_after.Goals as goal
+
+pub returns-in_err-push_commons-clause-bytes : goal.returns-in_err-push_commons-clause-bytes
+returns-in_err-push_commons-clause-bytes g c =
+    let p = err_from_is_err_and c.from_residual.result c.from_residual.ensures.1 in
+    rw (p.1, p.2) (c.in_err-push_commons.ensures.bytes [])
+
+pub returns-clause-bytes : goal.returns-clause-bytes
+returns-clause-bytes g c =
+    brings_written g.S.CollationKeySink.effects _ _ _ _ _ _ (λ ws. tertiary_rest c.args.self (replicate c.args.more (tertiary_runs (tertiary_form_of c.args.self)).common ++ ws)) (tertiary_rest c.push_commons.new.self) [] _
+    (λ y z t u b d. g.met.S.CollationKeySink.took_both _ y z _ t u b d c.requires)
+    c.in_ok-push_commons.ensures.bytes c.close.ensures.bytes

@@ -1,7 +1,0 @@
-use Rattle.std.proofs.Common.{subst, sym}
-use Rattle.icu_keyed_names.proofs.PlacedLemmas.{bytes_in}
-use Rattle.icu_beginnings.specs.KeyBeginnings.{AreBytes}
-use Rattle.icu_keyed_names.proofs.bytes.all.Goals as goal
-
-pub returns-clause-bytes : goal.returns-clause-bytes
-returns-clause-bytes c = subst AreBytes (sym c.as_slice-read.ensures.value) (bytes_in c.args.bytes.now.items c.type_inv.bytes)

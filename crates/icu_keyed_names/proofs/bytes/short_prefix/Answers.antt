@@ -1,5 +1,0 @@
-use Rattle.icu_keyed_names.proofs.KeyPrefixLemmas.{prefix_is}
-use Rattle.icu_keyed_names.proofs.bytes.short_prefix.Goals as goal
-
-pub returns : goal.returns
-returns c = let e = prefix_is c.args.key.now in cc

@@ -1,3 +1,0 @@
-pub use Rattle.icu_levels.specs.ListOrder
-pub mod KeyOrders
-pub mod Starts

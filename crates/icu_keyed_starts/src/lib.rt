@@ -1,8 +1,0 @@
-//! Starts of headings under keys, in the order of the keys, and how many of them a key has come to.
-#![tactic(auto)]
-
-pub mod keyed_starts;
-pub mod starts;
-
-pub use keyed_starts::KeyedStarts;
-pub use starts::{KeyBounds, Start};

@@ -1,5 +1,0 @@
-use Rattle.icu_levels.specs.Quaternaries.{quaternary_bytes}
-use Rattle.icu_keys.proofs.quaternaries.QuaternaryWriter.close.Goals as goal
-
-pub returns-clause-bytes : goal.returns-clause-bytes
-returns-clause-bytes g c = c.write_end.ensures.bytes quaternary_bytes

@@ -1,8 +1,0 @@
-use Rattle.icu_laws.proofs.EquivalentLemmas.{equivalent_tie, equivalent_key}
-use Rattle.icu_laws.proofs.equivalent_texts_are_equal.Goals as goal
-
-pub returns-clause-order : goal.returns-clause-order
-returns-clause-order c = λ collation t u e. equivalent_tie collation t u e
-
-pub returns-clause-key : goal.returns-clause-key
-returns-clause-key c = λ collation t u e. equivalent_key collation t u e

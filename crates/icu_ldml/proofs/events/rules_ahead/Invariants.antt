@@ -1,9 +1,0 @@
-use Rattle.std.proofs.Common.{◌≡◌, length}
-use Rattle.icu_ldml.specs.CollationEvents.{rules_ahead}
-use Rattle.icu_ldml.proofs.events.rules_ahead.Given as goal
-
-abbrev pub invariant-reading : goal.invariant-reading
-invariant-reading l = rules_ahead l.unread ≡ rules_ahead l.events
-
-abbrev pub decreases-reading : goal.decreases-reading
-decreases-reading l = length l.unread

@@ -1,3 +1,0 @@
-pub mod Subtags
-pub mod LanguageTags
-pub mod Keywords

@@ -1,5 +1,0 @@
-use Rattle.std.proofs.Common.{length}
-use Rattle.icu_locale_rules.proofs.tag_places.import_tags.Given as goal
-
-abbrev pub decreases-reading : goal.decreases-reading
-decreases-reading l = length l.unread

@@ -1,7 +1,0 @@
-use Rattle.std.proofs.Common.{◌≡◌, map, string_bytes, take}
-use Rattle.icu_locale_rules.specs.TagRules.{group_of_code}
-use Rattle.icu_locale_rules.proofs.tag_rules.groups_of.Given as goal
-
--- the groups so far
-abbrev pub invariant-loop-code : goal.invariant-loop-code
-invariant-loop-code l = map string_bytes l.groups.items ≡ map group_of_code (take l.code-index l.codes)

@@ -1,5 +1,0 @@
-use Rattle.icu_mapping_entries.proofs.GrownListLemmas.{extends_by_entries}
-use Rattle.icu_mapping_entries.proofs.digit_entries.entry_of_digit.Goals as goal
-
-pub returns-clause-extends : goal.returns-clause-extends
-returns-clause-extends c = extends_by_entries _ _ _ c.in_ok-add_entries.ensures.adds

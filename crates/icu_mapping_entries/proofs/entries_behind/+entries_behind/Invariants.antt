@@ -1,4 +1,0 @@
-use Rattle.icu_mapping_entries.proofs.entries_behind.+entries_behind.Given as goal
-
-abbrev pub decreases-entries_behind : goal.decreases-entries_behind
-decreases-entries_behind l = l.count

@@ -1,0 +1,3 @@
+pub use Rattle.icu_order_levels.specs.beginnings.KeyBeginnings
+pub mod TextBeginnings
+pub mod TextBeginningLaws

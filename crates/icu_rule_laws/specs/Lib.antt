@@ -1,0 +1,4 @@
+pub mod RuleTexts
+pub mod RelatedTexts
+pub mod mapped_texts
+pub mod tailored_texts

@@ -1,0 +1,36 @@
+//! Texts are read by the tables that rules make as the rules say: laws over the contract of `Tailoring::from_rules`.
+#![tactic(auto)]
+
+pub mod mapped_texts;
+pub mod tailored_texts;
+
+ghost use Rattle.icu_rule_laws.specs.RelatedTexts.{RelationsHoldByTables};
+ghost use Rattle.icu_rule_laws.specs.RuleTexts.{TextsAreReadByRules};
+
+use icu_rule_meaning::relations_hold;
+use icu_rule_root::CheckedRoot;
+use icu_rule_weights::tailoring_numbers::{
+    elements_of_the_root_stay, numbered_elements_keep_order,
+};
+
+/// By the tables of `Tailoring::from_rules` over this root, where they are as `AreRuledTables` asks, each text has the
+/// elements that it has by the mappings of the rules, with the numbers of their weights, but for elements without
+/// weights. Digits are read as letters are.
+pub fn texts_are_read_by_rules(root: &CheckedRoot<'_>)
+    ensures { TextsAreReadByRules root.now }
+{
+    let tables = root.tables();
+    tables.are_well_formed();
+    elements_of_the_root_stay();
+}
+
+/// By these tables a relation of two strings that no later rule moves, of which `relation_holds` of icu_rule_steps
+/// says whether it is one, holds: both strings have the same weights at the levels before its own, and the one before
+/// is less at its level.
+pub fn relations_hold_by_tables(root: &CheckedRoot<'_>)
+    ensures { RelationsHoldByTables root.now }
+{
+    texts_are_read_by_rules(root);
+    relations_hold();
+    numbered_elements_keep_order();
+}

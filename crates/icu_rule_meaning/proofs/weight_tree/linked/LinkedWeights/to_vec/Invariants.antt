@@ -1,0 +1,10 @@
+use Rattle.std.proofs.Common.{◌≡◌, ◌++◌}
+use Rattle.icu_rule_meaning.specs.weight_tree.inner.LinkedOrders.{next_in, walk, linked_weights}
+use Rattle.icu_rule_meaning.proofs.weight_tree.linked.LinkedWeights.to_vec.Given as goal
+
+abbrev pub invariant-loop-left : goal.invariant-loop-left
+invariant-loop-left l =
+    l.weights.items ++ walk l.left (next_in l.self-inside.links.entries) l.at ≡ linked_weights l.self-inside.links.entries
+
+abbrev pub decreases-loop-left : goal.decreases-loop-left
+decreases-loop-left l = l.left

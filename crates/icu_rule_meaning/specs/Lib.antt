@@ -1,0 +1,15 @@
+pub mod Rules
+pub mod SymbolicElements
+pub mod WeightTrees
+pub mod TailoredRoots
+pub mod TailoredMappings
+pub mod TailoredCases
+pub mod RootPositions
+pub mod Steps
+pub mod RootLaws
+pub mod SymbolicOrders
+pub mod RelationLaws
+pub mod BetweenLaws
+pub mod AscendingLaws
+pub mod numbering_laws
+pub mod weight_tree

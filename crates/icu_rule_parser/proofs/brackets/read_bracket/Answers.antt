@@ -1,0 +1,25 @@
+use Rattle.std.proofs.Common.{map, ap, sym, ◌∙◌, subst, List, ℕ}
+use Rattle.icu_rule_parser.specs.TakenText.{TakesWords}
+use Rattle.icu_rule_parser.proofs.BracketLemmas.{take_words, take_set}
+use Rattle.std.proofs.Common.{rules, inr}
+use Rattle.icu_rule_parser.specs.declared.unplaced_error.UnplacedError.{UnplacedError}
+use Rattle.icu_rule_parser.specs.TakenFaults.{IsInBracket}
+use Rattle.icu_rule_parser.proofs.FaultLemmas.{handed_on}
+use Rattle.icu_rule_parser.proofs.FaultPlaceLemmas.{bracket_behind}
+use Rattle.icu_rule_parser.proofs.brackets.read_bracket.Goals as goal
+
+pub returns-in-Some-clause-taken : goal.returns-in-Some-clause-taken
+returns-in-Some-clause-taken c = take_words _ c.requires.opened c.in_ok-words.ensures.taken c.in-Some.ensures
+
+pub returns-in-Some-behind-clause-taken : goal.returns-in-Some-behind-clause-taken
+returns-in-Some-behind-clause-taken c =
+    take_set c.in-Some-Some.word.now c.in_ok-ranges.ranges.items c.requires.opened
+    (subst (λ (ws : List (List ℕ)). TakesWords c.args.inside.now ws c.in_ok-words.rest.now)
+    (ap (λ ws. map (λ word. word.now) ws) (sym c.as_slice.ensures.value) ∙ c.in-Some-Some.ensures')
+    c.in_ok-words.ensures.taken)
+    c.in-Some-Some.ensures c.in_ok-ranges.ensures.taken c.skip_white.ensures.skips c.in-Some-behind.ensures
+
+pub returns-in_err-ranges-clause-fault : goal.returns-in_err-ranges-clause-fault
+returns-in_err-ranges-clause-fault c =
+    handed_on _ c.in_err-ranges.field-0.0 (λ (e : UnplacedError). IsInBracket e c.args.text.now) (search rules)
+    (inr (bracket_behind c.in_err-ranges.field-0.0 _ c.requires.opened c.in_ok-words.ensures.taken c.in_err-ranges.ensures.fault))

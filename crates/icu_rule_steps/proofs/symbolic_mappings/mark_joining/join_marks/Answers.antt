@@ -1,0 +1,144 @@
+use Rattle.std.proofs.Common.{◌≡◌, ◌+◌, ◌<◌, ◌≤◌, ℕ, List, true, false, Some, None, [], ◌∷◌, ◌++◌, length, take, drop, refl, sym, ap, ap₂, ◌∙◌, rules, arith, length-drop, length-append}
+use Rattle.std.specs.Prelude.{slice_get, nat_le, max}
+use Rattle.std.proofs.lemmas.Bool.{lt-leb, le-leb}
+use Rattle.std.proofs.lemmas.List.{take-append-drop, length-take-le, append-nil}
+use Rattle.std.proofs.lemmas.Option.{slice_get_within}
+use Rattle.std.proofs.Math.ListN.{drop_of_length-le}
+use Rattle.ucd_normal.specs.CanonicalCombiningClass.{canonical_combining_class as class_of}
+use Rattle.unicode_normalization.specs.Order.{is_starter}
+use Rattle.icu_element_matches.specs.Texts.{unread}
+use Rattle.icu_element_matches.specs.inner.Joining.{greatest_class}
+use Rattle.icu_element_matches.proofs.MarkLemmas.{one_more, blocked_by_greatest, greatest_more, removed_after, removed_before, nothing_there}
+use Rattle.icu_rule_meaning.specs.TailoredMappings.{SymbolicMapping, SymbolicMatch, is_blocked_by, joined_marks, mapping_with}
+use Rattle.icu_rule_steps.specs.symbolic_mappings.StoredMappings.{symbolic_mapping}
+use Rattle.icu_rule_steps.specs.symbolic_mappings.inner.Tiers.{lent_mappings, maybe_lent}
+use Rattle.icu_rule_steps.proofs.symbolic_mappings.JoinLemmas.{same_blocking, ends_at_starter, passes_blocked, joins_longer, passes_other, ends_with_text}
+use Rattle.icu_rule_steps.proofs.symbolic_mappings.mark_joining.join_marks.Goals as goal
+use Rattle.icu_rule_steps.proofs.symbolic_mappings.mark_joining.join_marks.Goals.{then-class-greatest+in_default-mapping_with_mark, else-class-greatest}
+
+pub marks-init : goal.marks-init
+unfolding greatest_class
+marks-init c = record { inside = omega arith; greatest = refl; whole = refl }
+
+pub returns-then-class-eq0 : goal.returns-then-class-eq0
+returns-then-class-eq0 c =
+    let l = c.marks in
+    let text : List ℕ = unread l.text in
+    let m : ℕ = c.in-Some.mark in
+    let is : slice_get text l.passed ≡ Some m = search rules in
+    let starter : is_starter m ≡ true = search rules in
+    let found : SymbolicMapping = symbolic_mapping l.found.now in
+    let ended : List ℕ → SymbolicMatch = λ r. record { elements = found.elements; suffix = found.suffix; rest = r } in
+    ap ended (sym (take-append-drop l.passed text))
+    ∙ (sym (ends_at_starter (lent_mappings c.args.mappings.now) found (take l.passed text) text l.passed m is starter) ∙ l.invariant.whole)
+
+pub remove-requires : goal.remove-requires
+remove-requires c =
+    let is : slice_get (unread c.marks.text) c.marks.passed ≡ Some c.in-Some.mark = search rules in
+    slice_get_within (unread c.marks.text) c.marks.passed c.in-Some.mark is
+
+pub marks-smaller-in-Some-mapping_with_mark : goal.marks-smaller-in-Some-mapping_with_mark
+marks-smaller-in-Some-mapping_with_mark c =
+    let l = c.marks in
+    let text : List ℕ = unread l.text in
+    let new : List ℕ = unread c.remove.new.self in
+    let is : slice_get text l.passed ≡ Some c.in-Some.mark = search rules in
+    let within : l.passed < length text = slice_get_within text l.passed c.in-Some.mark is in
+    let long : length new ≡ length (take l.passed text) + length (drop (l.passed + 1) text) =
+    ap length c.remove.ensures.rest ∙ length-append (take l.passed text) (drop (l.passed + 1) text) in
+    let shorter : length new < length text = omega (arith, within, long, length-take-le l.passed text (omega (arith, within)), length-drop (l.passed + 1) text) in
+    omega (arith, shorter, within)
+
+pub marks-preserved-in-Some-mapping_with_mark : goal.marks-preserved-in-Some-mapping_with_mark
+marks-preserved-in-Some-mapping_with_mark c =
+    let mappings : List SymbolicMapping = lent_mappings c.args.mappings.now in
+    let l = c.marks in
+    let text : List ℕ = unread l.text in
+    let m : ℕ = c.in-Some.mark in
+    let is : slice_get text l.passed ≡ Some m = search rules in
+    let within : l.passed < length text = slice_get_within text l.passed m is in
+    let starter : is_starter m ≡ false = search rules in
+    let class : class_of m ≡ c.canonical_combining_class-class.result = sym c.canonical_combining_class-class.ensures in
+    let above : l.greatest < class_of m = omega (arith, class, c.if-class-greatest.true) in
+    let free : is_blocked_by (take l.passed text) m ≡ false =
+    same_blocking (take l.passed text) m ∙ blocked_by_greatest (take l.passed text) m (omega (arith, above)) ∙ lt-leb _ _ (omega (arith, above, l.invariant.greatest)) in
+    let found : SymbolicMapping = symbolic_mapping l.found.now in
+    let longer : SymbolicMapping = symbolic_mapping c.in-Some-mapping_with_mark.longer.now in
+    let joined : mapping_with mappings (found.suffix ++ m ∷ []) ≡ Some longer =
+    sym (sym (ap maybe_lent c.in-Some-mapping_with_mark.is) ∙ c.mapping_with_mark.ensures ∙ ap (λ (s : List ℕ). mapping_with mappings (s ++ m ∷ [])) c.as_slice.ensures.value) in
+    let new : List ℕ = unread c.remove.new.self in
+    let before : take l.passed new ≡ take l.passed text = removed_before text l.passed new within c.remove.ensures.rest in
+    let after : drop l.passed new ≡ drop (l.passed + 1) text = removed_after text l.passed new within c.remove.ensures.rest in
+    let long : length new ≡ length (take l.passed text) + length (drop (l.passed + 1) text) =
+    ap length c.remove.ensures.rest ∙ length-append (take l.passed text) (drop (l.passed + 1) text) in
+    record {
+      inside = omega (arith, long, length-take-le l.passed text (omega (arith, within)));
+      greatest = l.invariant.greatest ∙ ap greatest_class (sym before);
+      whole =
+          ap₂ (joined_marks mappings longer) before after
+          ∙ sym (joins_longer mappings found (take l.passed text) text l.passed m is longer starter free joined)
+          ∙ l.invariant.whole;
+    }
+
+pub overflow_add-passed : goal.overflow_add-passed
+unfolding unread
+overflow_add-passed c =
+    let l = c.marks in
+    let is : slice_get (drop l.text.next l.text.chars.items) l.passed ≡ Some c.in-Some.mark = search rules in
+    let within : l.passed < length (drop l.text.next l.text.chars.items) = slice_get_within (drop l.text.next l.text.chars.items) l.passed c.in-Some.mark is in
+    omega (arith, within, length-drop l.text.next l.text.chars.items, l.text.chars.ok.0, l.text.chars.ok.1, l.text.chars.small)
+
+pub marks-smaller : goal.marks-smaller
+marks-smaller c =
+    let text : List ℕ = unread c.marks.text in
+    let is : slice_get text c.marks.passed ≡ Some c.in-Some.mark = search rules in
+    let within : c.marks.passed < length text = slice_get_within text c.marks.passed c.in-Some.mark is in
+    omega (arith, within)
+
+pub marks-preserved : goal.marks-preserved
+marks-preserved c =
+    let mappings : List SymbolicMapping = lent_mappings c.args.mappings.now in
+    let l = c.marks in
+    let text : List ℕ = unread l.text in
+    let passed : List ℕ = take l.passed text in
+    let rest : List ℕ = drop (l.passed + 1) text in
+    let found : SymbolicMapping = symbolic_mapping l.found.now in
+    let m : ℕ = c.in-Some.mark in
+    let is : slice_get text l.passed ≡ Some m = search rules in
+    let within : l.passed < length text = slice_get_within text l.passed m is in
+    let starter : is_starter m ≡ false = search rules in
+    let class : class_of m ≡ c.canonical_combining_class-class.result = sym c.canonical_combining_class-class.ensures in
+    let mark : 0 < class_of m = grind (arith, class, c.if-class-eq0.false) in
+    let more : take (l.passed + 1) text ≡ passed ++ m ∷ [] = one_more text l.passed m is in
+    let blocking : is_blocked_by passed m ≡ nat_le (class_of m) (greatest_class passed) = same_blocking passed m ∙ blocked_by_greatest passed m mark in
+    let greatest : c.if-class-greatest.greatest ≡ max (greatest_class passed) (class_of m) = elim c.if-class-greatest.branch [
+      | then-class-greatest+in_default-mapping_with_mark w ↦ omega (arith, w.greatest-is, w.if-class-greatest.true, class, l.invariant.greatest)
+      | else-class-greatest w ↦ omega (arith, w.greatest-is, w.if-class-greatest.false, class, l.invariant.greatest)
+    ] in
+    let turn : joined_marks mappings found passed (drop l.passed text) ≡ joined_marks mappings found (passed ++ m ∷ []) rest = elim c.if-class-greatest.branch [
+      | then-class-greatest+in_default-mapping_with_mark w ↦
+          let free : is_blocked_by passed m ≡ false = blocking ∙ lt-leb _ _ (omega (arith, w.if-class-greatest.true, class, l.invariant.greatest)) in
+          let none : mapping_with mappings (found.suffix ++ m ∷ []) ≡ None =
+          sym (sym (ap maybe_lent w.in_default-mapping_with_mark.is) ∙ w.mapping_with_mark.ensures ∙ ap (λ (s : List ℕ). mapping_with mappings (s ++ m ∷ [])) w.as_slice.ensures.value) in
+          passes_other mappings found passed text l.passed m is starter free none
+      | else-class-greatest w ↦
+          let blocked : is_blocked_by passed m ≡ true = blocking ∙ le-leb _ _ (omega (arith, w.if-class-greatest.false, class, l.invariant.greatest)) in
+          passes_blocked mappings found passed text l.passed m is starter blocked
+    ] in
+    record {
+      inside = omega (arith, within);
+      greatest = greatest ∙ sym (ap greatest_class more ∙ greatest_more passed m);
+      whole = ap (λ (p : List ℕ). joined_marks mappings found p rest) more ∙ sym turn ∙ l.invariant.whole;
+    }
+
+pub returns : goal.returns
+returns c =
+    let l = c.marks in
+    let text : List ℕ = unread l.text in
+    let none : slice_get text l.passed ≡ None = search rules in
+    let past : length text ≤ l.passed = nothing_there text l.passed none in
+    let found : SymbolicMapping = symbolic_mapping l.found.now in
+    let ended : List ℕ → SymbolicMatch = λ r. record { elements = found.elements; suffix = found.suffix; rest = r } in
+    let whole : take l.passed text ≡ text =
+    sym (append-nil (take l.passed text)) ∙ (ap (λ (r : List ℕ). take l.passed text ++ r) (sym (drop_of_length-le text past)) ∙ take-append-drop l.passed text) in
+    ap ended (sym whole) ∙ (sym (ends_with_text (lent_mappings c.args.mappings.now) found (take l.passed text) text l.passed past) ∙ l.invariant.whole)

@@ -1,0 +1,74 @@
+//! Marks that join a match.
+
+ghost use Rattle.std.specs.Prelude.{◌≡◌, ◌∷◌, ◌++◌, [], bytes_eq, Some};
+ghost use Rattle.icu_rule_meaning.specs.TailoredMappings.{joined_marks, mapping_with};
+ghost use Rattle.icu_element_matches.specs.Texts.{unread};
+ghost use Rattle.icu_rule_steps.specs.symbolic_mappings.StoredMappings.{symbolic_mapping};
+ghost use Rattle.icu_rule_steps.specs.symbolic_mappings.inner.Tiers.{lent_mappings, maybe_lent, match_left_by};
+
+use crate::symbolic_mappings::character_mapping::SymbolicMapping;
+use icu_element_matches::Text;
+use unicode_normalization::char::canonical_combining_class;
+
+/// Whether a suffix is another one with a mark behind it.
+fn is_with_mark(longer: &[char], suffix: &[char], mark: char) -> bool
+    ensures { result ≡ bytes_eq longer.now (suffix.now ++ mark ∷ []) }
+{
+    match longer.split_last() {
+        Some((last, front)) => {
+            let equal = front == suffix;
+            *last == mark && equal
+        }
+        None => false,
+    }
+}
+
+/// The mapping with a suffix that has one more mark.
+fn mapping_with_mark<'m>(
+    mappings: &[&'m SymbolicMapping],
+    suffix: &[char],
+    mark: char,
+) -> Option<&'m SymbolicMapping>
+    ensures { maybe_lent result
+        ≡ mapping_with (lent_mappings mappings.now) (suffix.now ++ mark ∷ []) }
+{
+    for mapping in mappings {
+        if is_with_mark(mapping.suffix.as_slice(), suffix, mark) {
+            return Some(mapping);
+        }
+    }
+    None
+}
+
+/// The marks up to the next starter join the mapping one by one, and leave the text, where they aren't blocked and the
+/// suffix with them has a mapping. A mark is blocked if its class isn't above the greatest class of those that were
+/// passed over.
+pub(crate) fn join_marks<'m>(
+    mappings: &[&'m SymbolicMapping],
+    begun: &'m SymbolicMapping,
+    text: &mut Text,
+) -> &'m SymbolicMapping
+    ensures { match_left_by (Some (symbolic_mapping result.now)) text.new
+        ≡ joined_marks (lent_mappings mappings.now) (symbolic_mapping begun.now)
+        [] (unread text.old) }
+{
+    let mut found = begun;
+    let mut passed = 0;
+    let mut greatest = 0;
+    'marks: while let Some(mark) = text.get(passed) {
+        let class = canonical_combining_class(mark);
+        if class == 0 {
+            return found;
+        }
+        if class > greatest {
+            if let Some(longer) = mapping_with_mark(mappings, found.suffix.as_slice(), mark) {
+                found = longer;
+                text.remove(passed);
+                continue;
+            }
+            greatest = class;
+        }
+        passed += 1;
+    }
+    found
+}

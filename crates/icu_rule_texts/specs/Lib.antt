@@ -1,2 +1,0 @@
-pub mod RuleTexts
-pub mod RelatedTexts

@@ -1,0 +1,11 @@
+pub mod LevelGaps
+pub mod PrimaryGaps
+pub mod GapOutcomes
+pub mod GapEnds
+pub mod SiblingRuns
+pub mod NumberedRuns
+pub mod PrimaryRuns
+pub mod SiblingNumberLaws
+pub mod inner
+pub mod weight_gaps
+pub mod tailoring_numbers

@@ -1,7 +1,0 @@
-use Rattle.std.proofs.Common.{◌≡◌, ◌++◌, map}
-use Rattle.icu_rules.specs.Imports.{led_by}
-use Rattle.icu_rules.proofs.imports.add_led.Given as goal
-
--- those so far are added
-abbrev pub invariant-loop-placed : goal.invariant-loop-placed
-invariant-loop-placed l = l.statements.items ≡ l.fn.statements.items ++ map (led_by l.led) l.yielded

@@ -1,6 +1,0 @@
-use Rattle.icu_rules.proofs.ImportLemmas.{Replaced}
-use Rattle.icu_rules.proofs.imports.replaced.Given as goal
-
--- those so far resolve as what replaced them
-abbrev pub invariant-loop-placed : goal.invariant-loop-placed
-invariant-loop-placed g l = Replaced (g.S.RuleSource.has l.source) l.yielded l.all.items

@@ -1,5 +1,0 @@
-use Rattle.std.proofs.Common.{◌≡◌, length}
-use Rattle.icu_script_reordering.proofs.lead_places.lead_table.Given as goal
-
-abbrev pub invariant-loop-lead : goal.invariant-loop-lead
-invariant-loop-lead l = length l.table.items ≡ l.lead

@@ -1,0 +1,10 @@
+use Rattle.icu_collator.specs.Collators.{collation_borrowed}
+use Rattle.icu_search.specs.inner.AsciiMarks.{OpensOtherwise}
+use Rattle.icu_search.proofs.AsciiMarkLemmas.{none_marked}
+use Rattle.icu_search.proofs.ascii_marks.other_marks.Goals as goal
+
+pub loop-c-init : goal.loop-c-init
+loop-c-init c = none_marked (OpensOtherwise (collation_borrowed c.args.collator.now) c.args.primaries.now)
+
+pub loop-c-preserved : goal.loop-c-preserved
+loop-c-preserved c = c.mark_other.ensures c.loop-c.invariant

@@ -1,5 +1,0 @@
-use Rattle.icu_search.proofs.EquivalentTextLemmas as lemmas
-use Rattle.icu_search.proofs.laws.equivalent_texts_correspond.Goals as goal
-
-pub returns : goal.returns
-returns c = lemmas.equivalent_texts_correspond

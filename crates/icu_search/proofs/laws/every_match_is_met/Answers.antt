@@ -1,8 +1,0 @@
-use Rattle.icu_search.proofs.FoundLemmas as lemmas
-use Rattle.icu_search.proofs.laws.every_match_is_met.Goals as goal
-
-pub returns-clause-met : goal.returns-clause-met
-returns-clause-met c = lemmas.matches_are_met
-
-pub returns-clause-nothing : goal.returns-clause-nothing
-returns-clause-nothing c = lemmas.no_match

@@ -1,5 +1,0 @@
-use Rattle.icu_search.proofs.ApartLemmas as apart
-use Rattle.icu_search.proofs.laws.found_matches_stand_apart.Goals as goal
-
-pub returns : goal.returns
-returns c = apart.found_matches_stand_apart

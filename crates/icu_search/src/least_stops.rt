@@ -1,0 +1,120 @@
+//! Where the least matches of a text end: starts are passed over where little tells that none begins there.
+
+ghost use Rattle.std.specs.Prelude.{◌≡◌, ◌+◌, ◌<◌, ◌≤◌, ℕ, [], false, true, None, IfOk, IsTrue};
+ghost use Rattle.icu_search_places.specs.KnownParts.{SaysBarren};
+ghost use Rattle.icu_search_places.specs.LeastMatches.{TellsLeastStop};
+ghost use Rattle.icu_search.specs.inner.BarrenParts.{is_barren_in};
+ghost use Rattle.icu_search.specs.inner.PartOutcomes.{equals_pattern};
+
+use crate::searched_text::SearchedText;
+use icu_search_places::BarrenPart;
+use std::alloc::AllocError;
+
+/// So many elements of what follows a start are looked at before others are.
+const FEW: usize = 3;
+
+impl<'s, 'c> SearchedText<'s, 'c> {
+    ghost use Rattle.icu_search.specs.SearchedTexts.{char_len_in, matches_in, searched_in};
+
+    /// Of the matches that begin at an offset, and end at `last` or before, where the one ends that ends first.
+    fn shortest_stop_to(&self, start: usize, last: usize) -> Result<Option<usize>, AllocError>
+        requires ordered { start ≤ last }
+        requires within { last ≤ char_len_in self.now }
+        ensures { IfOk result (λ stop. TellsLeastStop (matches_in self.now) start last stop) }
+    {
+        match self.shortest_stop(start)? {
+            Some(stop) => {
+                if stop <= last {
+                    Ok(Some(stop))
+                } else {
+                    Ok(None)
+                }
+            }
+            None => Ok(None),
+        }
+    }
+
+    /// Whether each match behind an offset that begins there holds one that begins at the next, since the character
+    /// there gives nothing that counts. False says nothing.
+    fn begins_silently(&self, start: usize) -> bool
+        ensures { IsTrue result → (stop : ℕ) → start < stop → matches_in self.now start stop ≡ true
+            → matches_in self.now (start + 1) stop ≡ true }
+    {
+        let text = self.text.characters();
+        if start >= text.len() {
+            return false;
+        }
+        let (first, rest) = text[start..].split_at(1);
+        if !self.searcher.may_be_silent(text[start]) {
+            return false;
+        }
+        if !self.searcher.passes_silent(first, rest) {
+            return false;
+        }
+        if !self.cuts_at(start + 1) {
+            return false;
+        }
+        self.is_allowed(start + 1)
+    }
+
+    /// Whether no least match begins at an offset and ends at `last` or before, as the characters tell with which what
+    /// follows begins. False says nothing.
+    fn passes_over(&self, start: usize, last: usize) -> bool
+        requires ordered { start ≤ last }
+        requires within { last ≤ char_len_in self.now }
+        requires some { equals_pattern (searched_in self.now) [] ≡ false }
+        ensures { IsTrue result → TellsLeastStop (matches_in self.now) start last None }
+    {
+        let piece = self.piece_from(start, last);
+        if self.searcher.begins_otherwise(piece, 1) {
+            return true;
+        }
+        if self.begins_silently(start) {
+            return true;
+        }
+        let most = if last < self.text.char_count() {
+            self.searcher.looks_at()
+        } else {
+            FEW
+        };
+        self.searcher.begins_otherwise(piece, most)
+    }
+
+    /// Of the matches that begin at an offset, and end at `last` or before, where the one ends that ends first. A part
+    /// with which no match begins is handed on.
+    pub(crate) fn least_stop_to(
+        &self,
+        start: usize,
+        last: usize,
+        barren: &mut BarrenPart,
+    ) -> Result<Option<usize>, AllocError>
+        requires ordered { start ≤ last }
+        requires within { last ≤ char_len_in self.now }
+        requires known { SaysBarren (is_barren_in self.now) barren.old }
+        ensures tells { IfOk result (λ stop. TellsLeastStop (matches_in self.now) start last stop) }
+        ensures known { SaysBarren (is_barren_in self.now) barren.new }
+    {
+        if self.searcher.equals_empty() {
+            return self.shortest_stop_to(start, last);
+        }
+        if self.recurs(start, barren) {
+            return Ok(None);
+        }
+        if self.passes_over(start, last) {
+            return Ok(None);
+        }
+        match self.shortest_stop(start)? {
+            Some(stop) => {
+                if stop <= last {
+                    Ok(Some(stop))
+                } else {
+                    Ok(None)
+                }
+            }
+            None => {
+                self.keep_barren(start, barren);
+                Ok(None)
+            }
+        }
+    }
+}

@@ -1,0 +1,105 @@
+//! Characters that give nothing below the quaternary level: no least match begins with one.
+
+ghost use Rattle.std.specs.Prelude.{◌≡◌, ◌∷◌, [], List, ℕ, IfSome, IsTrue};
+ghost use Rattle.icu_collator.specs.Collators.{collation_borrowed};
+ghost use Rattle.icu_element_reading.specs.TextElements.{elements_of};
+ghost use Rattle.icu_search.specs.inner.SilentStarts.{EndsAtTertiaries, is_weightless};
+ghost use Rattle.icu_order_texts.specs.Forms.{form_by, last_variable_by};
+ghost use Rattle.icu_order_texts.specs.TextOrder.{reading_by};
+ghost use Rattle.icu_search.specs.inner.SilentTexts.{HasFirstElement, IsSilentAlone, StartsSilently};
+ghost use Rattle.icu_order_texts.specs.weighting.Handled.{is_variable};
+ghost use Rattle.unicode_normalization.specs.Forms.{nfd};
+
+use icu_collator::CollatorBorrowed;
+use icu_collator::options::Strength;
+use icu_element_cursor::FactsCursor;
+use icu_element_reading::CollationElement;
+use icu_search_places::indexed_text::CharsText;
+use icu_table_entries::element::MERGE_SEPARATOR_PRIMARY;
+
+/// Whether no level counts from the quaternary one on.
+pub(crate) fn ends_at_tertiaries(collator: &CollatorBorrowed<'_>) -> bool
+    ensures { IsTrue result → EndsAtTertiaries (form_by (collation_borrowed collator.now)) }
+{
+    match collator.resolved_options().strength {
+        Strength::Primary | Strength::Secondary | Strength::Tertiary => true,
+        Strength::Quaternary | Strength::Identical => false,
+    }
+}
+
+/// The element of a text that has one, if facts tell.
+fn only_element(collator: &CollatorBorrowed<'_>, text: &[char]) -> Option<CollationElement>
+    ensures { IfSome result (λ e. elements_of (reading_by (collation_borrowed collator.now))
+        (nfd text.now) ≡ e ∷ []) }
+{
+    let tables = collator.cursor_tables();
+    let mut cursor = FactsCursor::new(&tables, CharsText(text));
+    let first = cursor.next_or_end()?;
+    let element = first?;
+    let second = cursor.next_or_end()?;
+    match second {
+        None => Some(element),
+        Some(_) => None,
+    }
+}
+
+/// The element with which those of a text begin, if facts tell.
+pub(crate) fn first_element(
+    collator: &CollatorBorrowed<'_>,
+    text: &[char],
+) -> Option<CollationElement>
+    ensures { IfSome result (λ e. HasFirstElement
+        (reading_by (collation_borrowed collator.now)) text.now e) }
+{
+    let tables = collator.cursor_tables();
+    FactsCursor::new(&tables, CharsText(text)).next()
+}
+
+/// Whether an element has no weights.
+fn is_weightless(element: CollationElement) -> bool
+    ensures { result ≡ is_weightless element }
+{
+    element.primary() == 0 && element.secondary() == 0 && element.lower() == 0
+}
+
+/// Whether an element is variable, where this is the last variable weight.
+fn is_variable(element: CollationElement, last: u32) -> bool
+    ensures { result ≡ is_variable last element }
+{
+    element.primary() > MERGE_SEPARATOR_PRIMARY && element.primary() <= last
+}
+
+/// Whether a character by itself gives nothing below the quaternary level before a primary weight. False says nothing.
+pub(crate) fn is_silent_alone(collator: &CollatorBorrowed<'_>, c: char) -> bool
+    ensures { IsTrue result → IsSilentAlone (collation_borrowed collator.now) c }
+{
+    match only_element(collator, &[c]) {
+        Some(element) => {
+            is_weightless(element) || is_variable(element, collator.last_variable())
+        }
+        None => false,
+    }
+}
+
+/// Whether a text gives nothing below the quaternary level before another one. False says nothing.
+pub(crate) fn starts_silently(
+    collator: &CollatorBorrowed<'_>,
+    first: &[char],
+    rest: &[char],
+) -> bool
+    ensures { IsTrue result → StartsSilently (collation_borrowed collator.now) first.now rest.now }
+{
+    let Some(element) = only_element(collator, first) else {
+        return false;
+    };
+    if is_weightless(element) {
+        return true;
+    }
+    if !is_variable(element, collator.last_variable()) {
+        return false;
+    }
+    match first_element(collator, rest) {
+        Some(next) => next.primary() != 0,
+        None => false,
+    }
+}

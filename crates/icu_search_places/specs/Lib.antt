@@ -1,0 +1,14 @@
+pub mod LeastMatches
+pub mod LeastMatchLaws
+pub mod SearchPlaces
+pub mod Searches
+pub mod PartLaws
+pub mod SearchLaws
+pub mod PieceLaws
+pub mod EquivalentTextLaws
+pub mod Selections
+pub mod KnownParts
+pub mod SpansLeft
+pub mod inner
+pub mod place_reader
+pub mod indexed_text

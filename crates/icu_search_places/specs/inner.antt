@@ -1,0 +1,2 @@
+-- Words of private contracts and proofs only: no public contract names them.
+pub mod HeldSpans

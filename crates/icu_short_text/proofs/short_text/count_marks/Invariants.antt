@@ -1,9 +1,0 @@
-use Rattle.std.proofs.Common.{◌≡◌, ◌≤◌, ◌+◌, ◌-◌, length, drop}
-use Rattle.icu_decomposed_text.specs.UnreadTexts.{marks_up_to}
-use Rattle.icu_short_text.proofs.short_text.count_marks.Given as goal
-
-abbrev pub invariant-marks : goal.invariant-marks
-invariant-marks l = (l.count ≤ length l.chars) × (length (marks_up_to l.class l.chars) ≡ l.count + length (marks_up_to l.class (drop l.count l.chars)))
-
-abbrev pub decreases-marks : goal.decreases-marks
-decreases-marks l = length l.chars - l.count

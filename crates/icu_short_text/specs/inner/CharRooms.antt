@@ -1,7 +1,0 @@
--- Room for the characters of a short text.
-use Rattle.std.specs.Prelude.{ℕ, List, drop, take}
-use Rattle.icu_short_text.specs.declared.char_room.CharRoom.{CharRoom}
-
--- the characters from one index to another
-abbrev pub chars_between : ℕ → ℕ → CharRoom → List ℕ
-chars_between from to r = drop from (take to r.chars)

@@ -1,9 +1,0 @@
-pub use Rattle.icu_collator.specs.Collators
-pub use Rattle.icu_encodings.specs.DecodedTexts
-pub use Rattle.icu_headings.specs.Headed
-pub use Rattle.icu_headings.specs.HeadingLaws
-pub use Rattle.icu_stored_names.specs.StatementTexts
-pub use Rattle.icu_text_beginnings.specs.TextBeginnings
-pub mod StoreLaws
-pub mod Stores
-pub mod StoreRanges

@@ -1,6 +1,0 @@
-use Rattle.sqlite.specs.Held.{state}
-use Rattle.icu_stored_rows.proofs.NextRows.{next_shown}
-use Rattle.icu_stored_rows.proofs.next_are_shown.Goals as goal
-
-pub returns : goal.returns
-returns g c = λ behind most old new. next_shown behind most (state g.S.Store old) (state g.S.Store new)

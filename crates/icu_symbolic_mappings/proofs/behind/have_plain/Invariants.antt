@@ -1,7 +1,0 @@
-use Rattle.std.proofs.Common.{◌≡◌, [], drop, bytes_eq}
-use Rattle.std.specs.List.{list_any}
-use Rattle.icu_symbolic_mappings.specs.inner.Tiers.{lent_mappings}
-use Rattle.icu_symbolic_mappings.proofs.behind.have_plain.Given as goal
-
-abbrev pub invariant-loop-mapping : goal.invariant-loop-mapping
-invariant-loop-mapping l = list_any (λ m. bytes_eq m.suffix []) (lent_mappings (drop l.mapping-index l.mappings)) ≡ list_any (λ m. bytes_eq m.suffix []) (lent_mappings l.mappings)

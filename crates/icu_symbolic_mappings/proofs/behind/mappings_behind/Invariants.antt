@@ -1,8 +1,0 @@
-use Rattle.std.proofs.Common.{◌≡◌, take}
-use Rattle.icu_tailoring.specs.TailoredMappings.{beginnings, mappings_behind}
-use Rattle.icu_symbolic_mappings.specs.StoredMappings.{symbolic_mappings}
-use Rattle.icu_symbolic_mappings.specs.inner.Tiers.{lent_mappings}
-use Rattle.icu_symbolic_mappings.proofs.behind.mappings_behind.Given as goal
-
-abbrev pub invariant-loop-count : goal.invariant-loop-count
-invariant-loop-count l = lent_mappings l.found.items ≡ mappings_behind (symbolic_mappings l.mappings) (beginnings (take l.count l.before))

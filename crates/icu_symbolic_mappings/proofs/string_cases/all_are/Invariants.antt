@@ -1,6 +1,0 @@
-use Rattle.std.proofs.Common.{◌≡◌, ◌==◌, drop}
-use Rattle.std.specs.List.{list_all}
-use Rattle.icu_symbolic_mappings.proofs.string_cases.all_are.Given as goal
-
-abbrev pub invariant-loop-case : goal.invariant-loop-case
-invariant-loop-case l = list_all (λ d. d == l.wanted) (drop l.case-index l.cases) ≡ list_all (λ d. d == l.wanted) l.cases

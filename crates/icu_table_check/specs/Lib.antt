@@ -1,0 +1,3 @@
+pub mod TableParts
+pub mod inner
+pub mod small_tables

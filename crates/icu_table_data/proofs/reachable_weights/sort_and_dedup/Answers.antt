@@ -1,0 +1,17 @@
+use Rattle.std.proofs.lemmas.List.Filters.{dedup_is}
+use Rattle.std.proofs.lemmas.List.Kept.{Contains-dedup_nat, Contains-from_dedup}
+use Rattle.std.proofs.lemmas.List.Sorted.{Contains-permutation, IsPermutation-sym}
+use Rattle.std.proofs.lemmas.Map.Keys.{IsStrictlyIncreasing-dedup}
+use Rattle.icu_table_data.proofs.reachable_weights.sort_and_dedup.Goals as goal
+
+pub returns-clause-ascending : goal.returns-clause-ascending
+returns-clause-ascending c =
+    rw (dedup_is _ _ _ c.dedup.ensures.filtered) (IsStrictlyIncreasing-dedup _ c.sort_unstable.ensures.sorted)
+
+pub returns-clause-members : goal.returns-clause-members
+returns-clause-members c w =
+    let is = dedup_is _ _ _ c.dedup.ensures.filtered in
+    let moved = c.sort_unstable.ensures.permutation in (
+      λ h. Contains-permutation _ _ w (IsPermutation-sym _ _ moved) (Contains-from_dedup _ _ w (rw is at h)),
+      λ h. rw is (Contains-dedup_nat _ w (Contains-permutation _ _ w moved h)),
+    )

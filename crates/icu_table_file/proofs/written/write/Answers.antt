@@ -1,9 +1,0 @@
-use Rattle.icu_well_formed.specs.Checked.{checked_tables}
-use Rattle.icu_table_file.specs.Origins.{contents_of}
-use Rattle.icu_table_file.proofs.WrittenLemmas.{written_file}
-use Rattle.icu_table_file.proofs.written.write.Goals as goal
-
-pub returns : goal.returns
-returns c =
-    written_file c.with_frame.result (contents_of c.args.origin (checked_tables c.args.tables.now)) c.in_ok-body.body.items c.as_slice.result.now
-    c.in_ok-body.ensures c.as_slice.ensures.value c.with_frame.ensures

@@ -1,6 +1,0 @@
-pub mod FileContents
-pub mod TableBytes
-pub mod TableFiles
-pub mod Origins
-pub mod FileReading
-pub mod inner

@@ -1,8 +1,0 @@
--- What a file says of what its tables were made from.
-use Rattle.icu_provider.specs.CollatorTables.{CollatorTables}
-use Rattle.icu_table_file.specs.FileContents.{FileContents}
-use Rattle.icu_table_file.specs.declared.written.Origin.{Origin}
-
--- the contents of a file that is written of tables
-abbrev pub contents_of : Origin → CollatorTables → FileContents
-contents_of origin all = record { tag = origin.tag.now; cldr = origin.cldr.now; unicode = origin.unicode.now; tables = all }

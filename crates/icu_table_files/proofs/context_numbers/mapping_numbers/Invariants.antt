@@ -1,0 +1,7 @@
+use Rattle.std.proofs.Common.{◌≡◌, take}
+use Rattle.std.specs.List.{flat_map}
+use Rattle.icu_table_files.specs.fingerprint.FingerprintForms.{mapping_words}
+use Rattle.icu_table_files.proofs.context_numbers.mapping_numbers.Given as goal
+
+abbrev pub invariant-loop-x : goal.invariant-loop-x
+invariant-loop-x l = l.numbers.items ≡ flat_map mapping_words (take l.x-index l.mappings)

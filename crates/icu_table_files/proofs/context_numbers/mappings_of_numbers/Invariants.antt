@@ -1,0 +1,10 @@
+use Rattle.std.proofs.Common.{◌≡◌, ◌++◌, length}
+use Rattle.std.specs.List.{flat_map}
+use Rattle.icu_table_files.specs.fingerprint.FingerprintForms.{mapping_words}
+use Rattle.icu_table_files.proofs.context_numbers.mappings_of_numbers.Given as goal
+
+abbrev pub invariant-reading : goal.invariant-reading
+invariant-reading l = flat_map mapping_words l.mappings.items ++ l.rest ≡ l.numbers
+
+abbrev pub decreases-reading : goal.decreases-reading
+decreases-reading l = length l.rest

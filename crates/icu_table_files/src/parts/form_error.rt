@@ -1,0 +1,33 @@
+//! Why bytes can't be read.
+
+ghost use Rattle.std.specs.Prelude.{◌≡◌};
+ghost use Rattle.icu_table_files.specs.declared.parts.form_error.FormError.TheVariants.{NoMemory};
+
+use std::alloc::{AllocError, AllocFailed};
+
+/// Why bytes are not read.
+#[derive(Debug, Clone, Copy, PartialEq, Eq)]
+pub enum FormError {
+    /// Out of memory.
+    NoMemory,
+    /// A length reaches past the end, a list ends within a number, or there are too many parts or too few.
+    Length,
+    /// A number stands for no value.
+    Value,
+}
+
+impl From<AllocError> for FormError {
+    ghost from_gives = { λ _ error. error ≡ NoMemory };
+
+    fn from(_: AllocError) -> FormError {
+        FormError::NoMemory
+    }
+}
+
+impl<T: Drop> From<AllocFailed<T>> for FormError {
+    ghost from_gives = { λ _ error. error ≡ NoMemory };
+
+    fn from(_: AllocFailed<T>) -> FormError {
+        FormError::NoMemory
+    }
+}

@@ -1,0 +1,5 @@
+use Rattle.icu_table_mappings.proofs.GrownListLemmas.{extends_by_entries}
+use Rattle.icu_table_mappings.proofs.digit_entries.entry_of_digit.Goals as goal
+
+pub returns-clause-extends : goal.returns-clause-extends
+returns-clause-extends c = extends_by_entries _ _ _ c.in_ok-add_entries.ensures.adds

@@ -1,7 +1,0 @@
-use Rattle.std.proofs.Common.{◌≡◌, take}
-use Rattle.std.specs.Int.{w32}
-use Rattle.icu_table_parts.specs.SpeltParts.{bytes_of_numbers}
-use Rattle.icu_table_parts.proofs.number_lists.u32s_as_bytes.Given as goal
-
-abbrev pub invariant-loop-x : goal.invariant-loop-x
-invariant-loop-x l = l.bytes.items ≡ bytes_of_numbers w32 (take l.x-index l.numbers)

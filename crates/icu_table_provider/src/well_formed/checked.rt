@@ -1,0 +1,106 @@
+ghost use Rattle.std.specs.Prelude.{◌≡◌, option_map};
+ghost use Rattle.icu_table_data.specs.StoredData.{data_of};
+ghost use Rattle.icu_table_provider.specs.OwnedTables.{owned_tables};
+ghost use Rattle.icu_table_provider.specs.StoredTables.{jamo_of, special_of, reordering_of, diacritics_of};
+ghost use Rattle.icu_table_provider.specs.well_formed.WellFormedTables.{IsWellFormedTables};
+ghost use Rattle.icu_table_provider.specs.well_formed.WellFormedProps.{well_formed_prop};
+
+use crate::{
+    CollationDiacritics, CollationJamo, CollationMetadata, CollationReordering,
+    CollationSpecialPrimaries, OwnedTables,
+};
+use icu_table_data::CollationData;
+use std::alloc::Global;
+
+/// The tables of one collator, which meet the conditions on all of them. A check that finds out whether tables do is
+/// `checked_set` of `icu_table_check`.
+#[derive(Debug, Drop)]
+pub struct CheckedTables {
+    alloc: Global,
+    tables: OwnedTables,
+    ghost well_formed: { IsWellFormedTables (owned_tables tables) } by { well_formed_prop _ },
+}
+
+impl CheckedTables {
+    ghost use Rattle.icu_table_provider.specs.well_formed.Checked.{checked_tables};
+
+    /// Keeps tables that meet the conditions: nothing is copied, and nothing checked.
+    pub fn from_well_formed(alloc: Global, tables: OwnedTables) -> CheckedTables
+        requires { IsWellFormedTables (owned_tables tables) }
+        ensures { checked_tables result ≡ owned_tables tables }
+    {
+        CheckedTables { alloc, tables }
+    }
+
+    /// The allocator that the tables were made with.
+    pub fn allocator(&self) -> Global {
+        self.alloc
+    }
+
+    /// The tables meet the conditions on all tables of a collator.
+    pub fn are_well_formed(&self)
+        ensures { IsWellFormedTables (checked_tables self.now) }
+    {}
+
+    /// The root.
+    #[tactic(auto, unfolding(crate::specs::OwnedTables::owned_tables))]
+    pub fn root(&self) -> CollationData<'_>
+        ensures { data_of result ≡ (checked_tables self.now).tables.root }
+    {
+        self.tables.root.as_data()
+    }
+
+    /// The entries of the conjoining jamo, whose lists and contexts are the root's.
+    #[tactic(auto, unfolding(crate::specs::OwnedTables::owned_tables))]
+    pub fn jamo(&self) -> CollationJamo<'_>
+        ensures { jamo_of result ≡ (checked_tables self.now).tables.jamo }
+    {
+        self.tables.jamo.as_jamo()
+    }
+
+    /// The special primary weights.
+    #[tactic(auto, unfolding(crate::specs::OwnedTables::owned_tables))]
+    pub fn special_primaries(&self) -> CollationSpecialPrimaries<'_>
+        ensures { special_of result ≡ (checked_tables self.now).special }
+    {
+        self.tables.special.as_special_primaries()
+    }
+
+    /// The metadata.
+    #[tactic(auto, unfolding(crate::specs::OwnedTables::owned_tables))]
+    pub fn metadata(&self) -> CollationMetadata
+        ensures { result.bits ≡ (checked_tables self.now).bits }
+    {
+        self.tables.metadata
+    }
+
+    /// The tailoring, if there is one.
+    #[tactic(auto, unfolding(crate::specs::OwnedTables::owned_tables))]
+    pub fn tailoring(&self) -> Option<CollationData<'_>>
+        ensures { option_map data_of result ≡ (checked_tables self.now).tables.tailoring }
+    {
+        match &self.tables.tailoring {
+            Some(tailoring) => Some(tailoring.as_data()),
+            None => None,
+        }
+    }
+
+    /// The reordering, if there is one.
+    #[tactic(auto, unfolding(crate::specs::OwnedTables::owned_tables))]
+    pub fn reordering(&self) -> Option<CollationReordering<'_>>
+        ensures { option_map reordering_of result ≡ (checked_tables self.now).reordering }
+    {
+        match &self.tables.reordering {
+            Some(reordering) => Some(reordering.as_reordering()),
+            None => None,
+        }
+    }
+
+    /// The secondary weights of the diacritics.
+    #[tactic(auto, unfolding(crate::specs::OwnedTables::owned_tables))]
+    pub fn diacritics(&self) -> CollationDiacritics<'_>
+        ensures { diacritics_of result ≡ (checked_tables self.now).tables.diacritics }
+    {
+        self.tables.diacritics.as_diacritics()
+    }
+}

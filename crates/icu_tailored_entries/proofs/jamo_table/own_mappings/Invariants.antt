@@ -1,7 +1,0 @@
-use Rattle.std.proofs.Common.{◌≡◌, drop}
-use Rattle.icu_symbolic_mappings.specs.TouchedCharacters.{have_touched}
-use Rattle.icu_tailored_entries.proofs.jamo_table.own_mappings.Given as goal
-
--- those behind have the character if one of all has it
-abbrev pub invariant-loop-other : goal.invariant-loop-other
-invariant-loop-other l = have_touched (drop l.other-index l.touched) l.c ≡ have_touched l.touched l.c

@@ -1,6 +1,0 @@
-use Rattle.unicode_normalization.specs.Forms.{nfd}
-use Rattle.icu_tailoring.proofs.KeptRootLemmas.{untouched_elements}
-use Rattle.icu_tailoring.proofs.untouched_texts_keep_elements.Goals as goal
-
-pub returns : goal.returns
-returns c = λ root rules text untouched. untouched_elements root rules (nfd text) untouched

@@ -1,6 +1,0 @@
--- The law on elements with numbers.
-use Rattle.icu_tailoring_numbers.proofs.NumberedElementLemmas.{keep_order}
-use Rattle.icu_tailoring_numbers.proofs.numbered_elements.numbered_elements_keep_order.Goals as goal
-
-pub returns : goal.returns
-returns c = keep_order

@@ -1,5 +1,0 @@
-use Rattle.icu_text_keys.proofs.CaseLemmas.{text_has_case}
-use Rattle.icu_text_keys.proofs.laws.texts_have_case.Goals as goal
-
-pub returns : goal.returns
-returns c = λ collation well_formed t text. text_has_case collation well_formed t text

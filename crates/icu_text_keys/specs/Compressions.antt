@@ -1,9 +1,0 @@
--- How the primaries of a collator are written, by the tables that say so.
-use Rattle.icu_levels.specs.Primaries.{Compression}
-use Rattle.icu_well_formed.specs.Checked.{checked_tables}
-use Rattle.icu_weighting.specs.Forms.{compression_of}
-use Rattle.icu_text_keys.specs.declared.compression.TableCompression.{TableCompression}
-
--- how primaries are written by the reordering and the compressible leads of the tables
-abbrev pub table_compression : TableCompression → Compression
-table_compression t = compression_of (checked_tables t.tables.now)

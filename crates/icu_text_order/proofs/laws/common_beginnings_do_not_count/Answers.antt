@@ -1,5 +1,0 @@
-use Rattle.icu_text_order.proofs.RestOrders.{common_beginnings}
-use Rattle.icu_text_order.proofs.laws.common_beginnings_do_not_count.Goals as goal
-
-pub returns : goal.returns
-returns c = common_beginnings

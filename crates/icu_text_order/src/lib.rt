@@ -1,5 +1,0 @@
-//! The order of any two texts by a collation (tables and settings together), the sort key of a text, and the theorem
-//! that keys order as texts do. A crate of definitions (`specs/`) and of theorems: it has no code with meaning.
-#![tactic(auto)]
-
-pub mod laws;

@@ -1,8 +1,0 @@
-use Rattle.std.proofs.Common.{inl, inr, refl}
-use Rattle.icu_text_search.proofs.searched_text.SearchedText.last_cut.Goals as goal
-
-pub returns-then-cuts_at-clause-cut : goal.returns-then-cuts_at-clause-cut
-returns-then-cuts_at-clause-cut c = inr (c.cuts_at.ensures c.if-cuts_at.true)
-
-pub returns-clause-cut : goal.returns-clause-cut
-returns-clause-cut c = inl refl

@@ -1,5 +1,0 @@
-use Rattle.std.proofs.Common.{length}
-use Rattle.icu_weight_gaps.proofs.least_above.+least_above.Given as goal
-
-abbrev pub decreases-least_above : goal.decreases-least_above
-decreases-least_above l = length l.ranges.now

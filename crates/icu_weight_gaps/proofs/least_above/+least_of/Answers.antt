@@ -1,7 +1,0 @@
-use Rattle.icu_weight_gaps.proofs.ByteLemmas.{least_of_all}
-use Rattle.icu_weight_gaps.proofs.least_above.+least_of.Goals as goal
-
-pub returns-in-Some : goal.returns-in-Some
-returns-in-Some t c =
-    least_of_all c.args.ranges.now c.in-Some.range c.in-Some.others.now c.least_of.result c.joined.result c.in-Some.ensures
-    c.requires.ordered c.least_of.ensures c.joined.ensures.value c.joined.ensures.bound

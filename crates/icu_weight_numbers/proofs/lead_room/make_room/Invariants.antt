@@ -1,5 +1,0 @@
-use Rattle.icu_weight_numbers.specs.inner.LeadUses.{KeepUses}
-use Rattle.icu_weight_numbers.proofs.lead_room.make_room.Given as goal
-
-abbrev pub invariant-loop-lead : goal.invariant-loop-lead
-invariant-loop-lead l = KeepUses l.fn.uses l.uses

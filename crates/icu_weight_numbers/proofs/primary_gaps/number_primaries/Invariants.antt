@@ -1,6 +1,0 @@
-use Rattle.std.proofs.Common.{take}
-use Rattle.icu_weight_numbers.specs.PrimaryGaps.{FillPrimaryGaps}
-use Rattle.icu_weight_numbers.proofs.primary_gaps.number_primaries.Given as goal
-
-abbrev pub invariant-loop-place : goal.invariant-loop-place
-invariant-loop-place l = FillPrimaryGaps (take l.place l.gaps) l.lists.items

@@ -1,7 +1,0 @@
-use Rattle.std.proofs.Common.{take}
-use Rattle.icu_provider.specs.StoredTables.{special_of}
-use Rattle.icu_weight_numbers.specs.PrimaryRuns.{ArePrimaryGapsOf}
-use Rattle.icu_weight_numbers.proofs.primary_runs.primary_gaps_of_runs.Given as goal
-
-abbrev pub invariant-loop-run : goal.invariant-loop-run
-invariant-loop-run l = ArePrimaryGapsOf (special_of l.special) l.limit (take l.run-index l.runs) l.gaps.items

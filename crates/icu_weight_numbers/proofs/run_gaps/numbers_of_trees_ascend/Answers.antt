@@ -1,5 +1,0 @@
-use Rattle.icu_weight_numbers.proofs.SiblingNumberLemmas.{numbers_of_trees_ascend}
-use Rattle.icu_weight_numbers.proofs.run_gaps.numbers_of_trees_ascend.Goals as goal
-
-pub returns : goal.returns
-returns c = numbers_of_trees_ascend c.weights_of_the_root_ascend.ensures

@@ -1,9 +1,0 @@
-pub mod LevelGaps
-pub mod PrimaryGaps
-pub mod GapOutcomes
-pub mod GapEnds
-pub mod SiblingRuns
-pub mod NumberedRuns
-pub mod PrimaryRuns
-pub mod SiblingNumberLaws
-pub mod inner

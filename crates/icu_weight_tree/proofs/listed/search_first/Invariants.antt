@@ -1,8 +1,0 @@
-use Rattle.std.proofs.Common.{◌≡◌, ℕ, ◌<◌, ◌≤◌, false, length, slice_index_or}
-use Rattle.icu_tailoring.specs.declared.symbolic.SymbolicWeight.TheVariants.{Rooted}
-use Rattle.icu_tailoring.specs.SymbolicElements.{is_same_weight}
-use Rattle.icu_weight_tree.proofs.listed.search_first.Given as goal
-
-abbrev pub invariant-loop-i : goal.invariant-loop-i
-invariant-loop-i l = (l.i ≤ length l.weights)
-    × ((k : ℕ) → k < l.i → is_same_weight (slice_index_or l.weights k (Rooted 0)) l.w ≡ false)

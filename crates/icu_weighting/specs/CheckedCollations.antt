@@ -1,9 +1,0 @@
--- The collation that checked tables and merged settings make.
-use Rattle.icu_options.specs.FlaggedSettings.{FlaggedSettings, values_of}
-use Rattle.icu_well_formed.specs.Checked.{checked_tables}
-use Rattle.icu_well_formed.specs.declared.checked.CheckedTables.{CheckedTables}
-use Rattle.icu_weighting.specs.Collations.{Collation}
-
--- checked tables and merged settings, as one
-abbrev pub collation_of : CheckedTables → FlaggedSettings → Collation
-collation_of t s = record { tables = checked_tables t; settings = values_of s }

@@ -1,9 +1,0 @@
--- The rule of variable weighting, as code has it.
-use Rattle.std.specs.Prelude.{List}
-use Rattle.icu_entries.specs.Elements.{Element}
-use Rattle.icu_weighting.specs.Handled.{HandledElement, handled}
-use Rattle.icu_weighting.specs.declared.weighting.VariableWeighting.{VariableWeighting}
-
--- further elements, as they are to be handled
-abbrev pub handled_after : VariableWeighting → List Element → List HandledElement
-handled_after w es = handled w.handling w.last_variable w.after_variable es

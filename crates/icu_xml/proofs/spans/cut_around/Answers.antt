@@ -1,5 +1,0 @@
-use Rattle.icu_xml.proofs.MarkCutLemmas.{cut_around_cases}
-use Rattle.icu_xml.proofs.spans.cut_around.Goals as goal
-
-pub returns : goal.returns
-returns c = cut_around_cases c.args.mark.now c.args.text.now c.split_once.result c.requires c.split_once.ensures.cases

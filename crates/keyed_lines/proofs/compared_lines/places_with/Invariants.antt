@@ -1,7 +1,0 @@
--- The places so far, and then those of the numbers to come, are all.
-use Rattle.std.proofs.Common.{◌≡◌, ◌++◌, drop}
-use Rattle.keyed_lines.specs.inner.PlaceOrders.{numbered_places}
-use Rattle.keyed_lines.proofs.compared_lines.places_with.Given as goal
-
-abbrev pub invariant-loop-index : goal.invariant-loop-index
-invariant-loop-index l = l.places.items ++ numbered_places l.index (drop l.index l.fronts) ≡ numbered_places 0 l.fronts

@@ -1,7 +1,0 @@
--- What was counted, and what is alike from there on.
-use Rattle.std.proofs.Common.{◌≡◌, ◌+◌, drop}
-use Rattle.keyed_lines.specs.inner.SettledPlaces.{first_alike}
-use Rattle.keyed_lines.proofs.settled_places.count_alike.Given as goal
-
-abbrev pub invariant-loop-index : goal.invariant-loop-index
-invariant-loop-index l = l.index + first_alike l.front (drop l.index l.places) ≡ first_alike l.front l.places

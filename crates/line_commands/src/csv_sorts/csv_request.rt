@@ -1,0 +1,83 @@
+//! How records are sorted, and why they can't be.
+
+ghost use Rattle.std.specs.Prelude.{◌≡◌};
+
+use line_sorts::csv_records::FieldsError;
+use line_sorts::{Direction, Repeats};
+use std::alloc::{AllocError, AllocFailed};
+
+/// How records are sorted.
+#[derive(Clone, Copy)]
+pub struct CsvRequest<'a> {
+    /// The byte between two fields.
+    pub delimiter: u8,
+    /// Whether the first record names the columns. It stays first.
+    pub has_header: bool,
+    /// The columns that are compared, from 0 on: the next one where those before it are equal.
+    pub columns: &'a [usize],
+    /// Which of two records comes first. Those of which neither does stand as they came.
+    pub direction: Direction,
+    /// Which are printed of those that are equal.
+    pub repeats: Repeats,
+}
+
+/// Why records aren't sorted.
+#[derive(Debug, Clone, Copy, PartialEq, Eq)]
+pub enum CsvError {
+    /// An allocation failed.
+    NoMemory,
+    /// A record doesn't have a column.
+    Lacks {
+        /// Its index among the records, the header too.
+        record: usize,
+        /// The column, from 0 on.
+        column: usize,
+    },
+    /// A quote of the last record isn't closed.
+    Open {
+        /// Its index among the records.
+        record: usize,
+    },
+    /// The header doesn't have a column of this name, or there is none to name one.
+    Unnamed {
+        /// The index of the word that names it.
+        word: usize,
+    },
+    /// A read failed, as `csv` says of one of the bytes of a record.
+    ReadFailed,
+    /// A write or the flush failed.
+    WriteFailed,
+}
+
+impl From<AllocError> for CsvError {
+    ghost use Rattle.line_commands.specs.declared.csv_sorts.csv_request.CsvError.TheVariants.{NoMemory};
+
+    ghost from_gives = { λ _ error. error ≡ NoMemory };
+
+    fn from(_: AllocError) -> CsvError {
+        CsvError::NoMemory
+    }
+}
+
+impl<T: Drop> From<AllocFailed<T>> for CsvError {
+    ghost use Rattle.line_commands.specs.declared.csv_sorts.csv_request.CsvError.TheVariants.{NoMemory};
+
+    ghost from_gives = { λ _ error. error ≡ NoMemory };
+
+    fn from(_: AllocFailed<T>) -> CsvError {
+        CsvError::NoMemory
+    }
+}
+
+impl From<FieldsError> for CsvError {
+    ghost use Rattle.line_commands.specs.csv_sorts.CsvErrors.{of_fields};
+
+    ghost from_gives = { λ fields error. error ≡ of_fields fields };
+
+    fn from(error: FieldsError) -> CsvError {
+        match error {
+            FieldsError::NoMemory => CsvError::NoMemory,
+            FieldsError::ReadFailed => CsvError::ReadFailed,
+        }
+    }
+}

@@ -1,7 +1,0 @@
--- What is left, from the field on that is still so far, is the whole from it on.
-use Rattle.std.proofs.Common.{◌≡◌, ◌-◌}
-use Rattle.line_fields.specs.LineFields.{from_field}
-use Rattle.line_fields.proofs.line_field.from_field.Given as goal
-
-abbrev pub invariant-loop : goal.invariant-loop
-invariant-loop l = from_field l.ends (l.count - l.counter) l.left ≡ from_field l.ends l.count l.fn.line

@@ -1,0 +1,13 @@
+pub use Rattle.icu_order_levels.specs.ListOrder
+pub mod FirstLines
+pub mod InputLines
+pub mod KeyParts
+pub mod ShownLines
+pub mod KeyBuffers
+pub mod KeyedOrders
+pub mod LineFronts
+pub mod SortedTexts
+pub mod OrderedTexts
+pub mod inner
+pub mod fields
+pub mod csv_records

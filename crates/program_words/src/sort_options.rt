@@ -1,0 +1,62 @@
+//! How lines are to be sorted, by options.
+
+use clap::ArgMatches;
+use line_sorts::{Direction, LineOrder, Repeats, SortRequest, Ties};
+
+/// The byte behind each line.
+pub fn separator_of(matches: &ArgMatches<'_>) -> u8 {
+    if matches.get_flag("zero-terminated") {
+        0
+    } else {
+        b'\n'
+    }
+}
+
+/// How lines are to be sorted. Lines that are equal stand by their bytes, unless they are to stand as they came, or the
+/// first alone counts.
+pub fn sort_request_of(matches: &ArgMatches<'_>) -> SortRequest {
+    let is_unique = matches.get_flag("unique");
+    SortRequest {
+        order: LineOrder {
+            direction: if matches.get_flag("reverse") {
+                Direction::Descending
+            } else {
+                Direction::Ascending
+            },
+            ties: if is_unique || matches.get_flag("stable") {
+                Ties::AsTheyCame
+            } else {
+                Ties::ByBytes
+            },
+        },
+        repeats: if is_unique {
+            Repeats::FirstOnly
+        } else {
+            Repeats::All
+        },
+        separator: separator_of(matches),
+    }
+}
+
+/// Whether lines are to be checked in place of being sorted.
+#[derive(Clone, Copy, PartialEq, Eq)]
+pub enum CheckWanted {
+    /// They are to be sorted.
+    No,
+    /// They are to be checked, and the first that isn't in order is printed.
+    Loudly,
+    /// They are to be checked, and nothing is printed.
+    Quietly,
+}
+
+/// Whether the options of a sort ask for a check.
+pub fn check_of(matches: &ArgMatches<'_>) -> CheckWanted {
+    if matches.get_flag("check-quietly") {
+        return CheckWanted::Quietly;
+    }
+    match matches.get_str("check") {
+        None => CheckWanted::No,
+        Some("quiet" | "silent") => CheckWanted::Quietly,
+        Some(_) => CheckWanted::Loudly,
+    }
+}
