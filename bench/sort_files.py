@@ -127,8 +127,8 @@ def print_starts(locale, words, programs, folder):
         it.write("a\n")
     tables = tables_of(programs.ours, locale, words, folder)
     runs = ([programs.ours, "sort", "--cldr", words.cldr, "-l", locale], [programs.ours, "sort", "--tables", tables], [programs.peer, peer_locale(locale)])
-    text, cldr_collators, peer = map(shown, programs.least(words.rounds, line, *((it, ours) for it in runs)))
-    say(f"one line by {locale}: {text} by CLDR's text, {cldr_collators} by a table file, {peer} by ICU4C's program")
+    text, compiled_tables, peer = map(shown, programs.least(words.rounds, line, *((it, ours) for it in runs)))
+    say(f"one line by {locale}: {text} by CLDR's text, {compiled_tables} by a table file, {peer} by ICU4C's program")
 
 
 def has_locale():

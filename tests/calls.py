@@ -28,8 +28,8 @@ METHOD = re.compile(r"(?:<[^(]*>)?\(\s*(?:&(?:'\w+ )?)?(?:mut )?self\b")
 VALUES = {"CollatorBorrowed": "as_borrowed", "Mappings": "mappings", "OverlappingMatches": "find_overlapping_iter",
           "WeightTreeBuilder": "tree"}
 # Programs, and crates of tests: what the driver asks about are libraries.
-OTHERS = {"cldr_collators", "collate", "collate_cldr", "collate_commands", "collate_index", "program_words", "cldr_collators",
-          "collate_cldr", "program_files", "sort_names", "test_contracts", DRIVER}
+OTHERS = {"cldr_collators", "collate", "collate_cldr", "collate_commands", "collate_index", "program_files", "program_words",
+          "sort_names", "test_contracts", DRIVER}
 KEY, CHECK, FILE, READ, LINE, INDEX = "`key`", "`check`", "`root`", "`next` and `whole`", "`line`", "`names`"
 # Calls to which no question comes: each request of this program is refused by itself, and some are made by tests in Rattle alone,
 # without a refusal.
@@ -117,7 +117,7 @@ LEFT_OUT = {
     ("line_searches", "matches_of_line"): PROGRAM,
     ("line_searches", "wanted_text"): PROGRAM,
     ("line_sorts", "csv_fields"): PROGRAM,
-    ("line_sorts", "line_sorts"): PROGRAM,
+    ("line_sorts", "csv_records"): PROGRAM,
     ("line_commands", "column_disorder_text"): PROGRAM,
     ("line_commands", "csv_error_said"): PROGRAM,
     ("line_commands", "wrong_csv_words"): PROGRAM,
