@@ -8,7 +8,8 @@ import sys
 HERE = os.path.dirname(os.path.realpath(__file__))
 TOP = os.path.dirname(HERE)
 NAME = "collation_bench"
-LIBRARIES = "icu_table_provider icu_table_check icu_element_reading icu_text_decomposition icu_element_cursor icu_collator icu_index icu_search icu_table_mini icu_cldr_root"
+LIBRARIES = ("icu_table_provider icu_table_check icu_element_reading icu_text_decomposition icu_element_cursor "
+             "icu_collator icu_index icu_search icu_table_mini icu_cldr_root")
 PARTS = ("src", "specs", "proofs")
 COMPILER = os.environ.get("CXX", "g++")
 

@@ -50,7 +50,7 @@ class Programs:
 
     def __init__(self, program, folder):
         self.ours = os.path.abspath(program)
-        self.peer = compiled(folder, "icu_collator", "icu-i18n", "icu-uc")
+        self.peer = compiled(folder, "icu_sort", "icu-i18n", "icu-uc")
         self.timer = compiled(folder, "cost")
         self.figures = os.path.join(folder, "figures")
 
