@@ -16,9 +16,6 @@ pub use Rattle.icu_table_provider.specs.CollatorTables
 pub use Rattle.icu_table_provider.specs.well_formed.WellFormedTables
 pub use Rattle.icu_table_provider.specs.LoadedTables
 pub use Rattle.icu_element_reading.specs.CollationElements
-pub use Rattle.icu_order_texts.specs.Levels
-pub use Rattle.icu_order_texts.specs.Handled
-pub use Rattle.icu_order_texts.specs.Forms
 pub use Rattle.icu_key_writers.specs.Sinks
 pub use Rattle.icu_key_writers.specs.KeyWrites
 pub mod Collators
