@@ -167,6 +167,8 @@ def check_first_run(report):
         prepare(room)
         report.say("what can't be done without a proof is refused by name", wrongly_tried(room), len(REFUSED))
         report.say("what is run without a proof gets its words, files and input", wrong_tries(room), len(TRIED))
-    report.say("what is said while a program is proved", wrong_lines())
-    report.say("the time that is said to be left", wrong_estimates())
-    report.say("a clock that learns nothing of the machine is found", ["it isn't"] * (not wrong_estimates(Unlearning, 1)))
+    report.say("what is said while a program is proved", wrong_lines(), 1)
+    programs = [it for it in crates.listed().values() if it.is_program]
+    report.say("the time that is said to be left", wrong_estimates(), 2 * len(programs))
+    unlearned = ["it isn't"] * (not wrong_estimates(Unlearning, 1))
+    report.say("a clock that learns nothing of the machine is found", unlearned, 2)
