@@ -16,7 +16,7 @@ sys.path.insert(0, os.path.dirname(os.path.realpath(__file__)))
 import crates  # noqa: E402
 
 # What the gate took from nothing at the commit 05fed7b8, in minutes of processor and of wall on four processors, and what the
-# yardstick took on that machine with nothing else, in seconds of both. By the yardstick, `rt selftest`, machines are compared.
+# yardstick, `rt selftest`, took alone on another machine of that kind, in seconds of both. By the yardstick machines are compared.
 BASE = {"processor": 436, "wall": 155, "processors": 4}
 BASE_YARDSTICK = (105.0, 40.5)
 # What it may take of that: now, and for the life of the project.

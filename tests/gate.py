@@ -20,8 +20,9 @@ import edits  # noqa: E402
 
 TOP = crates.TOP
 LOG = os.path.join(TOP, "out", "test.log")
-# Each crate is proved by one process, and as many at a time as there are processors, whatever memory they may take: one process a
-# crate takes 0.79 of the processor time of several. Whoever lacks the memory sets RT_JOBS lower.
+# Each crate is proved by one process, and as many at a time as there are processors, whatever memory they may take. One process a
+# crate took about 0.8 of the processor time of several, in one run each of six low crates. Whoever lacks the memory sets RT_JOBS
+# lower.
 PROVE = ["rt", "ci"]
 JOBS = {"RT_JOBS": str(crates.processors())}
 # The programs of bin/ that compare documents and comments with the sources, count what makes sources hard to read, and list where
