@@ -16,7 +16,7 @@ use line_commands::field_sorts::wrong_field_word;
 use line_commands::{print_comparison, print_key, print_keys};
 use program_files::{
     DONE, ProgramError, RunProgress, WRONG_WORDS, WatchedOutput, read_inputs, replace_file,
-    report_failure, write_text,
+    report_failure, write_message, write_text,
 };
 use program_words::{
     CheckWanted, answer_words, check_of, files_of, program, separator_of, text_of,
@@ -113,12 +113,12 @@ fn says_wrong_words<R: AllocGlobal, E: Write>(
         let text = format!(in rt.alloc();
             "collate-cldr: '{word}' is no key F[.C][bnr][,F[.C][bnr]] and no separator of one character of ASCII; --help says more\n"
         )?;
-        let _ = write_text(errors, text.as_bytes());
+        write_message(errors, text.as_str());
         return Ok(true);
     }
     let is_csv = matches.get_flag("csv");
     if is_csv && keys.is_some() {
-        let _ = write_text(errors, NO_KEYS_OF_RECORDS.as_bytes());
+        write_message(errors, NO_KEYS_OF_RECORDS);
         return Ok(true);
     }
     let words = CsvWords {
@@ -131,7 +131,7 @@ fn says_wrong_words<R: AllocGlobal, E: Write>(
     };
     match wrong_csv_words(rt.alloc(), &words)? {
         Some(said) => {
-            let _ = write_text(errors, said.as_bytes());
+            write_message(errors, said.as_str());
             Ok(true)
         }
         None => Ok(false),
@@ -338,7 +338,7 @@ pub(crate) fn run<
         None if matches.get_flag("version") => print_versions(rt, &matches, output),
         None if matches.get_flag("list-locales") => print_locales(rt, &matches, output),
         None => {
-            let _ = write_text(errors, NO_COMMAND.as_bytes());
+            write_message(errors, NO_COMMAND);
             Ok(WRONG_WORDS)
         }
     };

@@ -2,7 +2,7 @@
 
 use crate::index_words::index_words;
 use crate::outcome::run_command;
-use program_files::{ProgramError, WRONG_WORDS, Wording, report_failure, write_text};
+use program_files::{ProgramError, WRONG_WORDS, Wording, report_failure, write_message};
 use program_words::answer_words;
 use std::io::{Read, Write};
 
@@ -33,7 +33,7 @@ fn run_words<I: Read, W: Write, E: Write>(
     match matches.subcommand() {
         Some((name, inner)) => run_command(rt, name, inner, input, output),
         None => {
-            let _ = write_text(errors, NO_COMMAND.as_bytes());
+            write_message(errors, NO_COMMAND);
             Ok(WRONG_WORDS)
         }
     }

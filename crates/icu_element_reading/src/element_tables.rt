@@ -22,7 +22,7 @@ pub struct ElementTables<'d> {
 }
 
 /// An entry with its home, the table whose lists and contexts it refers to.
-#[derive(Debug, Clone, Copy)]
+#[derive(Clone, Copy)]
 pub(crate) struct HomedEntry<'d> {
     pub(crate) home: CollationData<'d>,
     pub(crate) ce32: CollationElement32,

@@ -9,6 +9,11 @@ abbrev pub status_of : ProgramError → ℕ
 status_of WrongWords = 2
 status_of _ = 1
 
+-- the status that a program over CLDR's data ends with for an error
+abbrev pub failure_status : ProgramError → ℕ
+failure_status WrongWords = 2
+failure_status _ = 3
+
 -- the lines that a program says of its errors
 pub record Lines : Type 0 where
   pub usage : List ℕ

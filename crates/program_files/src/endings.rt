@@ -1,9 +1,11 @@
 //! How a run ends that doesn't come to its end.
 
-ghost use Rattle.std.specs.Prelude.{◌≤◌};
+ghost use Rattle.std.specs.Prelude.{◌≡◌, ◌≤◌};
+ghost use Rattle.program_files.specs.PartialWrites.{AppendsBeginning};
+ghost use Rattle.program_files.specs.ProgramErrors.{failure_status, line_of, lines_in};
 
 use crate::program_error::{ProgramError, Wording};
-use crate::writing::write_text;
+use crate::writing::write_message;
 use std::io::Write;
 
 /// The status of a run: nothing is wrong.
@@ -13,14 +15,20 @@ pub const WRONG_WORDS: u8 = 2;
 /// Data, memory, a database, input or output are missing or fail.
 pub const FAILED: u8 = 3;
 
-/// Writes to standard error what kept a program over CLDR's data from its end, and returns the status. That a write
-/// fails there changes nothing.
+/// Writes to standard error what kept a program over CLDR's data from its end, and returns the status: `WRONG_WORDS`
+/// for words that are no command, else `FAILED`. If a write fails there, the status is the same.
 pub fn report_failure<E: Write>(error: ProgramError, wording: Wording, errors: &mut E) -> u8
-    ensures { result ≤ 3 }
+    ensures status { result ≡ failure_status error }
+    ensures bound { result ≤ 3 }
+    ensures written { AppendsBeginning (E.contents errors.old) (E.contents errors.new)
+        (line_of (lines_in wording) error) }
 {
-    let _ = write_text(errors, error.line(wording).as_bytes());
+    write_message(errors, error.line(wording));
     match error {
         ProgramError::WrongWords => WRONG_WORDS,
-        _ => FAILED,
+        ProgramError::NoMemory
+        | ProgramError::Refused(_)
+        | ProgramError::ReadFailed
+        | ProgramError::WriteFailed => FAILED,
     }
 }

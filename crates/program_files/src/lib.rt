@@ -24,4 +24,4 @@ pub use output_file::replace_file;
 pub use program_error::{ProgramError, Wording};
 pub use progress::RunProgress;
 pub use watched_output::WatchedOutput;
-pub use writing::write_text;
+pub use writing::{write_message, write_text};

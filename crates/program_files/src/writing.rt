@@ -22,6 +22,13 @@ pub fn write_text<W: Write>(writer: &mut W, text: &[u8]) -> Result<()>
     Err(Error::from(ErrorKind::WriteZero))
 }
 
+/// Writes what a program says of an error, or as much of it as can be written.
+pub fn write_message<W: Write>(writer: &mut W, message: &str)
+    ensures { AppendsBeginning (W.contents writer.old) (W.contents writer.new) message.now }
+{
+    let _ = write_text(writer, message.as_bytes());
+}
+
 /// Writes a beginning of the text, which is empty where a signal came first, and returns how long it is.
 fn write_some<W: Write>(writer: &mut W, text: &[u8]) -> Result<usize>
     ensures bound { WritesAtMost result text.now }

@@ -3,7 +3,7 @@
 ghost use Rattle.std.specs.Prelude.{◌≤◌, IfOk};
 
 use clap::error::{Error, ErrorKind};
-use program_files::{DONE, ProgramError, WRONG_WORDS, write_text};
+use program_files::{DONE, ProgramError, WRONG_WORDS, write_message, write_text};
 use std::io::Write;
 
 /// Says what is wrong with the words, or prints the help that they ask for, and returns the status.
@@ -24,7 +24,7 @@ pub fn answer_words<R: AllocGlobal, W: Write, E: Write>(
     }
     let text = error.to_string(rt.alloc())?;
     if error.use_stderr() {
-        let _ = write_text(errors, text.as_bytes());
+        write_message(errors, text.as_str());
         return Ok(WRONG_WORDS);
     }
     match write_text(output, text.as_bytes()) {
