@@ -27,9 +27,9 @@ PROGRAMS = [os.path.join(FOLDER, "out", it) for it in ("test_driver", "test_driv
 # Each file of rows: how many it has, so that none is lost, and what makes a case of a row.
 FILES = {
     "refusals.txt": (310, row_questions.refusals),
-    "order.txt": (249, row_questions.order),
+    "order.txt": (253, row_questions.order),
     "keys.txt": (125, row_questions.keys),
-    "elements.txt": (69, row_questions.elements),
+    "elements.txt": (75, row_questions.elements),
     "values.txt": (166, row_questions.values),
     "settings.txt": (37, row_questions.settings),
     "encodings.txt": (478, row_questions.encodings),
