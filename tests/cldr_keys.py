@@ -1,7 +1,8 @@
 #!/usr/bin/env python3
-"""The sort keys of the texts of CLDR's two test files, by the root of CLDR: how many, how many bytes they have in all, how many
-neighbours are out of order by them, and a checksum. A record, tests/cldr_keys.txt, is of the root whose checksum its first line
-has; a key that changes is seen so, also where the order stays. bin/test-cldr runs it; it isn't part of the gate.
+"""The sort keys of the texts of CLDR's two test files, by the root of CLDR: how many, how many bytes they have in all, how many of
+them are greater than the next one, and a checksum. Each comparison of a text with the next one has to be the order of their keys. A
+record, tests/cldr_keys.txt, is of the root whose checksum its first line has; a key that changes is seen so, even if the order
+stays. bin/test-cldr runs it; it isn't part of the gate.
 
 usage: tests/cldr_keys.py FOLDER [PROGRAM]            compares with the record; status 1 where something differs, a text that should
                                                       be in order isn't, or nothing is recorded of this root
@@ -48,17 +49,25 @@ def texts(path):
             yield spelt
 
 
-def keys_of(driver, folder, name, settings):
-    """The keys of the texts of a test file, in turn."""
-    asked = [f"file {os.path.abspath(os.path.join(folder, ROOT))}", f"make {settings}"]
-    answers = driver.ask([*asked, *(f"key {text('c', it)}" for it in texts(os.path.join(folder, name)))])
+def asked(driver, folder, settings, questions):
+    """The answers to questions that are asked of a collator."""
+    answers = driver.ask([f"file {os.path.abspath(os.path.join(folder, ROOT))}", f"make {settings}", *questions])
     if answers[:2] != ["ok", "ok"]:
         raise DriverFault(f"{ROOT}: {answers[:2]}")
-    return [bytes(numbers(it)) for it in answers[2:]]
+    return answers[2:]
+
+
+def keys_of(driver, folder, name, settings):
+    """The keys of the texts of a test file, in turn, and how many texts compare with the next one otherwise than their keys do."""
+    spelt = [text("c", it) for it in texts(os.path.join(folder, name))]
+    keys = [bytes(numbers(it)) for it in asked(driver, folder, settings, [f"key {it}" for it in spelt])]
+    orders = asked(driver, folder, settings, [f"compare {one} , {other}" for one, other in zip(spelt, spelt[1:])])
+    wanted = ["Less" if one < other else "Greater" if one > other else "Equal" for one, other in zip(keys, keys[1:])]
+    return keys, sum(it != other for it, other in zip(orders, wanted))
 
 
 def said_of(keys):
-    """What is recorded of keys: how many, their bytes, the neighbours of which the first is greater, and a checksum."""
+    """What is recorded of keys: how many, their bytes, the texts that are greater than the next one, and a checksum."""
     checksum = hashlib.sha256()
     for key in keys:
         checksum.update(len(key).to_bytes(4, "big") + key)
@@ -67,11 +76,12 @@ def said_of(keys):
 
 
 def lines_of(driver, folder):
-    """The lines of a record, and which texts should be in order and aren't."""
+    """The lines of a record, and whether texts should be in order and aren't, or compare otherwise than their keys do."""
     yield f"{ROOT}: {hashlib.sha256(content(os.path.join(folder, ROOT))).hexdigest()[:32]}", False
     for name, file, settings, is_ordered in SETTINGS:
-        said = said_of(keys_of(driver, folder, file, settings))
-        yield f"{name}: {said}", is_ordered and ", 0 out of order, " not in said
+        keys, unlike = keys_of(driver, folder, file, settings)
+        said = said_of(keys)
+        yield f"{name}: {said}", unlike > 0 or is_ordered and ", 0 out of order, " not in said
 
 
 def main(words):

@@ -76,9 +76,6 @@ RUNS = [
     (over("check", "1", "-s"), b"a\nA\n", 0, b"", b""),
     (KEYS, b"b\na\n", 0, b"6114010501010501\tb\n6110010501010501\ta\n", b""),
     (over("keys", "1", "-z"), b"b\0", 0, b"6114\tb\0", b""),
-    (over("neighbours", "3"), b"0061\n0041\n0062\n", 0, b"2 pairs, out of order by compare 0, by keys 0; 0 lines passed over\n", b""),
-    (over("neighbours", "3"), b"0062\n0061\n", 1, b"1 pairs, out of order by compare 1, by keys 1; 0 lines passed over\n", b""),
-    (over("neighbours", "1"), b"0041\n0061\n", 0, b"1 pairs, out of order by compare 0, by keys 0; 0 lines passed over\n", b""),
     (["sort", "--root", "none"], NAMES, 3, b"", b"none" + NO_DATA),
     (["sort", "--cldr", "none"], NAMES, 3, b"", b"none/common/uca/FractionalUCA.txt" + NO_DATA),
     (over("sort", "3", "absent"), NAMES, 3, b"", b"absent: not opened\n"),
@@ -115,7 +112,6 @@ STREAM_RUNS = [
     (SORT, "</", 3, b"", b"collate-cldr: read failed\n"),
     (SORT, "<&-", 0, b"", b""),
     (CHECK, "</", 3, b"", b"collate-cldr: read failed\n"),
-    (over("neighbours", "3"), "</", 3, b"", b"collate-cldr: read failed\n"),
     (["sort", "--root", "/"], "", 3, b"", b"/: read failed\n"),
 ]
 
@@ -252,49 +248,6 @@ def wrong_options(program, pairs):
     return found
 
 
-# ---- neighbours out of order
-
-# Twelve texts, and lines that aren't texts: a lone surrogate, a number too large, no number, a comment, an empty line. Out of order
-# are b a, by their secondary weights á a, and as digits c 10; as numbers 10 9 as well.
-TEXTS = b"""\
-0062
-0061 # a, which is less than b
-0061
-0041
-
-# a comment
-0061 0301
-0061
-D800
-0063
-110000
-0031 0030
-0039
-a b c z
-"""
-# Options, the strength, the pairs, how many of them are out of order, and the lines that are passed over.
-DISORDER = [
-    ([], "3", 8, 3, 3),
-    ([], "i", 8, 3, 3),
-    ([], "1", 8, 2, 3),
-    ([NUMERIC], "3", 8, 4, 3),
-    ([UPPER], "3", 8, 4, 3),
-]
-
-
-def counts_of(pairs, greater, passed_over):
-    return f"{pairs} pairs, out of order by compare {greater}, by keys {greater}; {passed_over} lines passed over\n".encode()
-
-
-def wrong_counts(program):
-    found = []
-    for options, strength, *counts in DISORDER:
-        ran = run(program, over("neighbours", strength, *options), TEXTS)
-        if ran.came_to() != (1, counts_of(*counts), b""):
-            found.append(f"{options} at {strength}: {ran}; wanted: {counts_of(*counts)}")
-    return found
-
-
 # ---- the file with a line cut at each place
 
 
@@ -406,7 +359,6 @@ COMMANDS = [
     (over("sort", "3", "--csv", "--column", "1"), NAMES, lambda at, count, after: at > count - LAST_ONES),
     (over("sort", "3", "-k1,1nr", "-k2"), NAMES, lambda at, count, after: at > count - LAST_ONES),
     (CHECK, b"a\nb\n", lambda at, count, after: at > count - LAST_ONES),
-    (over("neighbours", "3"), b"0061\n0041\n0062\n", lambda at, count, after: at > count - LAST_ONES),
 ]
 
 
@@ -433,10 +385,6 @@ FAULTY = [
      'exec "$COLLATE" "$a" "$b" "$c" "$d" "$e" "$f" "$@";; esac; exec "$COLLATE" "$@"',
      lambda program: wrong_options(program, PAIRS[:4])),
     ("lines that are equal in any order", '"$COLLATE" "$@" | sort', wrong_runs),
-    ("the last pair left out", 'sed "\\$d" | sed "\\$d" | "$COLLATE" "$@"', wrong_counts),
-    ("no pair out of order by keys", '"$COLLATE" "$@" | sed "s/keys [0-9]*/keys 0/"', wrong_counts),
-    ("pairs that are sorted first", 'sort -u | "$COLLATE" "$@"', wrong_counts),
-    ("lines that are passed over and not said", 'grep -v "^D\\|^1" | "$COLLATE" "$@"', wrong_counts),
 ]
 
 
@@ -468,7 +416,6 @@ def check_collate_cldr(report, room, shim):
     check_tables(report, folder, program, LETTERS, shim)
     report.say("collate-cldr: options of which both matter", wrong_options(program, PAIRS), 5 * len(PAIRS))
     report.say("collate-cldr: options of which the last counts", wrong_options(program, LAST), 4 * len(LAST))
-    report.say("collate-cldr: pairs out of order", wrong_counts(program), len(DISORDER))
     report.say("collate-cldr: programs with a fault are found", faults_missed(room, program), len(FAULTY))
     check_refused(report, program, shim)
     cuts = cut_lines(letter_lines())

@@ -25,7 +25,6 @@ ASKED = [
     (["why", "á", "A"], ""),
     (["search", "--strength=1", "a"], "b\ná\n"),
     (["compare", "--case-level", "--strength=1", "a", "A"], ""),
-    (["neighbours"], "0062\n0061\n"),
 ]
 
 

@@ -2,7 +2,6 @@
 #![tactic(auto)]
 
 mod asked_collator;
-mod counted_neighbours;
 mod csv_command;
 mod line_orders;
 mod program;

@@ -3,7 +3,6 @@
 ghost use Rattle.std.specs.Prelude.{◌≤◌, IfOk};
 
 use crate::asked_collator::{collator_by_words, collator_request};
-use crate::counted_neighbours::print_neighbours;
 use crate::csv_command::{check_csv, sort_csv};
 use crate::line_orders::{check_lines, sort_lines};
 use crate::reports::{DIFFERS, WORDING, report_unless_closed};
@@ -220,19 +219,6 @@ fn keys<R: Files + Env + Clock + AllocGlobal, I: Read, W: Write, E: Write>(
     Ok(DONE)
 }
 
-/// Counts the neighbours of the input that are out of order.
-fn neighbours<R: Files + Env + AllocGlobal, I: Read + Drop, W: Write>(
-    rt: &R,
-    matches: &ArgMatches<'_>,
-    input: I,
-    output: &mut W,
-) -> Result<u8, ProgramError>
-    ensures { IfOk result (λ status. status ≤ 3) }
-{
-    let collator = collator_by_words(rt, matches)?;
-    print_neighbours(rt.alloc(), &collator, input, output)
-}
-
 /// Which streams are terminals.
 #[derive(Clone, Copy)]
 pub(crate) struct Terminals {
@@ -288,9 +274,8 @@ fn run_command<R: Files + Env + Clock + AllocGlobal, I: Read + Drop, W: Write, E
             )
         }
         "key" | "explain" => show(rt, name, matches, output),
-        "keys" => keys(rt, matches, &mut progress, &mut input, output, errors),
         "compile" => compile(rt, matches),
-        _ => neighbours(rt, matches, input, output),
+        _ => keys(rt, matches, &mut progress, &mut input, output, errors),
     }
 }
 

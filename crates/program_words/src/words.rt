@@ -222,10 +222,5 @@ pub fn program<'a>(alloc: Global) -> Result<Command<'a>, AllocError> {
             "keys",
             "Prints each line behind its sort key in hexadecimal digits and a tab",
         )?)?
-        .subcommand(compile_command(alloc)?)?
-        .subcommand(command(
-            alloc,
-            "neighbours",
-            "Counts lines of characters' numbers, as in CLDR's tests, that are out of order",
-        )?)
+        .subcommand(compile_command(alloc)?)
 }

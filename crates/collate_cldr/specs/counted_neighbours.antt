@@ -1,2 +1,0 @@
-pub mod Neighbours
-pub mod KeyedTexts
