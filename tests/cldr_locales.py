@@ -1,11 +1,11 @@
-"""The program `collate-cldr` with the rules of languages, over small files in the forms of CLDR's (tests/cldr): each way in which a
+"""The program `collate-cldr` with the rules of languages, over small files in the forms of CLDR's (crates/use_language/data): each way in which a
 locale comes to its rules, settings of options, tags and rules, locales of the environment, and files and rules that are refused."""
 import os
 import shutil
 
 from sweeps import ENVIRONMENT, TOP, Run, ended
 
-FOLDER = os.path.join(TOP, "tests", "cldr")
+FOLDER = os.path.join(TOP, "crates", "use_language", "data", "cldr")
 SIGNS = {"<": 1, "=": 0, ">": 1}
 # Words beside the folder, two texts, and the sign that is wanted.
 SIGNED = [
@@ -122,10 +122,10 @@ RADICALS = [
 ]
 # Tags that are none.
 NO_TAGS = [
-    ("sv_SE", "collate-cldr: locale sv_SE: character 0: expected a language of two, three or five to eight letters\n"),
-    ("sv-u-kn-maybe", "collate-cldr: locale sv-u-kn-maybe: expected `kn` with true or false\n"),
-    ("sv-u-kr-xxxx", "collate-cldr: locale sv-u-kr-xxxx: kr: expected groups that can be put in this order, each once\n"),
-    ("und-u-kr-digit-digit", "collate-cldr: locale und-u-kr-digit-digit: kr: expected groups that can be put in this order, each once\n"),
+    ("sv_SE", "locale sv_SE: character 0: expected a language of two, three or five to eight letters\n"),
+    ("sv-u-kn-maybe", "locale sv-u-kn-maybe: expected `kn` with true or false\n"),
+    ("sv-u-kr-xxxx", "locale sv-u-kr-xxxx: kr: expected groups that can be put in this order, each once\n"),
+    ("und-u-kr-digit-digit", "locale und-u-kr-digit-digit: kr: expected groups that can be put in this order, each once\n"),
 ]
 # Variables of the environment, words, two texts and the sign.
 ENVIRONMENTS = [
@@ -183,7 +183,7 @@ def wrong_radicals(program, folder):
         with open(path, "w", encoding="utf-8") as it:
             it.write(whole[:first] + lines + whole[last:])
         ran = run_in(program, ["compare", "--cldr", folder, "-l", "zh-u-co-unihan", "a", "b"])
-        if ran.came_to() != (3, b"", f"{path}: {said}".encode()):
+        if ran.came_to() != (3, b"", f"collate-cldr: {path}: {said}".encode()):
             found.append(f"{lines!r}: {ran}; wanted: {said!r}")
     with open(path, "w", encoding="utf-8") as it:
         it.write(whole)
@@ -198,12 +198,12 @@ def wrong_refusals(program, room):
             it.write(text)
     for tag, said in [(tag, folder + said) for tag, said in REFUSED] + NO_TAGS:
         ran = run_in(program, ["compare", "--cldr", folder, "-l", tag, "a", "b"])
-        if ran.came_to() != (3, b"", said.encode()):
+        if ran.came_to() != (3, b"", f"collate-cldr: {said}".encode()):
             found.append(f"{tag}: {ran}; wanted: {said!r}")
     found += wrong_radicals(program, folder)
     os.remove(f"{folder}{COLLATION}root.xml")
     ran = run_in(program, ["compare", "--cldr", folder, "-l", "sv", "a", "b"])
-    if ran.status != 3 or not ran.faults.startswith(f"{folder}{COLLATION}root.xml: not opened;".encode()):
+    if ran.status != 3 or not ran.faults.startswith(f"collate-cldr: {folder}{COLLATION}root.xml: not opened;".encode()):
         found.append(f"no file of the root: {ran}")
     return found
 

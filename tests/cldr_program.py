@@ -76,11 +76,11 @@ RUNS = [
     (over("check", "1", "-s"), b"a\nA\n", 0, b"", b""),
     (KEYS, b"b\na\n", 0, b"6114010501010501\tb\n6110010501010501\ta\n", b""),
     (over("keys", "1", "-z"), b"b\0", 0, b"6114\tb\0", b""),
-    (["sort", "--root", "none"], NAMES, 3, b"", b"none" + NO_DATA),
-    (["sort", "--cldr", "none"], NAMES, 3, b"", b"none/common/uca/FractionalUCA.txt" + NO_DATA),
-    (over("sort", "3", "absent"), NAMES, 3, b"", b"absent: not opened\n"),
-    (over("sort", "3", "/"), NAMES, 3, b"", b"/: read failed\n"),
-    (over("sort", "3", "-o", "/none/out"), NAMES, 3, b"", b"/none/out.collate-cldr-unfinished: not created\n"),
+    (["sort", "--root", "none"], NAMES, 3, b"", b"collate-cldr: none" + NO_DATA),
+    (["sort", "--cldr", "none"], NAMES, 3, b"", b"collate-cldr: none/common/uca/FractionalUCA.txt" + NO_DATA),
+    (over("sort", "3", "absent"), NAMES, 3, b"", b"collate-cldr: absent: not opened\n"),
+    (over("sort", "3", "/"), NAMES, 3, b"", b"collate-cldr: /: read failed\n"),
+    (over("sort", "3", "-o", "/none/out"), NAMES, 3, b"", b"collate-cldr: /none/out.collate-cldr-unfinished: not created\n"),
     (["compare", "--cldr", FOLDER, "-l", "und-u-ks-level1", "as", "às"], b"", 0, b"=\n", b""),
     (["compare", "--cldr", FOLDER, "-l", "und-u-ks-level1", "--strength=2", "as", "às"], b"", 1, b"<\n", b""),
     (["compare", "--cldr", FOLDER, "-l", "und-u-kn", "10", "9"], b"", 1, b">\n", b""),
@@ -112,7 +112,7 @@ STREAM_RUNS = [
     (SORT, "</", 3, b"", b"collate-cldr: read failed\n"),
     (SORT, "<&-", 0, b"", b""),
     (CHECK, "</", 3, b"", b"collate-cldr: read failed\n"),
-    (["sort", "--root", "/"], "", 3, b"", b"/: read failed\n"),
+    (["sort", "--root", "/"], "", 3, b"", b"collate-cldr: /: read failed\n"),
 ]
 
 
@@ -296,8 +296,8 @@ def wrong_cuts(program, room, cuts):
         ran = key_over(program, room, name, [*lines[:at], cut, *lines[at + 1 :]], probe)
         path = os.path.join(room, name)
         if ran.status == 3 and not ran.output:
-            places = [f"{path}: line {at + 1}: ", f"{path}: at the end: ", f"{path}: collation table "]
-            return None if any(ran.faults.startswith(it.encode()) for it in places) else f"{cut!r}: {ran}"
+            places = [f"line {at + 1}: ", "at the end: ", "collation table "]
+            return None if any(ran.faults.startswith(f"collate-cldr: {path}: {it}".encode()) for it in places) else f"{cut!r}: {ran}"
         if ran.came_to() == whole.came_to():
             return None
         return f"{cut!r}, of line {at + 1}, was read as something else: {ran}"
@@ -327,9 +327,9 @@ def wrong_ends(program, room, step=1):
         said = CUT_OFF if begun else "the file is empty"
         if ran.status == 1 and not ran.faults and end == len(whole) - 1:
             return None
-        if not begun.endswith(b"\n") and ran.faults.startswith(f"{path}: line {begun.count(10) + 1}: expected ".encode()):
+        if not begun.endswith(b"\n") and ran.faults.startswith(f"collate-cldr: {path}: line {begun.count(10) + 1}: expected ".encode()):
             return None
-        right = ran.came_to() == (3, b"", f"{path}: {said}\n".encode())
+        right = ran.came_to() == (3, b"", f"collate-cldr: {path}: {said}\n".encode())
         return None if right else f"cut off behind {end} bytes: {ran}"
 
     ends = range(0, len(whole), step)
@@ -341,7 +341,7 @@ def wrong_ends(program, room, step=1):
 # ---- each request refused
 
 is_right = says_refusals(
-    "collate-cldr", f"{LETTERS}: read failed\n".encode(), b"collate-cldr: read failed\n", failed=3, answers=(0, 1)
+    "collate-cldr", f"collate-cldr: {LETTERS}: read failed\n".encode(), b"collate-cldr: read failed\n", failed=3, answers=(0, 1)
 )
 # Of the allocations that read the file, which are the same for each command, one in so many is refused with all after it; by the
 # commands but the first none is, which leaves so many of the last ones.

@@ -98,13 +98,13 @@ def wrong_refusals(program, letters, room):
     found = []
     for words, given, said in REFUSED:
         ran = run(program, over(letters, "sort", "3", "--csv", *words), given.encode())
-        if ran.came_to() != (3, b"", f"standard input: {said}\n".encode()):
+        if ran.came_to() != (3, b"", f"collate-cldr: standard input: {said}\n".encode()):
             found.append(f"sort --csv {words} of {given!r}: {ran}; wanted: {said}")
     path = os.path.join(room, "book.csv")
     with open(path, "w", encoding="utf-8") as it:
         it.write("a,b\n1\n")
     ran = run(program, over(letters, "sort", "3", "--csv", "--header", "--column", "b", "-o", path, path))
-    if ran.came_to() != (3, b"", f"{path}: line 2: no column 2\n".encode()) or open(path, encoding="utf-8").read() != "a,b\n1\n":
+    if ran.came_to() != (3, b"", f"collate-cldr: {path}: line 2: no column 2\n".encode()) or open(path, encoding="utf-8").read() != "a,b\n1\n":
         found.append(f"sort --csv of a file: {ran}")
     with open(path, "w", encoding="utf-8") as it:
         it.write("a,b\n1,b\n2,a\n")

@@ -152,7 +152,7 @@ def wrong_searches(program, letters, room):
 def wrong_missing(program, letters, one, two):
     """Searches of files of which one is missing: it is named, and the others are searched; GNU grep ends with its status for that too,
     but where it is quiet and a line was found."""
-    found, said = [], b"absent: not opened\n"
+    found, said = [], b"collate-cldr: absent: not opened\n"
     rows = [
         (["b", one, "absent", two], 3, f"{one}:b\n{two}:b\n".encode(), said),
         (["c", "absent", two], 3, b"", said),
@@ -161,7 +161,7 @@ def wrong_missing(program, letters, one, two):
         (["-q", "c", one, "absent"], 3, b"", said),
         (["-e", "a", one], 0, b"a\n", b""),
         (["-e", "a", "-e", "b", one, two], 0, f"{one}:a\n{one}:b\n{two}:b\n".encode(), b""),
-        (["b", "/", two], 3, f"{two}:b\n".encode(), b"/: read failed\n"),
+        (["b", "/", two], 3, f"{two}:b\n".encode(), b"collate-cldr: /: read failed\n"),
     ]
     for words, *wanted in rows:
         ran = run(program, over(letters, "search", "3", *words))

@@ -1,11 +1,11 @@
 """Files of collations and language tags that the program `collate-cldr` refuses, each for one reason: the place and the reason that
-it says. The files stand in a copy of the small files in the forms of CLDR's (tests/cldr)."""
+it says. The files stand in a copy of the small files in the forms of CLDR's (crates/use_language/data)."""
 import os
 import shutil
 
 from sweeps import ENVIRONMENT, TOP, Run, ended
 
-FOLDER = os.path.join(TOP, "tests", "cldr")
+FOLDER = os.path.join(TOP, "crates", "use_language", "data", "cldr")
 PLACE = os.path.join("common", "collation", "xa.xml")
 # Texts that are no document of the subset of XML that is read, with line, column and reason.
 DOCUMENTS = [
@@ -103,11 +103,11 @@ def compared(program, folder, tag, *texts):
 
 
 def wrong_runs(program, folder, runs):
-    """The tags that are refused otherwise than they should be, of pairs of a tag and a line."""
+    """The tags that are refused otherwise than they should be, of pairs of a tag and what is said of it."""
     found = []
     for tag, said in runs:
         ran = compared(program, folder, tag, "a", "b")
-        if ran.came_to() != (3, b"", f"{said}\n".encode()):
+        if ran.came_to() != (3, b"", f"collate-cldr: {said}\n".encode()):
             found.append(f"{tag!r}: {ran}; wanted: {said!r}")
     return found
 
@@ -126,8 +126,8 @@ def wrong_files(program, folder):
 
 def wrong_tags(program, folder):
     """The tags that are refused otherwise than they should be."""
-    runs = [(tag, f"collate-cldr: locale {tag}: character {place}: {reason}") for tag, place, reason in TAGS]
-    runs += [(tag, f"collate-cldr: locale {tag}: {reason}") for tag, reason in TYPES]
+    runs = [(tag, f"locale {tag}: character {place}: {reason}") for tag, place, reason in TAGS]
+    runs += [(tag, f"locale {tag}: {reason}") for tag, reason in TYPES]
     found = wrong_runs(program, folder, runs)
     ran = compared(program, folder, TWICE, "a10", "A9")
     return found + [f"{TWICE}: {ran}"] * (ran.came_to() != (1, b">\n", b""))

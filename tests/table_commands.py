@@ -103,11 +103,11 @@ def wrong_refusals(program, letters, room):
         with open(other, "wb") as it:
             it.write(text)
         ran = run(program, ["sort", "--tables", other], b"b\na\n")
-        if ran.came_to() != (3, b"", f"{other}: {said}\n".encode()):
+        if ran.came_to() != (3, b"", f"collate-cldr: {other}: {said}\n".encode()):
             found.append(f"{len(text)} bytes of {len(whole)}: {ran}; wanted: {said}")
     for absent in (os.path.join(room, "absent"), room):
         ran = run(program, ["sort", "--tables", absent], b"b\na\n")
-        if ran.came_to() != (3, b"", f"{absent}: not read\n".encode()):
+        if ran.came_to() != (3, b"", f"collate-cldr: {absent}: not read\n".encode()):
             found.append(f"{absent}: {ran}")
     return found + wrong_words(program, letters, path) + wrong_outputs(program, letters, room, whole)
 
@@ -135,10 +135,10 @@ def wrong_outputs(program, letters, room, whole):
     path, found = os.path.join(room, "again.tables"), []
     found += made(program, path, "--root", letters)
     for words, said in [
-        (["--root", "absent", "-o", path], b"absent: not opened"),
-        (["--cldr", FOLDER, "-l", "ta", "-o", path], f"{FOLDER}/common/collation/ta.xml".encode()),
-        (["--root", letters, "-o", "/none/out"], b"/none/out.collate-cldr-unfinished: not created"),
-        (["--root", letters, "-o", room], f"{room}: not replaced".encode()),
+        (["--root", "absent", "-o", path], b"collate-cldr: absent: not opened"),
+        (["--cldr", FOLDER, "-l", "ta", "-o", path], f"collate-cldr: {FOLDER}/common/collation/ta.xml".encode()),
+        (["--root", letters, "-o", "/none/out"], b"collate-cldr: /none/out.collate-cldr-unfinished: not created"),
+        (["--root", letters, "-o", room], f"collate-cldr: {room}: not replaced".encode()),
     ]:
         ran = run(program, ["compile", *words])
         if ran.status != 3 or ran.output or not ran.faults.startswith(said):
@@ -154,7 +154,7 @@ def wrong_versions(program, room):
     folder, found = os.path.join(room, "unversioned"), []
     shutil.copytree(FOLDER, folder)
     file, out = f"{folder}/common/dtd/ldml.dtd", f"{folder}/out"
-    for text, status, said in [(b"41", 0, b""), (b"\xff", 3, f"{file}: not read\n".encode()), (None, 0, b"")]:
+    for text, status, said in [(b"41", 0, b""), (b"\xff", 3, f"collate-cldr: {file}: not read\n".encode()), (None, 0, b"")]:
         os.remove(file)
         if text is not None:
             with open(file, "wb") as it:
@@ -192,8 +192,8 @@ def wrong_compile(program, shim, letters, room, at, refused):
     ran = run(program, ["compile", "--root", letters, "-o", path], b"", refused, shim)
     left = os.listdir(folder)
     shutil.rmtree(folder)
-    said = {"allocation": b"collate-cldr: no memory\n", "read": f"{letters}: read failed\n".encode(),
-            "write": b"" if refused.also_after else f"{path}.collate-cldr-unfinished: write failed\n".encode()}[refused.request]
+    said = {"allocation": b"collate-cldr: no memory\n", "read": f"collate-cldr: {letters}: read failed\n".encode(),
+            "write": b"" if refused.also_after else f"collate-cldr: {path}.collate-cldr-unfinished: write failed\n".encode()}[refused.request]
     is_said = ran.came_to() == (3, b"", said) and not left
     is_made = ran.came_to() == (0, b"", b"") and left == ["out"] and (not refused.is_error() or refused.request == "allocation")
     return [] if is_said and refused.is_error() or is_made else [f"{refused}: {ran}, {left}"]

@@ -20,10 +20,10 @@ pub struct AskedLocale {
     pub name: CollationName,
 }
 
-/// A line that says of a locale what is wrong with it.
+/// An error that says of a locale what is wrong with it.
 pub(crate) fn refused_locale(alloc: Global, tag: &str, what: &str) -> ProgramError {
-    match format!(in alloc; "collate-cldr: locale {tag}: {what}\n") {
-        Ok(line) => ProgramError::Refused(line),
+    match format!(in alloc; "locale {tag}: {what}") {
+        Ok(text) => ProgramError::Refused(text),
         Err(_) => ProgramError::NoMemory,
     }
 }

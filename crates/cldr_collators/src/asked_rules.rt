@@ -44,20 +44,19 @@ fn source_of(alloc: Global, folder: &str, found: FoundCollation<'_>) -> Result<S
     Ok(source)
 }
 
-/// The line that says of a rule what is wrong there.
-fn line_of_rule(alloc: Global, source: &str, rule: &str, what: &str) -> Result<String, AllocError> {
-    let mut line = joined(alloc, source, ": ")?;
-    push_shortened(&mut line, rule)?;
-    line.push_str(": ")?;
-    line.push_str(what)?;
-    line.push('\n')?;
-    Ok(line)
+/// The text that says of a rule what is wrong there.
+fn said_of_rule(alloc: Global, source: &str, rule: &str, what: &str) -> Result<String, AllocError> {
+    let mut text = joined(alloc, source, ": ")?;
+    push_shortened(&mut text, rule)?;
+    text.push_str(": ")?;
+    text.push_str(what)?;
+    Ok(text)
 }
 
 /// An error that says of rules at a place what is wrong there.
 fn refused_at(alloc: Global, source: &str, text: &str, place: usize, what: &str) -> ProgramError {
-    match line_of_rule(alloc, source, line_at(text, place), what) {
-        Ok(line) => ProgramError::Refused(line),
+    match said_of_rule(alloc, source, line_at(text, place), what) {
+        Ok(said) => ProgramError::Refused(said),
         Err(_) => ProgramError::NoMemory,
     }
 }

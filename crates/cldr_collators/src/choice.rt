@@ -66,7 +66,7 @@ pub struct SettingWords<'a> {
 }
 
 /// The settings that options chose; what none chose is left to the tables.
-#[derive(Clone, Copy)]
+#[derive(Clone, Copy, Default)]
 pub struct Chosen {
     /// Whether digits count by the value of their number.
     pub numeric: Option<CollationNumericOrdering>,

@@ -5,7 +5,7 @@ ghost use Rattle.icu_table_provider.specs.well_formed.WellFormedTables.{IsWellFo
 ghost use Rattle.icu_collator.specs.Collators.{collation_kept, tables_kept};
 ghost use Rattle.program_files.specs.ProgramErrors.{IsCollatorError};
 ghost use Rattle.cldr_collators.specs.RootCollators.{ComparesAs};
-ghost use Rattle.program_files.specs.NamedErrors.{IsLineOf};
+ghost use Rattle.program_files.specs.NamedErrors.{IsSaidOf};
 
 use crate::choice::Chosen;
 use icu_cldr_root::{CldrRoot, IdeographOrder, ReadError, read_root_by};
@@ -20,7 +20,7 @@ use std::rt::Files;
 
 /// Opens a file of the root's data.
 fn opened<R: Files + AllocGlobal>(rt: &R, file: &str) -> Result<BufReader<R::File>, ProgramError>
-    ensures { IfErr result (IsCollatorError (IsLineOf file.now)) }
+    ensures { IfErr result (IsCollatorError (IsSaidOf file.now)) }
 {
     let Ok(opened) = fs::open(rt, file) else {
         return Err(refused(
@@ -37,7 +37,7 @@ fn opened<R: Files + AllocGlobal>(rt: &R, file: &str) -> Result<BufReader<R::Fil
 
 /// What an error of a file that isn't read comes to.
 fn unread(alloc: Global, file: &str, error: ReadError) -> ProgramError
-    ensures { IsCollatorError (IsLineOf file.now) result }
+    ensures { IsCollatorError (IsSaidOf file.now) result }
 {
     match error {
         ReadError::NoMemory => ProgramError::NoMemory,
@@ -51,7 +51,7 @@ fn ideograph_order<R: Files + AllocGlobal>(
     file: &str,
     by_radicals: bool,
 ) -> Result<IdeographOrder, ProgramError>
-    ensures { IfErr result (IsCollatorError (IsLineOf file.now)) }
+    ensures { IfErr result (IsCollatorError (IsSaidOf file.now)) }
 {
     if !by_radicals {
         return Ok(IdeographOrder::code_point(rt.alloc()));
@@ -75,7 +75,7 @@ pub fn read_file<R: Files + AllocGlobal>(
     by_radicals: bool,
 ) -> Result<CldrRoot, ProgramError>
     ensures root { IfOk result (λ root. IsRoot (root_tables root)) }
-    ensures refused { IfErr result (IsCollatorError (IsLineOf file.now)) }
+    ensures refused { IfErr result (IsCollatorError (IsSaidOf file.now)) }
 {
     let order = ideograph_order(rt, file, by_radicals)?;
     let reader = opened(rt, file)?;
@@ -100,7 +100,7 @@ pub fn root_collator(
     requires { IsRoot (root_tables root) }
     ensures compares { IfOk result (λ c. ComparesAs chosen strength (collation_kept c)) }
     ensures well_formed { IfOk result (λ c. IsWellFormedTables (tables_kept c)) }
-    ensures refused { IfErr result (IsCollatorError (IsLineOf file.now)) }
+    ensures refused { IfErr result (IsCollatorError (IsSaidOf file.now)) }
 {
     let tables = root.into_tables();
     match Collator::try_from_tables(
@@ -116,7 +116,7 @@ pub fn root_collator(
 
 /// What an error of tables comes to.
 pub fn error_of(alloc: Global, file: &str, error: DataError) -> ProgramError
-    ensures { IsCollatorError (IsLineOf file.now) result }
+    ensures { IsCollatorError (IsSaidOf file.now) result }
 {
     match error.kind {
         DataErrorKind::NoMemory => ProgramError::NoMemory,

@@ -18,3 +18,4 @@ pub use choice::{Chosen, SettingWords, strength_by_word};
 pub use data_place::{cldr_folder, root_file};
 pub use file_source::{read_file, root_collator};
 pub use locale_list::locale_lines;
+pub use made_collator::language_collator;

@@ -7,7 +7,7 @@ ghost use Rattle.icu_collator.specs.Collators.{collation_kept, tables_kept};
 use crate::asked_locale::{AskedLocale, asked_locale};
 use crate::asked_rules::{LocaleRules, rules_of};
 use crate::choice::Chosen;
-use crate::data_place::cldr_folder;
+use crate::data_place::{cldr_folder, root_file};
 use crate::file_source::{read_file, root_collator};
 use crate::tailored_collator::tailored_collator;
 use icu_cldr_locales::TagSettings;
@@ -133,4 +133,26 @@ pub fn made_collator<R: Files + AllocGlobal>(
             collator_by(rt, request.root.as_str(), None, request.chosen, strength)
         }
     }
+}
+
+/// The collator of a language, which a tag names as `sv` or `de-u-co-phonebk`, by the data of CLDR in a folder. `None`
+/// is the folder that the environment's `CLDR_DIR` names, or else the one of Debian's package.
+///
+/// # Errors
+///
+/// Those of `made_collator`.
+pub fn language_collator<R: Files + Env + AllocGlobal>(
+    rt: &R,
+    tag: &str,
+    folder: Option<&str>,
+) -> Result<Collator, ProgramError>
+    ensures { IfOk result (λ c. IsWellFormedTables (tables_kept c)) }
+{
+    let request = CollatorRequest {
+        root: root_file(rt, None, folder)?,
+        locale: placed_locale(rt, Some(tag), folder)?,
+        chosen: Chosen::default(),
+        strength: None,
+    };
+    made_collator(rt, &request)
 }

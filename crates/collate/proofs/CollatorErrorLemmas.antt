@@ -4,11 +4,11 @@ use Rattle.program_files.specs.ProgramErrors.{IsCollatorError}
 use Rattle.program_files.specs.declared.program_error.ProgramError.{ProgramError}
 use Rattle.program_files.specs.declared.program_error.ProgramError.TheVariants.{WrongWords, NoMemory, Refused, ReadFailed, WriteFailed}
 
--- what each line says of its cause holds of the error
-pub error_says : (P Q : List ℕ → Type 0) → ((line : List ℕ) → P line → Q line) → (error : ProgramError) → IsCollatorError P error → IsCollatorError Q error
+-- what each text says of its cause holds of the error
+pub error_says : (P Q : List ℕ → Type 0) → ((text : List ℕ) → P text → Q text) → (error : ProgramError) → IsCollatorError P error → IsCollatorError Q error
 error_says P Q f WrongWords is = is
 error_says P Q f NoMemory is = is
-error_says P Q f (Refused line) is = f (string_bytes line) is
+error_says P Q f (Refused text) is = f (string_bytes text) is
 error_says P Q f ReadFailed is = is
 error_says P Q f WriteFailed is = is
 

@@ -12,7 +12,7 @@ use Rattle.icu_table_provider.specs.declared.fixed_provider.FixedLoads.{FixedLoa
 use Rattle.icu_table_provider.specs.FixedLoads.{fixed_loads}
 use Rattle.icu_table_mini.specs.Mini.{IsMini}
 use Rattle.icu_table_mini.specs.Provider.{LoadsMini}
-use Rattle.collate.specs.CollateLines.{refused_line}
+use Rattle.collate.specs.CollateLines.{refused_text}
 
 -- Mini's tables are not all returned, or those that are returned don't meet the conditions on the tables of a collator.
 pub record TablesFail : Type 0 where
@@ -23,10 +23,10 @@ pub record TablesFail : Type 0 where
   pub holds : LoadsMini tables provider
   pub fails : (all : CollatorTables) → loaded_tables (fixed_loads provider) request ≡ Ok all → IsWellFormedTables all → ⊥
 
--- the line by which a collator is refused, and what it says is true
+-- the text with which a collator is refused, and what it says is true
 abbrev pub mini_refuses : Strength → List ℕ → Type 0
-mini_refuses strength line = TablesFail × (line ≡ refused_line)
+mini_refuses strength text = TablesFail × (text ≡ refused_text)
 
--- the line is said of an error that isn't one of memory
+-- the text is said of an error that isn't one of memory
 abbrev pub IsForCause : DataErrorKind → List ℕ → Type 0
-IsForCause kind line = (kind ≡ NoMemory → ⊥) × (line ≡ refused_line)
+IsForCause kind text = (kind ≡ NoMemory → ⊥) × (text ≡ refused_text)

@@ -59,8 +59,8 @@ fn refused(alloc: Global, error: DataError) -> ProgramError
 {
     match error.kind {
         DataErrorKind::NoMemory => ProgramError::NoMemory,
-        _ => match "collate: tables refused\n".to_string(alloc) {
-            Ok(line) => ProgramError::Refused(line),
+        _ => match "tables refused".to_string(alloc) {
+            Ok(text) => ProgramError::Refused(text),
             Err(_) => ProgramError::NoMemory,
         },
     }

@@ -18,9 +18,7 @@ pub fn wording() -> Wording
 {
     Wording {
         usage: "usage: collate compare STRENGTH A B | collate key STRENGTH TEXT | collate sort STRENGTH\n",
-        no_memory: "collate: no memory\n",
-        read_failed: "collate: read failed\n",
-        write_failed: "collate: write failed\n",
+        prefix: "collate: ",
     }
 }
 

@@ -3,13 +3,14 @@
 ghost use Rattle.std.specs.Prelude.{◌≤◌, IfOk};
 
 use crate::asked_collator::collator_by_words;
+use crate::reports::{in_memory, say};
 use clap::ArgMatches;
 use icu_collator::Collator;
 use line_commands::csv_sorts::{
     CsvError, CsvRequest, column_disorder_text, columns_of_words, csv_delimiter, csv_error_said,
-    first_column_disorder, print_sorted_by_columns, text_sorted_by_columns,
+    first_column_disorder, print_sorted_by_columns,
 };
-use program_files::{ProgramError, RunProgress, read_inputs, replace_file, write_text};
+use program_files::{ProgramError, RunProgress, read_inputs, replace_file};
 use program_words::{files_of, sort_request_of};
 use std::io::{Read, Write};
 use std::rt::{Clock, Env, Files};
@@ -70,7 +71,22 @@ fn csv_request_of<'c>(matches: &ArgMatches<'_>, columns: &'c [usize]) -> CsvRequ
     }
 }
 
-/// Prints records in order, or writes them to a file.
+/// Prints records in order.
+fn print_csv<R: AllocGlobal, W: Write>(
+    rt: &R,
+    matches: &ArgMatches<'_>,
+    collator: &Collator,
+    request: CsvRequest<'_>,
+    text: &[u8],
+    output: &mut W,
+) -> Result<(), ProgramError> {
+    match print_sorted_by_columns(rt.alloc(), collator, request, text, output) {
+        Ok(()) => Ok(()),
+        Err(error) => Err(refused_csv(rt, matches, text, error)),
+    }
+}
+
+/// Prints records in order, or writes them to the file that is asked for.
 fn write_sorted_csv<R: Files + AllocGlobal, W: Write>(
     rt: &R,
     matches: &ArgMatches<'_>,
@@ -80,15 +96,11 @@ fn write_sorted_csv<R: Files + AllocGlobal, W: Write>(
     output: &mut W,
 ) -> Result<(), ProgramError> {
     let Some(file) = matches.get_str("output") else {
-        return match print_sorted_by_columns(rt.alloc(), collator, request, text, output) {
-            Ok(()) => Ok(()),
-            Err(error) => Err(refused_csv(rt, matches, text, error)),
-        };
+        return print_csv(rt, matches, collator, request, text, output);
     };
-    match text_sorted_by_columns(rt.alloc(), collator, request, text) {
-        Ok(sorted) => replace_file(rt, file, sorted.as_slice()),
-        Err(error) => Err(refused_csv(rt, matches, text, error)),
-    }
+    let mut sorted = Vec::with_capacity(rt.alloc(), text.len())?;
+    in_memory(print_csv(rt, matches, collator, request, text, &mut sorted))?;
+    replace_file(rt, file, sorted.as_slice())
 }
 
 /// Prints records of CSV in order, or writes them to the file that is asked for.
@@ -137,7 +149,7 @@ pub(crate) fn check_csv<R: Files + Env + Clock + AllocGlobal, I: Read, E: Write>
     };
     if !is_quiet {
         let said = column_disorder_text(rt.alloc(), request, bytes.as_slice(), index)?;
-        let _ = write_text(errors, said.as_slice());
+        say(said.as_slice(), errors);
     }
     Ok(1)
 }

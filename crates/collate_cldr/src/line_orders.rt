@@ -3,40 +3,30 @@
 ghost use Rattle.std.specs.Prelude.{◌≤◌, IfOk};
 
 use crate::asked_collator::collator_by_words;
-use crate::reports::DIFFERS;
+use crate::reports::{DIFFERS, in_memory, say};
 use clap::ArgMatches;
 use icu_collator::Collator;
 use line_commands::field_disorders::first_field_disorder;
 use line_commands::field_sorts::{
-    FieldSorts, field_ends, keys_of_words, print_sorted_by_fields, text_sorted_by_fields,
+    FieldSort, FieldSorts, field_ends, keys_of_words, print_sorted_by_fields,
 };
-use line_commands::{disorder_text, first_disorder, print_sorted, sorted_text};
+use line_commands::{disorder_text, first_disorder, print_sorted};
 use line_sorts::SortRequest;
-use program_files::{DONE, ProgramError, RunProgress, read_inputs, replace_file, write_text};
+use program_files::{DONE, ProgramError, RunProgress, read_inputs, replace_file};
 use program_words::{files_of, sort_request_of};
 use std::io::{Read, Write};
 use std::rt::{Clock, Env, Files};
 
-/// Prints the lines of an input in order, or writes them to a file.
-fn write_sorted<R: Files + AllocGlobal, W: Write>(
-    rt: &R,
-    file: Option<&str>,
-    collator: &Collator,
-    bytes: &[u8],
-    request: SortRequest,
-    output: &mut W,
-) -> Result<(), ProgramError> {
-    match file {
-        Some(file) => {
-            let text = sorted_text(rt.alloc(), collator, bytes, request)?;
-            replace_file(rt, file, text.as_slice())
-        }
-        None => print_sorted(rt.alloc(), collator, bytes, request, output),
+/// The fields that lines are sorted by, with these keys.
+fn fields_of<'s>(matches: &ArgMatches<'_>, sorts: &'s [FieldSort]) -> FieldSorts<'s> {
+    FieldSorts {
+        ends: field_ends(matches.get_str("field-separator")),
+        sorts,
     }
 }
 
-/// Prints the lines of an input in the order of their fields, or writes them to a file.
-fn write_sorted_by_fields<R: Files + AllocGlobal, W: Write>(
+/// Prints the lines of an input in order: by the line, or by its fields if keys are asked for.
+fn print_in_order<R: AllocGlobal, W: Write>(
     rt: &R,
     matches: &ArgMatches<'_>,
     collator: &Collator,
@@ -44,19 +34,29 @@ fn write_sorted_by_fields<R: Files + AllocGlobal, W: Write>(
     request: SortRequest,
     output: &mut W,
 ) -> Result<(), ProgramError> {
-    let words = matches.get_strs("key").unwrap_or_default();
-    let sorts = keys_of_words(rt.alloc(), words, matches.get_flag("reverse"))?;
-    let fields = FieldSorts {
-        ends: field_ends(matches.get_str("field-separator")),
-        sorts: sorts.as_slice(),
+    let Some(words) = matches.get_strs("key") else {
+        return print_sorted(rt.alloc(), collator, bytes, request, output);
     };
-    match matches.get_str("output") {
-        Some(file) => {
-            let text = text_sorted_by_fields(rt.alloc(), collator, fields, bytes, request)?;
-            replace_file(rt, file, text.as_slice())
-        }
-        None => print_sorted_by_fields(rt.alloc(), collator, fields, bytes, request, output),
-    }
+    let sorts = keys_of_words(rt.alloc(), words, matches.get_flag("reverse"))?;
+    let fields = fields_of(matches, sorts.as_slice());
+    print_sorted_by_fields(rt.alloc(), collator, fields, bytes, request, output)
+}
+
+/// Prints the lines of an input in order, or writes them to the file that is asked for.
+fn write_sorted<R: Files + AllocGlobal, W: Write>(
+    rt: &R,
+    matches: &ArgMatches<'_>,
+    collator: &Collator,
+    bytes: &[u8],
+    request: SortRequest,
+    output: &mut W,
+) -> Result<(), ProgramError> {
+    let Some(file) = matches.get_str("output") else {
+        return print_in_order(rt, matches, collator, bytes, request, output);
+    };
+    let mut text = Vec::with_capacity(rt.alloc(), bytes.len())?;
+    in_memory(print_in_order(rt, matches, collator, bytes, request, &mut text))?;
+    replace_file(rt, file, text.as_slice())
 }
 
 /// Prints lines in order, or writes them to the file that is asked for.
@@ -80,12 +80,7 @@ pub(crate) fn sort_lines<R: Files + Env + Clock + AllocGlobal, I: Read, W: Write
         progress,
         errors,
     )?;
-    if matches.get_strs("key").is_some() {
-        write_sorted_by_fields(rt, matches, &collator, bytes.as_slice(), request, output)?;
-    } else {
-        let file = matches.get_str("output");
-        write_sorted(rt, file, &collator, bytes.as_slice(), request, output)?;
-    }
+    write_sorted(rt, matches, &collator, bytes.as_slice(), request, output)?;
     Ok(DONE)
 }
 
@@ -97,15 +92,11 @@ fn first_wrong<R: AllocGlobal>(
     bytes: &[u8],
     request: SortRequest,
 ) -> Result<Option<usize>, ProgramError> {
-    if matches.get_strs("key").is_none() {
+    let Some(words) = matches.get_strs("key") else {
         return Ok(first_disorder(rt.alloc(), collator, bytes, request)?);
-    }
-    let words = matches.get_strs("key").unwrap_or_default();
-    let sorts = keys_of_words(rt.alloc(), words, matches.get_flag("reverse"))?;
-    let fields = FieldSorts {
-        ends: field_ends(matches.get_str("field-separator")),
-        sorts: sorts.as_slice(),
     };
+    let sorts = keys_of_words(rt.alloc(), words, matches.get_flag("reverse"))?;
+    let fields = fields_of(matches, sorts.as_slice());
     Ok(first_field_disorder(rt.alloc(), collator, fields, bytes, request)?)
 }
 
@@ -136,7 +127,7 @@ pub(crate) fn check_lines<R: Files + Env + Clock + AllocGlobal, I: Read, E: Writ
     };
     if !is_quiet {
         let said = disorder_text(rt.alloc(), bytes.as_slice(), request, index)?;
-        let _ = write_text(errors, said.as_slice());
+        say(said.as_slice(), errors);
     }
     Ok(DIFFERS)
 }

@@ -5,7 +5,7 @@ ghost use Rattle.std.specs.Prelude.{◌≤◌, IfOk};
 use crate::asked_collator::{collator_by_words, collator_request};
 use crate::csv_command::{check_csv, sort_csv};
 use crate::line_orders::{check_lines, sort_lines};
-use crate::reports::{DIFFERS, WORDING, report_unless_closed};
+use crate::reports::{DIFFERS, WORDING, report_unless_closed, say};
 use crate::search_command::search;
 use clap::ArgMatches;
 use cldr_collators::compiled_tables::{cldr_version, compiled_tables, said_version};
@@ -15,7 +15,7 @@ use line_commands::field_sorts::wrong_field_word;
 use line_commands::{print_comparison, print_key, print_keys};
 use program_files::{
     DONE, ProgramError, RunProgress, WRONG_WORDS, WatchedOutput, read_inputs, replace_file,
-    report_failure, write_message, write_text,
+    report_failure, write_text,
 };
 use program_words::{
     CheckWanted, answer_words, check_of, files_of, program, separator_of, text_of,
@@ -96,7 +96,7 @@ fn compile<R: Files + Env + AllocGlobal>(
 }
 
 /// What is said where keys are asked for of records of CSV.
-const NO_KEYS_OF_RECORDS: &str = "collate-cldr: --key is for lines, and --column for --csv\n";
+const NO_KEYS_OF_RECORDS: &str = "--key is for lines, and --column for --csv";
 
 /// Says what is wrong with the words for fields or for records of CSV, and returns whether something is. That a write
 /// fails changes nothing.
@@ -110,14 +110,14 @@ fn says_wrong_words<R: AllocGlobal, E: Write>(
     let separator = matches.get_str("field-separator");
     if let Some(word) = wrong_field_word(separator, words, matches.get_flag("reverse")) {
         let text = format!(in rt.alloc();
-            "collate-cldr: '{word}' is no key F[.C][bnr][,F[.C][bnr]] and no separator of one character of ASCII; --help says more\n"
+            "'{word}' is no key F[.C][bnr][,F[.C][bnr]] and no separator of one character of ASCII; --help says more"
         )?;
-        write_message(errors, text.as_str());
+        say(text.as_bytes(), errors);
         return Ok(true);
     }
     let is_csv = matches.get_flag("csv");
     if is_csv && keys.is_some() {
-        write_message(errors, NO_KEYS_OF_RECORDS);
+        say(NO_KEYS_OF_RECORDS.as_bytes(), errors);
         return Ok(true);
     }
     let words = CsvWords {
@@ -130,7 +130,7 @@ fn says_wrong_words<R: AllocGlobal, E: Write>(
     };
     match wrong_csv_words(rt.alloc(), &words)? {
         Some(said) => {
-            write_message(errors, said.as_str());
+            say(said.as_bytes(), errors);
             Ok(true)
         }
         None => Ok(false),
@@ -240,7 +240,7 @@ fn run_command<R: Files + Env + Clock + AllocGlobal, I: Read + Drop, W: Write, E
 ) -> Result<u8, ProgramError>
     ensures { IfOk result (λ status. status ≤ 3) }
 {
-    let mut progress = RunProgress::new(rt, terminals.errors);
+    let mut progress = RunProgress::new(rt, WORDING.prefix, terminals.errors);
     match name {
         "sort" | "check" => {
             let check = if name == "sort" {
@@ -280,7 +280,7 @@ fn run_command<R: Files + Env + Clock + AllocGlobal, I: Read + Drop, W: Write, E
 }
 
 /// What is said where no command is named.
-const NO_COMMAND: &str = "collate-cldr: no command; --help says which there are\n";
+const NO_COMMAND: &str = "no command; --help says which there are";
 
 /// Makes one run of the program over the words behind its name, and returns the status that it ends with.
 ///
@@ -323,7 +323,7 @@ pub(crate) fn run<
         None if matches.get_flag("version") => print_versions(rt, &matches, output),
         None if matches.get_flag("list-locales") => print_locales(rt, &matches, output),
         None => {
-            write_message(errors, NO_COMMAND);
+            say(NO_COMMAND.as_bytes(), errors);
             Ok(WRONG_WORDS)
         }
     };

@@ -2,7 +2,7 @@
 
 ghost use Rattle.std.specs.Prelude.{◌≤◌};
 
-use program_files::{FAILED, ProgramError, Wording, report_failure};
+use program_files::{FAILED, ProgramError, Wording, report_failure, write_line};
 use std::io::Write;
 
 /// Lines aren't in order, texts differ, or no line was found.
@@ -11,10 +11,21 @@ pub(crate) const DIFFERS: u8 = 1;
 /// What the program says of its errors.
 pub(crate) const WORDING: Wording = Wording {
     usage: "collate-cldr: an argument isn't in UTF-8\n",
-    no_memory: "collate-cldr: no memory\n",
-    read_failed: "collate-cldr: read failed\n",
-    write_failed: "collate-cldr: write failed\n",
+    prefix: "collate-cldr: ",
 };
+
+/// Writes to standard error a line that says what is wrong. That a write fails there changes nothing.
+pub(crate) fn say<E: Write>(text: &[u8], errors: &mut E) {
+    write_line(errors, WORDING.prefix, text);
+}
+
+/// What was printed into a list came to: a write to a list fails only if an allocation does.
+pub(crate) fn in_memory(printed: Result<(), ProgramError>) -> Result<(), ProgramError> {
+    match printed {
+        Err(ProgramError::WriteFailed) => Err(ProgramError::NoMemory),
+        printed => printed,
+    }
+}
 
 /// Writes to standard error what kept the program from its end, and returns the status. Of an output that nobody reads
 /// any more nothing is said, as of a pipe behind which a program has ended.

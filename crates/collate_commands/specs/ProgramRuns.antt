@@ -5,7 +5,8 @@ use Rattle.std.specs.Io.KnownBytes.{Keeps, Appends}
 use Rattle.icu_options.specs.declared.settings.Strength.{Strength}
 use Rattle.collate_commands.specs.Answers.{Compares, IsAnswer}
 use Rattle.collate_commands.specs.Commands.{Asked, strength_of}
-use Rattle.program_files.specs.ProgramErrors.{Lines}
+use Rattle.program_files.specs.ProgramErrors.{Lines, line_of, line_with}
+use Rattle.program_files.specs.declared.program_error.ProgramError.TheVariants.{NoMemory, ReadFailed, WriteFailed}
 use Rattle.collate_commands.specs.InputRead.{ReadsFor, AsksForInput}
 use Rattle.program_files.specs.PartialWrites.{AppendsBeginning}
 
@@ -13,7 +14,7 @@ use Rattle.program_files.specs.PartialWrites.{AppendsBeginning}
 abbrev pub Known : Type 0
 Known = Option (List ℕ)
 
--- by which lines a collator of a strength is refused
+-- with which texts a collator of a strength is refused
 abbrev pub Refuses : Type 1
 Refuses = Strength → List ℕ → Type 0
 
@@ -32,31 +33,31 @@ PrintsBeginning compares old_input new_input old new asked =
 -- the run ran out of memory, and printed nothing
 pub record LacksMemory (lines : Lines) (old_output new_output old_errors new_errors : Known) : Type 0 where
   pub nothing : Keeps old_output new_output
-  pub said : AppendsBeginning old_errors new_errors lines.no_memory
+  pub said : AppendsBeginning old_errors new_errors (line_of lines NoMemory)
 
 -- the run stopped since no collator was to be had, and printed nothing
-pub record HasNoCollator (refuses : Refuses) (asked : Asked) (old_output new_output old_errors new_errors : Known) : Type 0 where
-  pub line : List ℕ
-  pub refused : refuses (strength_of asked) line
+pub record HasNoCollator (lines : Lines) (refuses : Refuses) (asked : Asked) (old_output new_output old_errors new_errors : Known) : Type 0 where
+  pub text : List ℕ
+  pub refused : refuses (strength_of asked) text
   pub nothing : Keeps old_output new_output
-  pub said : AppendsBeginning old_errors new_errors line
+  pub said : AppendsBeginning old_errors new_errors (line_with lines text)
 
 -- the run stopped since a read of the input failed, which the command asks for, and printed nothing
 pub record FailsToRead (lines : Lines) (asked : Asked) (old_output new_output old_errors new_errors : Known) : Type 0 where
   pub asks : AsksForInput asked
   pub nothing : Keeps old_output new_output
-  pub said : AppendsBeginning old_errors new_errors lines.read_failed
+  pub said : AppendsBeginning old_errors new_errors (line_of lines ReadFailed)
 
 -- the run stopped where a write of the answer failed
 pub record FailsToWrite (lines : Lines) (compares : Compares) (asked : Asked)
     (old_input new_input old_output new_output old_errors new_errors : Known) : Type 0 where
   pub beginning : PrintsBeginning compares old_input new_input old_output new_output asked
-  pub said : AppendsBeginning old_errors new_errors lines.write_failed
+  pub said : AppendsBeginning old_errors new_errors (line_of lines WriteFailed)
 
 -- a run that ends with status 1
 abbrev pub Fails : Lines → Compares → Refuses → Known → Known → Known → Known → Known → Known → Asked → Type 0
 Fails lines compares refuses old_input new_input old_output new_output old_errors new_errors asked =
     LacksMemory lines old_output new_output old_errors new_errors
-    ⊎ (HasNoCollator refuses asked old_output new_output old_errors new_errors
+    ⊎ (HasNoCollator lines refuses asked old_output new_output old_errors new_errors
     ⊎ (FailsToRead lines asked old_output new_output old_errors new_errors
     ⊎ FailsToWrite lines compares asked old_input new_input old_output new_output old_errors new_errors))

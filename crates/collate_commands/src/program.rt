@@ -11,7 +11,7 @@ ghost use Rattle.collate_commands.specs.inner.Stops.{Stops};
 use crate::answer::answer;
 use crate::command::Command;
 use crate::source::CollatorSource;
-use program_files::{ProgramError, Wording, write_message, write_text};
+use program_files::{ProgramError, Wording, write_error, write_text};
 use std::alloc::Global;
 use std::io::{Read, Write};
 
@@ -88,6 +88,6 @@ pub fn report<E: Write>(error: ProgramError, wording: Wording, errors: &mut E) -
     ensures said { AppendsBeginning (E.contents errors.old) (E.contents errors.new)
         (line_of (lines_in wording) error) }
 {
-    write_message(errors, error.line(wording));
+    write_error(&error, wording, errors);
     error.status()
 }

@@ -17,14 +17,14 @@ pub trait CollatorSource {
     /// By which collations texts are compared at a strength.
     ghost compares: { Self → Strength → Collation → Type 0 };
 
-    /// By which line a collator of a strength is refused.
+    /// With which text a collator of a strength is refused.
     ghost refuses: { Self → Strength → List ℕ → Type 0 };
 
     /// A collator of this strength.
     ///
     /// # Errors
     ///
-    /// `NoMemory` where an allocation fails; `Refused`, with a line that says why, where the tables can't be had.
+    /// `NoMemory` where an allocation fails; `Refused`, with a text that says why, where the tables can't be had.
     fn collator(&self, alloc: Global, strength: Strength) -> Result<Collator, ProgramError>
         ensures compares { IfOk result (λ c. compares self.now strength (collation_kept c)) }
         ensures well_formed { IfOk result (λ c. IsWellFormedTables (tables_kept c)) }

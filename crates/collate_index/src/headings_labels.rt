@@ -1,11 +1,10 @@
 //! The labels that headings are asked for with.
 
 use crate::named_collator::named_locale;
-use crate::refusals::refused;
 use clap::ArgMatches;
 use icu_cldr_files::index_labels::{LabelsError, read_index_labels};
 use icu_cldr_files::parent_of;
-use program_files::{ProgramError, joined};
+use program_files::{ProgramError, joined, refused, refused_by};
 use std::alloc::{AllocError, Global};
 use std::fs;
 use std::io::{ErrorKind, Read};
@@ -28,13 +27,13 @@ fn text_if_there<R: Files + AllocGlobal>(
     let mut opened = match fs::open(rt, file) {
         Ok(opened) => opened,
         Err(e) if e.kind() == ErrorKind::NotFound => return Ok(None),
-        Err(_) => return Err(refused(rt.alloc(), file, &"not opened")),
+        Err(_) => return Err(refused(rt.alloc(), file, "not opened")),
     };
     let mut text = String::new(rt.alloc());
     match opened.read_to_string(&mut text) {
         Ok(_) => Ok(Some(text)),
         Err(e) if e.kind() == ErrorKind::OutOfMemory => Err(ProgramError::NoMemory),
-        Err(_) => Err(refused(rt.alloc(), file, &"read failed")),
+        Err(_) => Err(refused(rt.alloc(), file, "read failed")),
     }
 }
 
@@ -49,7 +48,7 @@ fn labels_in<R: Files + AllocGlobal>(
     match read_index_labels(rt.alloc(), text.as_str()) {
         Ok(labels) => Ok(labels),
         Err(LabelsError::NoMemory) => Err(ProgramError::NoMemory),
-        Err(error) => Err(refused(rt.alloc(), file, &error)),
+        Err(error) => Err(refused_by(rt.alloc(), file, &error)),
     }
 }
 
@@ -81,7 +80,7 @@ fn labels_of_locale<R: Files + AllocGlobal>(
     Err(refused(
         rt.alloc(),
         locale,
-        &"no labels; the folder of CLDR's data has none for this locale",
+        "no labels; the folder of CLDR's data has none for this locale",
     ))
 }
 

@@ -2,20 +2,18 @@
 
 use crate::index_words::index_words;
 use crate::outcome::run_command;
-use program_files::{ProgramError, WRONG_WORDS, Wording, report_failure, write_message};
+use program_files::{ProgramError, WRONG_WORDS, Wording, report_failure, write_line};
 use program_words::answer_words;
 use std::io::{Read, Write};
 
 /// What the program says of its errors.
 pub(crate) const WORDING: Wording = Wording {
     usage: "collate-index: an argument isn't in UTF-8\n",
-    no_memory: "collate-index: no memory\n",
-    read_failed: "collate-index: read failed\n",
-    write_failed: "collate-index: write failed\n",
+    prefix: "collate-index: ",
 };
 
 /// What is said where no command is named.
-const NO_COMMAND: &str = "collate-index: no command; --help says which there are\n";
+const NO_COMMAND: &str = "no command; --help says which there are";
 
 /// What the words ask for.
 fn run_words<I: Read, W: Write, E: Write>(
@@ -33,7 +31,7 @@ fn run_words<I: Read, W: Write, E: Write>(
     match matches.subcommand() {
         Some((name, inner)) => run_command(rt, name, inner, input, output),
         None => {
-            write_message(errors, NO_COMMAND);
+            write_line(errors, WORDING.prefix, NO_COMMAND.as_bytes());
             Ok(WRONG_WORDS)
         }
     }

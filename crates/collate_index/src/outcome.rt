@@ -7,10 +7,10 @@ use crate::commands::{add, found, headed, listed, listed_between};
 use crate::headings_labels::labels_asked;
 use crate::name_lines::read_all;
 use crate::named_collator::named_collator;
-use crate::refusals::{refused, refused_by, unopened};
+use crate::refusals::{refused_database, unopened};
 use clap::ArgMatches;
 use icu_index_store::{PrintedCollator, StoredIndex, open, rebuild};
-use program_files::{DONE, ProgramError, write_text};
+use program_files::{DONE, ProgramError, refused, write_text};
 use program_words::text_of;
 use sqlite::{Alter, Connection, Error, File, FileStore};
 use std::fs;
@@ -151,12 +151,12 @@ fn connect(
         return Err(refused(
             rt.alloc(),
             file,
-            &"not opened; the command add makes an index",
+            "not opened; the command add makes an index",
         ));
     }
     match Connection::open(rt, file) {
         Ok(connection) => Ok(connection),
-        Err(error) => Err(refused_by(rt.alloc(), file, &error)),
+        Err(error) => Err(refused_database(rt.alloc(), file, &error)),
     }
 }
 
@@ -171,7 +171,7 @@ fn made_anew<'c, S: Alter>(
 {
     match rebuild(rt.alloc(), connection, collator) {
         Ok(index) => Ok(index),
-        Err(error) => Err(refused_by(rt.alloc(), file, &error)),
+        Err(error) => Err(refused_database(rt.alloc(), file, &error)),
     }
 }
 
@@ -202,7 +202,7 @@ fn close(
 ) -> Result<(), ProgramError> {
     match connection.close() {
         Ok(()) => Ok(()),
-        Err(error) => Err(refused_by(rt.alloc(), file, &error)),
+        Err(error) => Err(refused_database(rt.alloc(), file, &error)),
     }
 }
 
@@ -219,7 +219,7 @@ fn outcome_in(
     let index = opened(rt, name, file, &mut connection, collator)?;
     let done = match outcome(rt, name, matches, &index, &mut connection, collator, given) {
         Ok(done) => done,
-        Err(error) => return Err(refused_by(rt.alloc(), file, &error)),
+        Err(error) => return Err(refused_database(rt.alloc(), file, &error)),
     };
     close(rt, file, connection)?;
     Ok(done)

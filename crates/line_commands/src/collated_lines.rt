@@ -3,7 +3,7 @@
 ghost use Rattle.icu_collator.specs.Collators.{collation_borrowed};
 ghost use Rattle.line_commands.specs.LineOrders.{key_of_line};
 
-use crate::sorted_lines::write_line_key;
+use crate::sort_keys::write_line_key;
 use icu_collator::CollatorBorrowed;
 use line_sorts::LineComparer;
 use std::alloc::AllocError;

@@ -12,4 +12,4 @@ pub use column_words::columns_of_words;
 pub use csv_messages::csv_error_said;
 pub use csv_request::{CsvError, CsvRequest};
 pub use csv_words::{CsvWords, csv_delimiter, wrong_csv_words};
-pub use sorted_records::{print_sorted_by_columns, text_sorted_by_columns};
+pub use sorted_records::print_sorted_by_columns;

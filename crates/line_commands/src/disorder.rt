@@ -119,11 +119,10 @@ pub fn disorder_text(
 ) -> Result<Vec<u8>, AllocError> {
     let lines = lines_by(alloc, bytes, request.separator)?;
     let number = index.saturating_add(1);
-    let said = format!(in alloc; "collate-cldr: line {number} is out of order: ")?;
+    let said = format!(in alloc; "line {number} is out of order: ")?;
     let mut text = Vec::from_slice(alloc, said.as_bytes())?;
     if let Some(line) = lines.get(index) {
         text.extend_from_slice(line)?;
     }
-    text.push(b'\n')?;
     Ok(text)
 }

@@ -4,9 +4,7 @@ pub mod field_sort;
 pub mod field_words;
 mod line_key;
 pub mod printed_fields;
-pub mod sorted_by_fields;
 
 pub use field_sort::{FieldOrder, FieldSort, FieldSorts};
 pub use field_words::{field_ends, keys_of_words, wrong_field_word};
 pub use printed_fields::print_sorted_by_fields;
-pub use sorted_by_fields::text_sorted_by_fields;

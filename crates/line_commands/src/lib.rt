@@ -12,11 +12,9 @@ pub mod printing;
 mod sort_by;
 mod sort_fronts;
 mod sort_keys;
-pub mod sorted_lines;
 
 pub use disorder::{disorder_text, first_disorder};
 pub use line_keys_text::keys_text;
 pub use printing::{
     print_comparison, print_key, print_keys, print_lines, print_sorted, print_text,
 };
-pub use sorted_lines::{sorted_text, write_line_key};

@@ -11,7 +11,7 @@ use crate::collated_lines::CollatedLines;
 use crate::sort_fronts::fronts_for_sort;
 use crate::sort_keys::keys_of_lines;
 use icu_collator::CollatorBorrowed;
-use line_sorts::{LineKeys, OrderedLines, SortRequest, text_by_fronts, text_by_keys};
+use line_sorts::{LineKeys, OrderedLines, SortRequest};
 use std::alloc::{AllocError, Global};
 
 /// What lines are sorted by.
@@ -75,32 +75,6 @@ impl SortBy {
                     lines,
                     request,
                 )
-            }
-        }
-    }
-
-    /// The lines in order, each with a separator behind it.
-    ///
-    /// # Errors
-    ///
-    /// Fails only where an allocation does.
-    pub(crate) fn ordered_text(
-        &self,
-        alloc: Global,
-        collator: &CollatorBorrowed<'_>,
-        lines: &[&[u8]],
-        request: SortRequest,
-    ) -> Result<Vec<u8>, AllocError>
-        requires { IsOfLines (key_of_line (collation_borrowed collator.now))
-            request (shown_lines lines.now) self.now }
-        ensures { IfOk result (λ text. SortsByKey (key_of_line (collation_borrowed collator.now))
-            request (shown_lines lines.now) text.items) }
-    {
-        match self {
-            SortBy::Keys(keys) => text_by_keys(alloc, keys, lines, request),
-            SortBy::Fronts(fronts, _) => {
-                let comparer = CollatedLines { collator };
-                text_by_fronts(alloc, &comparer, fronts.as_slice(), lines, request)
             }
         }
     }

@@ -7,10 +7,28 @@ ghost use Rattle.line_sorts.specs.KeyParts.{ascends_to};
 ghost use Rattle.line_sorts.specs.ShownLines.{shown_lines};
 ghost use Rattle.line_commands.specs.LineOrders.{key_of_line};
 
-use crate::sorted_lines::write_line_key;
 use icu_collator::CollatorBorrowed;
 use line_sorts::LineKeys;
 use std::alloc::{AllocError, Global};
+
+/// Writes the sort key of a line, in UTF-8 that may be damaged, behind other bytes.
+///
+/// # Errors
+///
+/// Fails only where an allocation does.
+pub(crate) fn write_line_key(
+    collator: &CollatorBorrowed<'_>,
+    line: &[u8],
+    key: &mut Vec<u8>,
+) -> Result<(), AllocError>
+    ensures { OnOk result (key.new.items
+        ≡ key.old.items ++ key_of_line (collation_borrowed collator.now) line.now) }
+{
+    match collator.write_sort_key_utf8_to(line, key) {
+        Ok(()) => Ok(()),
+        Err(_) => Err(AllocError),
+    }
+}
 
 /// Writes the sort key of a line behind those in a buffer, and notes where it ends.
 fn push_line_key(

@@ -9,7 +9,6 @@ pub mod input_lines;
 pub mod key_front;
 mod keyed_lines;
 mod keyed_runs;
-pub mod keyed_text;
 pub mod line_comparer;
 pub mod line_keys;
 pub mod line_order;
@@ -21,7 +20,6 @@ pub mod sort_request;
 pub mod written_lines;
 
 pub use input_lines::lines_by;
-pub use keyed_text::{text_by_fronts, text_by_keys};
 pub use line_comparer::LineComparer;
 pub use line_keys::LineKeys;
 pub use line_order::{Direction, LineOrder, Ties};

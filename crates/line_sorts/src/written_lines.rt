@@ -1,6 +1,6 @@
 //! Lines as they are printed.
 
-ghost use Rattle.std.specs.Prelude.{◌≡◌, ◌++◌, ◌∷◌, [], IfOk, OnErr, OnOk, map};
+ghost use Rattle.std.specs.Prelude.{◌≡◌, ◌++◌, ◌∷◌, [], OnErr, OnOk, map};
 ghost use Rattle.std.specs.Io.KnownBytes.{Appends};
 ghost use Rattle.line_sorts.specs.FirstLines.{firsts, firsts_behind, have_one_key, unrepeated};
 ghost use Rattle.line_sorts.specs.InputLines.{ended_lines};
@@ -12,7 +12,7 @@ use crate::chunks::{make_room, push_bytes, write_chunk};
 use crate::keyed_lines::KeyedLines;
 use crate::line_places::LinePlace;
 use crate::sort_request::{Repeats, SortRequest};
-use std::alloc::{AllocError, Global};
+use std::alloc::AllocError;
 use std::io::{Result, Write};
 
 /// Appends a line and a separator.
@@ -214,47 +214,4 @@ pub(crate) fn write_lines<W: Write>(
     push_lines(keyed, places, request, chunk, output)?;
     write_chunk(chunk, output)?;
     output.flush()
-}
-
-/// How many bytes lines have with what ends them.
-fn ended_length(lines: &[&[u8]]) -> usize {
-    let mut length: usize = 0;
-    for line in lines {
-        length = length.saturating_add(line.len()).saturating_add(1);
-    }
-    length
-}
-
-/// Bytes, and others behind them.
-fn joined(before: Vec<u8>, bytes: Vec<u8>) -> std::result::Result<Vec<u8>, AllocError>
-    ensures { IfOk result (λ all. all.items ≡ before.items ++ bytes.items) }
-{
-    if before.is_empty() {
-        return Ok(bytes);
-    }
-    let mut all = before;
-    all.extend_from_slice(bytes.as_slice())?;
-    Ok(all)
-}
-
-/// Those that a request asks for of lines that are sorted, each with a separator behind it, as one chunk that has room
-/// for all.
-///
-/// # Errors
-///
-/// Fails only where an allocation does.
-pub(crate) fn lines_text(
-    alloc: Global,
-    keyed: &KeyedLines<'_>,
-    places: &[LinePlace],
-    request: SortRequest,
-) -> std::result::Result<Vec<u8>, AllocError>
-    ensures { IfOk result (λ text. text.items ≡ ordered_text_at keyed.now places.now request) }
-{
-    let mut text = Vec::with_capacity(alloc, ended_length(keyed.lines))?;
-    let mut before = Vec::new(alloc);
-    match push_lines(keyed, places, request, &mut text, &mut before) {
-        Ok(()) => joined(before, text),
-        Err(_) => Err(AllocError),
-    }
 }

@@ -1,7 +1,7 @@
 -- How known bytes grow, one write after another.
-use Rattle.std.proofs.Common.{ℕ, ◌+◌, ◌≤◌, List, ◌++◌, Option, Some, None, take, drop, length, refl, sym, ◌∙◌, ap, append_assoc, append-nil, ◌-◌, Result, Ok, Err, OnOk, OnErr, arith, length-drop}
-use Rattle.std.proofs.lemmas.List.{take_rest}
-use Rattle.std.proofs.Math.Seq.{take-add, take-length}
+use Rattle.std.proofs.Common.{◌≡◌, ℕ, ◌+◌, ◌≤◌, List, ◌++◌, Option, Some, None, take, drop, length, refl, sym, ◌∙◌, ap, append_assoc, append-nil, ◌-◌, Result, Ok, Err, OnOk, OnErr, arith, length-drop, subst}
+use Rattle.std.proofs.lemmas.List.{take-append-drop, take_rest}
+use Rattle.std.proofs.Math.Seq.{take-add, take-append-add, take-append_seam, take-length}
 use Rattle.std.specs.Io.KnownBytes.{Appends, Keeps}
 use Rattle.program_files.specs.PartialWrites.{AppendsBeginning}
 
@@ -37,6 +37,21 @@ pub Appends_further : (old mid new : Option (List ℕ)) (text : List ℕ) (done 
     → Appends old new (take (done + n) text)
 Appends_further old mid new text done n within h k =
     rw take-add (Appends_more old mid new (take done text) (take n (drop done text)) h (rw (take_rest text done) at k))
+
+-- a beginning of a text is one of what it begins
+pub AppendsBeginning_front : (old new : Option (List ℕ)) (text more : List ℕ) → AppendsBeginning old new text → AppendsBeginning old new (text ++ more)
+AppendsBeginning_front old new text more (n, h) =
+    let front : take (length (take n text)) (text ++ more) ≡ take n text =
+    ap (λ (ts : List ℕ). take (length (take n text)) (ts ++ more)) (sym (take-append-drop n text))
+    ∙ (ap (λ (ts : List ℕ). take (length (take n text)) ts) (append_assoc (take n text) (drop n text) more)
+    ∙ take-append_seam (take n text) (drop n text ++ more)) in
+    (length (take n text), subst (λ (ts : List ℕ). Appends old new ts) (sym front) h)
+
+-- a text, and then a beginning of another
+pub AppendsBeginning_behind : (old mid new : Option (List ℕ)) (text more : List ℕ)
+    → Appends old mid text → AppendsBeginning mid new more → AppendsBeginning old new (text ++ more)
+AppendsBeginning_behind old mid new text more h (n, k) =
+    (length text + n, subst (λ (ts : List ℕ). Appends old new ts) (sym (take-append-add text more n)) (Appends_more old mid new text (take n more) h k))
 
 -- where a text was written, or a beginning of it, a beginning was
 pub AppendsBeginning_either : {E : Type 0} (r : Result (Unit {0}) E) (old new : Option (List ℕ)) (text : List ℕ)

@@ -1,6 +1,6 @@
 -- What is said of a file.
-use Rattle.std.specs.Prelude.{◌≡◌, ℕ, List, [], ◌∷◌, ◌++◌, codes}
+use Rattle.std.specs.Prelude.{◌≡◌, ℕ, List, ◌++◌, codes}
 
--- a line that names a file, and then says something of it
-abbrev pub IsLineOf : List ℕ → List ℕ → Type 0
-IsLineOf file line = (what : List ℕ) × (line ≡ file ++ codes ": " ++ what ++ 10 ∷ [])
+-- a text that names a file, and then says something of it
+abbrev pub IsSaidOf : List ℕ → List ℕ → Type 0
+IsSaidOf file text = (what : List ℕ) × (text ≡ file ++ codes ": " ++ what)

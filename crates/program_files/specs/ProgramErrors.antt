@@ -1,5 +1,5 @@
 -- What keeps a program from printing an answer: the status that it ends with, and what it says.
-use Rattle.std.specs.Prelude.{◌≡◌, ◌⊎◌, ℕ, List, string_bytes}
+use Rattle.std.specs.Prelude.{◌≡◌, ◌⊎◌, ℕ, List, [], ◌∷◌, ◌++◌, codes, string_bytes}
 use Rattle.program_files.specs.declared.program_error.ProgramError.{ProgramError}
 use Rattle.program_files.specs.declared.program_error.ProgramError.TheVariants.{WrongWords, NoMemory, Refused, ReadFailed, WriteFailed}
 use Rattle.program_files.specs.declared.program_error.Wording.{Wording}
@@ -14,34 +14,36 @@ abbrev pub failure_status : ProgramError → ℕ
 failure_status WrongWords = 2
 failure_status _ = 3
 
--- the lines that a program says of its errors
+-- what is wrong
+abbrev pub error_text : ProgramError → List ℕ
+error_text WrongWords = codes "an argument isn't in UTF-8"
+error_text NoMemory = codes "no memory"
+error_text (Refused text) = string_bytes text
+error_text ReadFailed = codes "read failed"
+error_text WriteFailed = codes "write failed"
+
+-- how a program says what is wrong: the line that says what commands there are, and what each other line begins with
 pub record Lines : Type 0 where
   pub usage : List ℕ
-  pub no_memory : List ℕ
-  pub read_failed : List ℕ
-  pub write_failed : List ℕ
+  pub prefix : List ℕ
 
--- the lines that a program's wording has
+-- how a program's wording says it
 abbrev pub lines_in : Wording → Lines
-lines_in w = record {
-  usage = w.usage.now;
-  no_memory = w.no_memory.now;
-  read_failed = w.read_failed.now;
-  write_failed = w.write_failed.now;
-}
+lines_in w = record { usage = w.usage.now; prefix = w.prefix.now }
+
+-- a line that says this
+abbrev pub line_with : Lines → List ℕ → List ℕ
+line_with lines text = lines.prefix ++ (text ++ 10 ∷ [])
 
 -- the line that is said of an error
 abbrev pub line_of : Lines → ProgramError → List ℕ
 line_of lines WrongWords = lines.usage
-line_of lines NoMemory = lines.no_memory
-line_of lines (Refused line) = string_bytes line
-line_of lines ReadFailed = lines.read_failed
-line_of lines WriteFailed = lines.write_failed
+line_of lines error = line_with lines (error_text error)
 
--- why there is no collator: an allocation failed, or it is refused, by one of these lines
+-- why there is no collator: an allocation failed, or it is refused, by one of these texts
 abbrev pub IsCollatorError : (List ℕ → Type 0) → ProgramError → Type 0
 IsCollatorError refuses NoMemory = Unit {0}
-IsCollatorError refuses (Refused line) = refuses (string_bytes line)
+IsCollatorError refuses (Refused text) = refuses (string_bytes text)
 IsCollatorError refuses _ = ⊥
 
 -- why the input isn't read to its end: an allocation failed, or a read

@@ -15,7 +15,7 @@ pub mod watched_output;
 pub mod writing;
 
 pub use arguments::{Input, words};
-pub use endings::{DONE, FAILED, WRONG_WORDS, report_failure};
+pub use endings::{DONE, FAILED, WRONG_WORDS, report_failure, write_error};
 pub use input::append_input;
 pub use input_read::read_whole;
 pub use inputs::{read_input, read_inputs};
@@ -24,4 +24,4 @@ pub use output_file::replace_file;
 pub use program_error::{ProgramError, Wording};
 pub use progress::RunProgress;
 pub use watched_output::WatchedOutput;
-pub use writing::{write_message, write_text};
+pub use writing::{write_line, write_message, write_text};

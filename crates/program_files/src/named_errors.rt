@@ -1,37 +1,36 @@
 //! Errors that name a file.
-ghost use Rattle.std.specs.Prelude.{◌≡◌, ◌++◌, ◌∷◌, [], codes, string_bytes, IfOk};
+ghost use Rattle.std.specs.Prelude.{◌≡◌, ◌++◌, codes, string_bytes, IfOk};
 ghost use Rattle.program_files.specs.ProgramErrors.{IsCollatorError};
-ghost use Rattle.program_files.specs.NamedErrors.{IsLineOf};
+ghost use Rattle.program_files.specs.NamedErrors.{IsSaidOf};
 
 use crate::program_error::ProgramError;
 use std::alloc::{AllocError, Global};
 use std::fmt::Display;
 
-/// The line that says of a file what is wrong with it.
-fn line_of(alloc: Global, file: &str, what: &str) -> Result<String, AllocError>
-    ensures { IfOk result (λ line.
-        string_bytes line ≡ file.now ++ codes ": " ++ what.now ++ 10 ∷ []) }
+/// The text that says of a file what is wrong with it.
+fn said_of(alloc: Global, file: &str, what: &str) -> Result<String, AllocError>
+    ensures { IfOk result (λ text.
+        string_bytes text ≡ file.now ++ codes ": " ++ what.now) }
 {
-    let mut line = file.to_string(alloc)?;
-    line.push_str(": ")?;
-    line.push_str(what)?;
-    line.push_str("\n")?;
-    Ok(line)
+    let mut text = file.to_string(alloc)?;
+    text.push_str(": ")?;
+    text.push_str(what)?;
+    Ok(text)
 }
 
 /// An error that says of a file what is wrong with it.
 pub fn refused(alloc: Global, file: &str, what: &str) -> ProgramError
-    ensures { IsCollatorError (IsLineOf file.now) result }
+    ensures { IsCollatorError (IsSaidOf file.now) result }
 {
-    match line_of(alloc, file, what) {
-        Ok(line) => ProgramError::Refused(line),
+    match said_of(alloc, file, what) {
+        Ok(text) => ProgramError::Refused(text),
         Err(_) => ProgramError::NoMemory,
     }
 }
 
 /// An error that says of a file what is wrong with it, by an error's own text.
 pub fn refused_by<E: Display>(alloc: Global, file: &str, error: &E) -> ProgramError
-    ensures { IsCollatorError (IsLineOf file.now) result }
+    ensures { IsCollatorError (IsSaidOf file.now) result }
 {
     match error.to_string(alloc) {
         Ok(what) => refused(alloc, file, what.as_str()),

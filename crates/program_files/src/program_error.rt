@@ -2,37 +2,39 @@
 ghost use Rattle.std.specs.Prelude.{◌≡◌, ◌≤◌};
 
 use std::alloc::{AllocError, AllocFailed};
+use thiserror::Error;
 
 /// What keeps a program from printing an answer.
-#[derive(Debug, Drop)]
+#[derive(Debug, Drop, Error)]
 pub enum ProgramError {
-    /// The words are no command.
+    /// The words are no command: one of them isn't in UTF-8.
+    #[error("an argument isn't in UTF-8")]
     WrongWords,
     /// An allocation failed.
+    #[error("no memory")]
     NoMemory,
-    /// No collator can be had: this line says why, with its line feed.
+    /// No collator can be had, or a file can't be used: this text says why.
+    #[error("{0}")]
     Refused(String),
     /// A read of standard input failed.
+    #[error("read failed")]
     ReadFailed,
     /// A write to standard output failed.
+    #[error("write failed")]
     WriteFailed,
 }
 
-/// What a program says of its errors: lines, each with its line feed.
+/// How a program says what is wrong.
 #[derive(Clone, Copy)]
 pub struct Wording {
-    /// What commands there are, which is said where the words are none of them.
+    /// The line, with its line feed, that says what commands there are, if the words are none of them.
     pub usage: &'static str,
-    /// An allocation failed.
-    pub no_memory: &'static str,
-    /// A read of standard input failed.
-    pub read_failed: &'static str,
-    /// A write to standard output failed.
-    pub write_failed: &'static str,
+    /// What each other line begins with: the program's name, a colon and a space.
+    pub prefix: &'static str,
 }
 
 impl ProgramError {
-    ghost use Rattle.program_files.specs.ProgramErrors.{status_of, line_of, lines_in};
+    ghost use Rattle.program_files.specs.ProgramErrors.{status_of, error_text};
 
     /// The status that the program then ends with.
     pub fn status(&self) -> u8
@@ -48,16 +50,16 @@ impl ProgramError {
         }
     }
 
-    /// The line that then goes to standard error.
-    pub fn line(&self, wording: Wording) -> &str
-        ensures { result.now ≡ line_of (lines_in wording) self.now }
+    /// What is wrong, without a line feed, as `Display` shows it.
+    pub(crate) fn text(&self) -> &str
+        ensures { result.now ≡ error_text self.now }
     {
         match self {
-            ProgramError::WrongWords => wording.usage,
-            ProgramError::NoMemory => wording.no_memory,
-            ProgramError::Refused(line) => line.as_str(),
-            ProgramError::ReadFailed => wording.read_failed,
-            ProgramError::WriteFailed => wording.write_failed,
+            ProgramError::WrongWords => "an argument isn't in UTF-8",
+            ProgramError::NoMemory => "no memory",
+            ProgramError::Refused(text) => text.as_str(),
+            ProgramError::ReadFailed => "read failed",
+            ProgramError::WriteFailed => "write failed",
         }
     }
 }

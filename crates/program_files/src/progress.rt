@@ -13,6 +13,8 @@ const MEGABYTE: u64 = 1_000_000;
 /// How far a run has come: it is said each second, where that is asked for, on a line that is written anew.
 #[derive(Clone, Copy)]
 pub struct RunProgress {
+    /// What the line begins with: the program's name, a colon and a space.
+    prefix: &'static str,
     /// When the run began, where it is to be said.
     start: Option<Instant>,
     /// So many seconds after the start it was said last.
@@ -25,13 +27,14 @@ pub struct RunProgress {
 
 impl RunProgress {
     /// A run that begins. Nothing is said unless that is asked for, nor where there is no clock.
-    pub fn new<R: Clock>(rt: &R, is_asked: bool) -> RunProgress {
+    pub fn new<R: Clock>(rt: &R, prefix: &'static str, is_asked: bool) -> RunProgress {
         let start = if is_asked {
             Instant::now(rt).ok()
         } else {
             None
         };
         RunProgress {
+            prefix,
             start,
             said: 0,
             bytes: 0,
@@ -53,7 +56,8 @@ impl RunProgress {
     /// Says how many megabytes were read, and more behind that. That it can't be said changes nothing.
     fn say<R: AllocGlobal, E: Write>(&self, rt: &R, behind: &str, errors: &mut E) {
         let megabytes = self.bytes / MEGABYTE;
-        if let Ok(line) = format!(in rt.alloc(); "\rcollate-cldr: {megabytes} MB read{behind}") {
+        let prefix = self.prefix;
+        if let Ok(line) = format!(in rt.alloc(); "\r{prefix}{megabytes} MB read{behind}") {
             let _ = errors.write_all(line.as_bytes());
         }
     }

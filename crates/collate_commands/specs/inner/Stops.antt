@@ -12,6 +12,6 @@ use Rattle.program_files.specs.declared.program_error.ProgramError.TheVariants.{
 abbrev pub Stops : Compares → Refuses → Asked → Known → Known → Known → Known → ProgramError → Type 0
 Stops compares refuses asked old_input new_input old new WrongWords = ⊥
 Stops compares refuses asked old_input new_input old new NoMemory = Keeps old new
-Stops compares refuses asked old_input new_input old new (Refused line) = refuses (strength_of asked) (string_bytes line) × Keeps old new
+Stops compares refuses asked old_input new_input old new (Refused text) = refuses (strength_of asked) (string_bytes text) × Keeps old new
 Stops compares refuses asked old_input new_input old new ReadFailed = AsksForInput asked × Keeps old new
 Stops compares refuses asked old_input new_input old new WriteFailed = PrintsBeginning compares old_input new_input old new asked

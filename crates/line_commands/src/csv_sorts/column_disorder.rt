@@ -113,11 +113,10 @@ pub fn column_disorder_text(
     let body = body_of(request.has_header, records.as_slice());
     let first = records.len().saturating_sub(body.len());
     let line = line_of_record(request.delimiter, text, first.saturating_add(index));
-    let said = format!(in alloc; "collate-cldr: the record at line {line} is out of order: ")?;
+    let said = format!(in alloc; "the record at line {line} is out of order: ")?;
     let mut text = Vec::from_slice(alloc, said.as_bytes())?;
     if let Some(bytes) = body.get(index) {
         text.extend_from_slice(bytes)?;
     }
-    text.push(b'\n')?;
     Ok(text)
 }

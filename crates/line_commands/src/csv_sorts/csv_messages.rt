@@ -5,14 +5,14 @@ use line_sorts::csv_records::line_of_record;
 use program_files::ProgramError;
 use std::alloc::{AllocError, Global};
 
-/// The line that says of a line of a source what is wrong there.
+/// The error that says of a line of a source what is wrong there.
 fn line_said(
     alloc: Global,
     source: &str,
     line: usize,
     what: &str,
 ) -> Result<ProgramError, AllocError> {
-    let said = format!(in alloc; "{source}: line {line}: {what}\n")?;
+    let said = format!(in alloc; "{source}: line {line}: {what}")?;
     Ok(ProgramError::Refused(said))
 }
 

@@ -66,14 +66,9 @@ fn first_name<'a>(words: &[&'a str]) -> Option<&'a str> {
     None
 }
 
-/// A line that says of a word what is wrong with it.
+/// A text that says of a word what is wrong with it.
 fn word_said(alloc: Global, word: &str, what: &str) -> Result<String, AllocError> {
-    format!(in alloc; "collate-cldr: '{word}' {what}\n")
-}
-
-/// A line that says what is wrong.
-fn said(alloc: Global, what: &str) -> Result<String, AllocError> {
-    format!(in alloc; "collate-cldr: {what}\n")
+    format!(in alloc; "'{word}' {what}")
 }
 
 /// What is wrong with the words for a delimiter or columns.
@@ -81,26 +76,26 @@ fn wrong_values(alloc: Global, words: &CsvWords<'_, '_>) -> Result<Option<String
     if let Some(word) = words.delimiter
         && delimiter_of(word).is_none()
     {
-        let line = word_said(alloc, word, "is no delimiter, one character of ASCII")?;
-        return Ok(Some(line));
+        let text = word_said(alloc, word, "is no delimiter, one character of ASCII")?;
+        return Ok(Some(text));
     }
     if words.has_header {
         return Ok(None);
     }
     match first_name(words.columns) {
         Some(word) => {
-            let line = word_said(
+            let text = word_said(
                 alloc,
                 word,
                 "is no number of a column, and a name needs --header",
             )?;
-            Ok(Some(line))
+            Ok(Some(text))
         }
         None => Ok(None),
     }
 }
 
-/// The line that says what is wrong with the words for records of CSV, if something is.
+/// What is wrong with the words for records of CSV, if something is.
 ///
 /// # Errors
 ///
@@ -111,14 +106,14 @@ pub fn wrong_csv_words(
 ) -> Result<Option<String>, AllocError> {
     if !words.is_csv {
         if has_csv_option(words) {
-            let line = said(alloc, "--column, --header and --delimiter are for --csv")?;
-            return Ok(Some(line));
+            let text = "--column, --header and --delimiter are for --csv".to_string(alloc)?;
+            return Ok(Some(text));
         }
         return Ok(None);
     }
     if let Some(what) = wrong_beside(words) {
-        let line = said(alloc, what)?;
-        return Ok(Some(line));
+        let text = what.to_string(alloc)?;
+        return Ok(Some(text));
     }
     wrong_values(alloc, words)
 }

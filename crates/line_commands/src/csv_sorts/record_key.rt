@@ -14,7 +14,7 @@ ghost use Rattle.line_commands.specs.csv_sorts.ColumnOrders.{HasColumns, columns
 ghost use Rattle.line_commands.specs.csv_sorts.CsvErrors.{ExplainsField, ExplainsFields, ExplainsKeys};
 
 use crate::csv_sorts::csv_request::{CsvError, CsvRequest};
-use crate::write_line_key;
+use crate::sort_keys::write_line_key;
 use csv::ByteRecord;
 use icu_collator::CollatorBorrowed;
 use line_sorts::csv_records::{column_field, csv_fields};

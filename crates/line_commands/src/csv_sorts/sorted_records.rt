@@ -19,7 +19,7 @@ use crate::csv_sorts::csv_request::{CsvError, CsvRequest};
 use crate::csv_sorts::record_key::keys_of_records;
 use icu_collator::Collator;
 use line_sorts::csv_records::{csv_records, is_closed, past_mark};
-use line_sorts::{Direction, LineOrder, OrderedLines, SortRequest, Ties, push_line, text_by_keys};
+use line_sorts::{Direction, LineOrder, OrderedLines, SortRequest, Ties, push_line};
 use std::alloc::{AllocError, Global};
 use std::io::Write;
 
@@ -82,21 +82,6 @@ fn head_text(alloc: Global, mark: &[u8], header: &[&[u8]]) -> Result<Vec<u8>, Al
     Ok(text)
 }
 
-/// A byte order mark, the records before those that are sorted, and then those that are, as they were written.
-fn headed_text(
-    alloc: Global,
-    mark: &[u8],
-    header: &[&[u8]],
-    sorted: &[u8],
-) -> Result<Vec<u8>, AllocError>
-    ensures { IfOk result (λ text. text.items
-        ≡ mark.now ++ (ended_lines 10 (shown_lines header.now) ++ sorted.now)) }
-{
-    let mut text = head_text(alloc, mark, header)?;
-    text.extend_from_slice(sorted)?;
-    Ok(text)
-}
-
 /// How records are written that are sorted so.
 fn written_as(request: CsvRequest<'_>) -> SortRequest
     ensures separator { result.separator ≡ 10 }
@@ -139,31 +124,6 @@ pub(crate) fn closed_records<'a>(
     Ok(records)
 }
 
-/// A text of CSV with its records in the order of their columns: its byte order mark and its header stay where they
-/// are, and each record keeps its own bytes, quotes too. A last record without a line feed gets one.
-///
-/// # Errors
-///
-/// Fails where an allocation does, where a record doesn't have a column, or where a quote isn't closed.
-pub fn text_sorted_by_columns(
-    alloc: Global,
-    collator: &Collator,
-    request: CsvRequest<'_>,
-    text: &[u8],
-) -> Result<Vec<u8>, CsvError>
-    ensures sorts { IfOk result (λ output. SortsCsv (collation_kept collator.now) request.entry
-        text.now output.items) }
-    ensures explains { IfErr result (ExplainsCsv request.entry text.now) }
-{
-    let records = closed_records(alloc, request.delimiter, text)?;
-    let header = header_of(request.has_header, records.as_slice());
-    let body = body_of(request.has_header, records.as_slice());
-    let keys = keys_of_records(alloc, &collator.as_borrowed(), request, header.len(), body)?;
-    let sorted = text_by_keys(alloc, &keys, body, written_as(request))?;
-    let output = headed_text(alloc, front_mark(text), header, sorted.as_slice())?;
-    Ok(output)
-}
-
 /// Prints what stands before records, and then the records.
 fn print_behind<W: Write>(
     head: &[u8],
@@ -182,12 +142,13 @@ fn print_behind<W: Write>(
     }
 }
 
-/// Prints a text of CSV with its records in the order of their columns.
+/// Prints a text of CSV with its records in the order of their columns: its byte order mark and its header stay where
+/// they are, and each record keeps its own bytes, quotes too. A last record without a line feed gets one.
 ///
 /// # Errors
 ///
-/// Those of `text_sorted_by_columns`, and then nothing is printed; or a write or the flush fails: then a beginning was
-/// printed.
+/// Fails if an allocation does, if a record doesn't have a column, or if a quote isn't closed, and then prints nothing;
+/// or if a write or the flush does: then a beginning was printed.
 pub fn print_sorted_by_columns<W: Write>(
     alloc: Global,
     collator: &Collator,
