@@ -19,6 +19,7 @@ import tempfile
 import sweeps
 from calls import check_calls
 from cldr_program import check_collate_cldr, cut_lines, letter_lines, wrong_cuts
+from examples import check_examples
 from first_run import check_first_run
 from held_memory import check_memory
 from hostile import check_hostile
@@ -33,6 +34,7 @@ from rows import check_rows
 from settings_pairs import check_settings
 from sweeps import REQUESTS, TESTS, Run, built, faults_of, losses_missed, run, run_on_streams, says_refusals, sweep, wrapped
 from timed_files import check_files
+from vendored import check_vendor
 
 USAGE = b"usage: collate compare STRENGTH A B | collate key STRENGTH TEXT | collate sort STRENGTH\n"
 collate_is_right = says_refusals("collate", b"collate: read failed\n")
@@ -346,6 +348,8 @@ def check_all(report, room):
     shim = compiled(room, "refuse", "-shared", "-fPIC")
     report.also("programs that do wrong", check_faults, room, shim)
     report.also("the first run of a program", check_first_run)
+    report.also("copies of crates", check_vendor)
+    report.also("pages", check_examples)
     report.also("collate", check_collate, room, shim)
     report.also("collate-cldr", check_collate_cldr, room, shim)
     report.also("collate-index", check_collate_index, room, built("collate_index"), compiled(room, "stop", "-shared", "-fPIC"))

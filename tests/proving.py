@@ -33,7 +33,8 @@ BUILDS = ("", ".by-rattle")
 
 
 def jobs():
-    """How many crates are proved side by side: one on each processor, where memory holds them, or as RT_JOBS says."""
+    """How many processes prove side by side: one on each processor, if memory holds them, or as RT_JOBS says. Unless that is set, `rt`
+    gives a crate that no other waits beside several of them: the longest chain of crates then takes less time."""
     said = os.environ.get("RT_JOBS", "")
     if said.isdigit() and int(said):
         return int(said)
@@ -57,10 +58,10 @@ def copy_repository(folder, listed, names, with_edits):
 
 
 @contextlib.contextmanager
-def started(words, folder, lanes):
+def started(words, folder):
     """Starts a command in a session of its own, gives what it says, and ends it however this process ends."""
     how = {"cwd": folder, "stdin": subprocess.DEVNULL, "stdout": subprocess.PIPE, "stderr": subprocess.STDOUT, "errors": "replace"}
-    with subprocess.Popen(words, start_new_session=True, text=True, env={**os.environ, "RT_JOBS": str(lanes)}, **how) as ran:
+    with subprocess.Popen(words, start_new_session=True, text=True, **how) as ran:
         try:
             yield ran
         finally:
@@ -162,7 +163,7 @@ class Run:
 
     def follow(self, folder):
         lines = queue.Queue()
-        with started(["rt", "ci"], folder, self.lanes) as ran:
+        with started(["rt", "ci"], folder) as ran:
             threading.Thread(target=feed, args=(ran.stdout, lines), daemon=True).start()
             while True:
                 self.look(folder)
