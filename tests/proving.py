@@ -17,8 +17,8 @@ sys.path.insert(0, os.path.dirname(os.path.realpath(__file__)))
 import crates  # noqa: E402
 import expected  # noqa: E402
 
-# Memory in bytes that a crate's proof takes.
-EACH = 1_800_000_000
+# Memory in bytes that a crate's proof takes, and that `rt` guesses it to take.
+EACH, GUESSED = 1_800_000_000, 5_000_000_000
 # So often a line says how much is left, and so soon after the last crate that is kept, in seconds.
 BEAT, FIRST = 30, 3
 # A line that says why a crate isn't proved.
@@ -32,14 +32,23 @@ COUNTS = re.compile(r"(\d+) passed, (\d+) failed")
 BUILDS = ("", ".by-rattle")
 
 
+def free_memory():
+    lines = dict(line.split(":", 1) for line in crates.read("/proc/meminfo").splitlines())
+    return 1024 * int(lines["MemAvailable"].split()[0])
+
+
 def jobs():
-    """How many processes prove side by side: one on each processor, if memory holds them, or as RT_JOBS says. Unless that is set, `rt`
-    gives a crate that no other waits beside several of them: the longest chain of crates then takes less time."""
+    """How many crates are proved side by side: one on each processor, if memory holds them, or as RT_JOBS says."""
     said = os.environ.get("RT_JOBS", "")
     if said.isdigit() and int(said):
         return int(said)
-    lines = dict(line.split(":", 1) for line in crates.read("/proc/meminfo").splitlines())
-    return max(1, min(crates.processors(), 1024 * int(lines["MemAvailable"].split()[0]) // EACH))
+    return max(1, min(crates.processors(), free_memory() // EACH))
+
+
+def lanes_said(lanes):
+    """What is set for `rt` to prove so many crates side by side. Where memory is plenty by its own guess, which is some times what a
+    crate takes, nothing is set: then it gives several processes to a crate that no other waits beside, at the end of a chain."""
+    return {} if free_memory() >= lanes * GUESSED else {"RT_JOBS": str(lanes)}
 
 
 def copy_repository(folder, listed, names, with_edits):
@@ -58,10 +67,10 @@ def copy_repository(folder, listed, names, with_edits):
 
 
 @contextlib.contextmanager
-def started(words, folder):
+def started(words, folder, lanes):
     """Starts a command in a session of its own, gives what it says, and ends it however this process ends."""
     how = {"cwd": folder, "stdin": subprocess.DEVNULL, "stdout": subprocess.PIPE, "stderr": subprocess.STDOUT, "errors": "replace"}
-    with subprocess.Popen(words, start_new_session=True, text=True, **how) as ran:
+    with subprocess.Popen(words, start_new_session=True, text=True, env={**lanes_said(lanes), **os.environ}, **how) as ran:
         try:
             yield ran
         finally:
@@ -163,7 +172,7 @@ class Run:
 
     def follow(self, folder):
         lines = queue.Queue()
-        with started(["rt", "ci"], folder) as ran:
+        with started(["rt", "ci"], folder, self.lanes) as ran:
             threading.Thread(target=feed, args=(ran.stdout, lines), daemon=True).start()
             while True:
                 self.look(folder)
