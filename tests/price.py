@@ -46,8 +46,8 @@ def price(listed, kept, names):
         yield f"with no row in tests/costs.txt, and not counted: {', '.join(lacking)}"
     own_edits = [it for name in names for it in edits.of_crate(listed[name])]
     in_gate = sum(it.is_in_gate() for it in own_edits)
-    yield (f"edits that are stale then: {len(own_edits)}, of which the gate tries {in_gate};"
-           f" now {len(edits.stale(own_edits))} of them are (bin/wrong {' '.join(names)} tries all)")
+    yield (f"edits to try then: {len(own_edits)} (bin/wrong {' '.join(names)}); the gate tries {in_gate} of them."
+           f" Stale now: {len(edits.stale(own_edits))}")
 
 
 def main(names):
