@@ -17,7 +17,7 @@ OVER_CLDR = re.compile(r"collate-(?:cldr|index) |merged")
 # Commands that aren't run, by how they begin, each with the reason.
 NOT_RUN = {
     "psql": "PostgreSQL",
-    "mkdir names": "another repository, which tests/vendored.py has",
+    "mkdir -p names": "another repository, which tests/vendored.py has",
     "~/collation/bin/vendor": "another repository, which tests/vendored.py has",
     "cd crates/names": "a compiler's run of minutes; the gate runs the same program, crates/use_language",
 }

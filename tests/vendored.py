@@ -45,8 +45,11 @@ def wrong_copies(folder):
     missing = [it for it in names if f"{it}: {' '.join([*listed[it].deps, *listed[it].of_kit])}".rstrip() not in lines]
     found += [f"crates.txt has no line of {it}" for it in missing] + ["its own line is gone"] * (not text.startswith(OWN))
     before = files(folder)
-    again = vendored(folder, NAME)
-    return found + [f"a second run: {again}"] * (again.returncode != 0 or files(folder) != before)
+    for again in (vendored(folder, NAME), vendored(folder), vendored(folder, "icu_options")):
+        found += [f"a second run: {again}"] * (again.returncode != 0 or {*files(folder)} != {*before})
+    # Named once more, it stays by the name of the first run.
+    found += [f"{NAME} is gone"] * (f"named: {NAME} icu_options" not in crates.read(os.path.join(folder, "crates.txt")))
+    return found
 
 
 def wrong_refusals(folder, room):
@@ -76,6 +79,6 @@ def check_vendor(report):
         os.makedirs(os.path.join(folder, ".git"))
         with open(os.path.join(folder, "crates.txt"), "w", encoding="utf-8") as it:
             it.write(OWN)
-        report.say("crates that bin/vendor copies into another repository", wrong_copies(folder), 2)
+        report.say("crates that bin/vendor copies into another repository", wrong_copies(folder), 5)
         report.say("copies that bin/vendor refuses to make", wrong_refusals(folder, room), 6)
         shutil.rmtree(folder)
