@@ -213,7 +213,7 @@ def check_refused(report, program, letters, shim, room):
     report.say("collate-cldr: a table file to refuse requests by", made(program, path, "--root", letters), 1)
     count, found = refused_compiles(program, shim, letters, room)
     report.say("collate-cldr: each request refused, compile", found, count)
-    is_right = says_refusals("collate-cldr", f"{path}: not read\n".encode(), failed=3, answers=(0, 1))
+    is_right = says_refusals("collate-cldr", f"collate-cldr: {path}: not read\n".encode(), failed=3, answers=(0, 1))
     words = ["compare", "--tables", path, "ab", "aB"]
     outcomes = sweep(shim, program, words, b"", REQUESTS, is_right, lambda at, count, _: at > count - LAST_ONES)
     report.say("collate-cldr: each request refused, compare --tables", faults_of(outcomes), len(outcomes))
