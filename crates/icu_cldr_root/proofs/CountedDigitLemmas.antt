@@ -5,6 +5,7 @@ use Rattle.std.specs.BTreeMap.{get}
 use Rattle.std.specs.Char.{IsScalar}
 use Rattle.std.specs.Ordering.{nat_cmp}
 use Rattle.std.proofs.lemmas.Bool.Decides.{nat_tests}
+use Rattle.std.proofs.lemmas.Bool.{and_parts}
 use Rattle.ucd_table.specs.Rows.{Range, HasExactly, IsRising, in_ranges, is_range, ranges_rise}
 use Rattle.ucd_perl.specs.Perl.{is_digit_char}
 use Rattle.icu_table_data.specs.Data.{Data}
@@ -17,14 +18,10 @@ use Rattle.icu_cldr_root.proofs.DigitRangeLemmas.{by_test, or_absent_further}
 
 -- ---- tests
 
-both : (a b : Bool) → (a && b) ≡ true → (a ≡ true) × (b ≡ true)
-both true b h = (refl, h)
-both false b h = cc
-
 at_most : (m n : ℕ) → nat_le m n ≡ true → m ≤ n
 at_most m n h = grind (arith, nat_tests)
 
-within : (a b c : ℕ) → a ≤ c → c ≤ b → (nat_le a c && nat_le c b) ≡ true
+pub within : (a b c : ℕ) → a ≤ c → c ≤ b → (nat_le a c && nat_le c b) ≡ true
 within a b c h l = grind (arith, nat_tests)
 
 below : (a b c : ℕ) → c < a → (nat_le a c && nat_le c b) ≡ false
@@ -45,9 +42,9 @@ record IsNext (n : ℕ) (r : Range) (rs : List Range) : Type 0 where
 is_next : (n : ℕ) (r : Range) (rs : List Range) → ranges_rise n (r ∷ rs) ≡ true → IsNext n r rs
 unfolding ranges_rise
 is_next n r rs h =
-    let parts = both (nat_le n r.0 && is_range r) (ranges_rise (r.1 + 1) rs) h in
-    let first = both (nat_le n r.0) (is_range r) parts.0 in
-    let range = both (nat_le r.0 r.1) (nat_le r.1 0x10_FFFF) first.1 in
+    let parts = and_parts (nat_le n r.0 && is_range r) (ranges_rise (r.1 + 1) rs) h in
+    let first = and_parts (nat_le n r.0) (is_range r) parts.0 in
+    let range = and_parts (nat_le r.0 r.1) (nat_le r.1 0x10_FFFF) first.1 in
     record { from = at_most n r.0 first.0; ends = at_most r.0 r.1 range.0; bound = at_most r.1 0x10_FFFF range.1; rest = parts.1 }
 
 -- below them there is nothing

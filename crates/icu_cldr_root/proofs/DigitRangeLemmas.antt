@@ -5,6 +5,7 @@ use Rattle.std.specs.BTreeMap.{get}
 use Rattle.std.specs.Char.{IsScalar}
 use Rattle.std.specs.Ordering.{nat_cmp}
 use Rattle.std.proofs.lemmas.Bool.Decides.{nat_tests}
+use Rattle.std.proofs.lemmas.Bool.{eqb-true}
 use Rattle.icu_table_data.specs.Data.{Data}
 use Rattle.icu_cldr_root.specs.inner.Digits.{IsDigitOrAbsent, MakesDigits}
 use Rattle.icu_cldr_root.specs.inner.LineEntries.{Plain}
@@ -15,10 +16,7 @@ pub or_absent_further : (d new : Data) (value : ℕ) (was is : Option ℕ) → E
 or_absent_further d new value None is grows digit = digit
 or_absent_further d new value (Some plain) is grows (e, has, digit) = (e, has, digit_further d new value plain e grows.lists digit)
 
-same_number : (m n : ℕ) → (m == n) ≡ true → m ≡ n
-same_number m n h = grind (arith, nat_tests)
-
-at_code : (first code : ℕ) → first ≤ code → (nat_le first code && nat_lt code (code + 1)) ≡ true
+pub at_code : (first code : ℕ) → first ≤ code → (nat_le first code && nat_lt code (code + 1)) ≡ true
 at_code first code h = grind (arith, nat_tests)
 
 before_code : (first code : ℕ) → (nat_le first code && nat_lt code code) ≡ false
@@ -58,7 +56,7 @@ module _ (d new : Data) (start first code : ℕ) (old mid after : Plain) (up : f
     digit_at : (c : ℕ) (b : Bool) → (code == c) ≡ b → IsScalar c
         → MatchBool (nat_le first c && nat_lt c (code + 1)) (IsDigitOrAbsent new ((c - start) % 10) (get nat_cmp old c) (get nat_cmp after c)) (get nat_cmp after c ≡ get nat_cmp old c)
     digit_at c true same scalar =
-        subst (λ x. IsScalar x → MatchBool (nat_le first x && nat_lt x (code + 1)) (IsDigitOrAbsent new ((x - start) % 10) (get nat_cmp old x) (get nat_cmp after x)) (get nat_cmp after x ≡ get nat_cmp old x)) (same_number code c same)
+        subst (λ x. IsScalar x → MatchBool (nat_le first x && nat_lt x (code + 1)) (IsDigitOrAbsent new ((x - start) % 10) (get nat_cmp old x) (get nat_cmp after x)) (get nat_cmp after x ≡ get nat_cmp old x)) (eqb-true code c same)
         digit_here scalar
     digit_at c false other scalar = digit_elsewhere c scalar other
 

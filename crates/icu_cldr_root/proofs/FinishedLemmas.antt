@@ -6,7 +6,7 @@ use Rattle.std.specs.Char.{IsScalar}
 use Rattle.std.specs.Option.{option_or}
 use Rattle.std.specs.Ordering.{nat_cmp}
 use Rattle.std.proofs.lemmas.Bool.Decides.{nat_tests}
-use Rattle.std.proofs.lemmas.List.{append-nil, length-reverse}
+use Rattle.std.proofs.lemmas.List.{append-nil, length-reverse, nil_from_length}
 use Rattle.ucd_perl.specs.Perl.{is_digit_char}
 use Rattle.icu_table_entries.specs.EncodedEntries.{implicit_entry}
 use Rattle.icu_table_data.specs.Data.{Data}
@@ -30,7 +30,7 @@ use Rattle.icu_cldr_root.specs.inner.TakenCharacters.{HasNoEntry, HasUnmapped}
 use Rattle.icu_cldr_root.specs.declared.collected.Collected.{Collected}
 use Rattle.icu_cldr_root.specs.declared.mapping.Mapping.{Mapping}
 use Rattle.icu_table_mappings.proofs.NearestLemmas.{nearest_at}
-use Rattle.icu_table_mappings.proofs.GrownListLemmas.{lists_further, leads_further, digit_further, spells_further}
+use Rattle.icu_table_mappings.proofs.GrownListLemmas.{lists_further, digit_further, spells_further, gives_further}
 use Rattle.icu_cldr_root.proofs.DigitRangeLemmas.{by_test}
 use Rattle.icu_cldr_root.proofs.IdeographValueLemmas.{unmapped_further}
 
@@ -56,17 +56,6 @@ lists_same d e same = record {
   contexts = same.contexts ∙ sym (append-nil d.contexts);
 }
 
-gives_further : (d new : Data) (e : ℕ) (before after : List ℕ) (f : ℕ) → HasMoreLists d new → Gives d e before after f → Gives new e before after f
-gives_further d new e before after f grows g = record {
-  behind = g.behind;
-  prefix = leads_further _ d new e before g.behind grows g.prefix;
-  contraction = leads_further _ d new g.behind after f grows g.contraction;
-}
-
-empty_list : (xs : List ℕ) → length xs ≡ 0 → xs ≡ []
-empty_list [] h = refl
-empty_list (x ∷ xs) h = absurd (omega arith)
-
 both_none : (p s : ℕ) → (p == 0 && s == 0) ≡ true → (p ≡ 0) × (s ≡ 0)
 both_none p s h = (first p s h, second p s h) where
   first : (p s : ℕ) → (p == 0 && s == 0) ≡ true → p ≡ 0
@@ -79,7 +68,7 @@ both_none p s h = (first p s h, second p s h) where
 
 -- an entry that stands between characters is the nearest
 pub nearest_is : (all : Surroundings) (own : ℕ) (before after : List ℕ) (e : ℕ) → entry_between all before after ≡ Some e → nearest all own before after ≡ Some e
-nearest_is all own before after e h = nearest_at all own before after (length before) e (whole before) (empty_list before) h where
+nearest_is all own before after e h = nearest_at all own before after (length before) e (whole before) (nil_from_length before) h where
   whole : (xs : List ℕ) → take (length xs) xs ≡ xs
   whole [] = refl
   whole (x ∷ xs) = ap (λ ys. x ∷ ys) (whole xs)
@@ -171,8 +160,8 @@ module _ (from : Collected) (d1 d2 d : Data) (entries2 entries3 : Plain)
   given_alone : (m : Mapping) (e : ℕ) → IsScalar m.first → is_without_context m ≡ true → get nat_cmp from.entries m.first ≡ Some e → GivesEntry d m e
   given_alone m e scalar plain is =
       let none = both_none (length m.prefix.items) (length m.suffix.items) plain in
-      let before : reverse m.prefix.items ≡ [] = empty_list (reverse m.prefix.items) (length-reverse m.prefix.items ∙ none.0) in
-      let after : m.suffix.items ≡ [] = empty_list m.suffix.items none.1 in
+      let before : reverse m.prefix.items ≡ [] = nil_from_length (reverse m.prefix.items) (length-reverse m.prefix.items ∙ none.0) in
+      let after : m.suffix.items ≡ [] = nil_from_length m.suffix.items none.1 in
       let to : ComesTo d1 m.first e (get nat_cmp entries2 m.first) =
       comes_to d1 m.first e (get nat_cmp from.entries m.first) (get nat_cmp entries2 m.first) is (made m.first scalar) in
       let alone : Gives d (d.value m.first) [] [] to.entry =

@@ -2,13 +2,11 @@
 use Rattle.std.proofs.Common.{◌≡◌, ℕ, ◌≤◌, Bool, true, false, List, ◌∷◌, Option, Some, None, refl, sym, ap, ◌∙◌, arith, if◌then◌else◌}
 use Rattle.std.specs.Prelude.{◌&&◌, nat_le, IfSome}
 use Rattle.std.proofs.lemmas.Bool.Decides.{nat_tests}
+use Rattle.icu_cldr_root.proofs.CountedDigitLemmas.{within}
 use Rattle.icu_cldr_root.specs.RangeWeights.{primary_among, ideograph_weight_in}
 use Rattle.icu_cldr_root.specs.Ideographs.{primary_in, HasNoIdeographs}
 use Rattle.icu_cldr_root.specs.declared.ideograph_weights.IdeographWeights.{IdeographWeights}
 use Rattle.icu_cldr_root.specs.declared.ideograph_weights.WeightedRange.{WeightedRange}
-
-inside : (a b c : ℕ) → a ≤ c → c ≤ b → (nat_le a c && nat_le c b) ≡ true
-inside a b c h l = grind (arith, nat_tests)
 
 -- the first range has the character
 pub primary_here : (ranges rest : List WeightedRange) (w : WeightedRange) (c : ℕ) → ranges ≡ w ∷ rest → w.range.first ≤ c → c ≤ w.range.last
@@ -16,7 +14,7 @@ pub primary_here : (ranges rest : List WeightedRange) (w : WeightedRange) (c : �
 unfolding primary_among
 primary_here ranges rest w c is h l =
     ap (λ rs. primary_among rs c) is
-    ∙ ap (λ b. if b then Some (ideograph_weight_in w c) else primary_among rest c) (inside w.range.first w.range.last c h l)
+    ∙ ap (λ b. if b then Some (ideograph_weight_in w c) else primary_among rest c) (within w.range.first w.range.last c h l)
 
 outside : (a b c : ℕ) (t : Bool) → (nat_le a c && nat_le c b) ≡ t → (a ≤ c → c ≤ b → ⊥) → t ≡ false
 outside a b c false e never = refl

@@ -6,6 +6,8 @@ use Rattle.std.proofs.Math.ListN.{get_or-append}
 use Rattle.std.proofs.Math.Seq.{get_or-append_seam}
 use Rattle.std.proofs.lemmas.Bool.Decides.{nat_tests}
 use Rattle.std.proofs.lemmas.List.{append-nil}
+use Rattle.std.proofs.lemmas.Bool.{eqb-true}
+use Rattle.icu_cldr_root.proofs.DigitRangeLemmas.{at_code}
 use Rattle.icu_table_entries.specs.Elements.{Element, end_element}
 use Rattle.icu_table_entries.specs.Entries.{kind_of, entry_index}
 use Rattle.icu_table_entries.specs.EntryConditions.{has_offset_weight, is_three_byte_weight}
@@ -87,12 +89,6 @@ at_false false P Q is h = h
 none_yet : (first x : ℕ) → (nat_le first x && nat_lt x first) ≡ false
 none_yet first x = grind (arith, nat_tests)
 
-same_number : (m n : ℕ) → (m == n) ≡ true → m ≡ n
-same_number m n h = grind (arith, nat_tests)
-
-now_set : (first code : ℕ) → first ≤ code → (nat_le first code && nat_lt code (code + 1)) ≡ true
-now_set first code h = grind (arith, nat_tests)
-
 set_before : (first code x : ℕ) → (code == x) ≡ false → (nat_le first x && nat_lt x (code + 1)) ≡ (nat_le first x && nat_lt x code)
 set_before first code x h = grind (arith, nat_tests)
 
@@ -110,9 +106,9 @@ module _ (old d new : Data) (w : WeightedRange) (code : ℕ) (up : w.range.first
   few_turn grows here others x scalar = by_test (code == x) refl where
     by_test : (b : Bool) → (code == x) ≡ b → MatchBool (nat_le w.range.first x && nat_lt x (code + 1)) (GivesWeight new (new.value x) x (ideograph_weight_in w x)) (new.value x ≡ old.value x)
     by_test true is =
-        let same : code ≡ x = same_number code x is in
+        let same : code ≡ x = eqb-true code x is in
         subst (λ y. MatchBool (nat_le w.range.first y && nat_lt y (code + 1)) (GivesWeight new (new.value y) y (ideograph_weight_in w y)) (new.value y ≡ old.value y)) same
-        (by_bool (nat_le w.range.first code && nat_lt code (code + 1)) true _ _ (now_set w.range.first code up)
+        (by_bool (nat_le w.range.first code && nat_lt code (code + 1)) true _ _ (at_code w.range.first code up)
         (λ h. here (subst IsScalar (sym same) scalar)) (λ h. cc))
     by_test false is =
         by_bool (nat_le w.range.first x && nat_lt x (code + 1)) (nat_le w.range.first x && nat_lt x code) _ _ (set_before w.range.first code x is)

@@ -9,6 +9,7 @@ use Rattle.std.specs.Map.{lookup, keys_of}
 use Rattle.std.specs.Ordering.{is_eq, nat_cmp}
 use Rattle.std.specs.declared.cmp.Ordering.TheVariants.{Less}
 use Rattle.std.proofs.lemmas.Bool.Decides.{nat_tests}
+use Rattle.std.proofs.lemmas.Bool.{eqb-true}
 use Rattle.icu_table_data.specs.Data.{Data}
 use Rattle.icu_cldr_root.specs.CharacterEntries.{entry_of_char}
 use Rattle.icu_table_mappings.specs.Given.{Gives}
@@ -17,7 +18,7 @@ use Rattle.icu_cldr_root.specs.inner.Resolved.{GivesAll, IsResolved}
 use Rattle.icu_table_mappings.specs.GrownLists.{Extends}
 use Rattle.icu_table_mappings.specs.Surroundings.{Surroundings}
 use Rattle.icu_table_mappings.proofs.GrownListLemmas.{leads_further}
-use Rattle.icu_cldr_root.proofs.RootValueLemmas.{at_same, same_number}
+use Rattle.icu_cldr_root.proofs.RootValueLemmas.{at_same}
 
 -- the contexts of a character among those that are left
 abbrev pub left_at : List (ℕ × Surroundings) → ℕ → Option Surroundings
@@ -26,7 +27,7 @@ left_at left x = lookup (is_at (nat_cmp x)) left
 none_above : (k x : ℕ) (es : List (ℕ × Surroundings)) → AllByRecursion (λ l. nat_cmp k l ≡ Less) (keys_of es) → (k == x) ≡ true → left_at es x ≡ None
 none_above k x [] above here = refl
 none_above k x (e ∷ es) above here =
-    let less : nat_cmp x e.0 ≡ Less = subst (λ y. nat_cmp y e.0 ≡ Less) (same_number k x here) above.0 in
+    let less : nat_cmp x e.0 ≡ Less = subst (λ y. nat_cmp y e.0 ≡ Less) (eqb-true k x here) above.0 in
     ap (λ o. if is_eq o then Some e.1 else left_at es x) less ∙ none_above k x es above.1 here
 
 first_at : (left next : List (ℕ × Surroundings)) (k x : ℕ) (v : Surroundings) → left ≡ (k, v) ∷ next → left_at left x ≡ (if k == x then Some v else left_at next x)
@@ -108,7 +109,7 @@ module _ (contexts : Around) (d new : Data) (old now after : Plain) (left next :
   now_resolved : (x : ℕ) (b : Bool) → (k == x) ≡ b → left_at next x ≡ None
       → IsResolved new (get nat_cmp contexts x) (entry_of_char old x) (get nat_cmp old x) (get nat_cmp after x)
   now_resolved x true same h =
-      subst (λ y. IsResolved new (get nat_cmp contexts y) (entry_of_char old y) (get nat_cmp old y) (get nat_cmp after y)) (same_number k x same) here_resolved
+      subst (λ y. IsResolved new (get nat_cmp contexts y) (entry_of_char old y) (get nat_cmp old y) (get nat_cmp after y)) (eqb-true k x same) here_resolved
   now_resolved x false other h =
       subst (λ (o : Option ℕ). IsResolved new (get nat_cmp contexts x) (entry_of_char old x) (get nat_cmp old x) o) (sym (others x other))
       (resolved_further d new (get nat_cmp contexts x) (entry_of_char old x) (get nat_cmp old x) (get nat_cmp now x) grows (so_far.resolved x (in_left x None other h)))

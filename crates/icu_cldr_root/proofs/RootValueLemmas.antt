@@ -8,13 +8,11 @@ use Rattle.std.specs.Map.{lookup, keys_of}
 use Rattle.std.specs.Ordering.{is_eq, nat_cmp}
 use Rattle.std.specs.declared.cmp.Ordering.TheVariants.{Less, Equal, Greater}
 use Rattle.std.proofs.lemmas.Bool.Decides.{nat_tests}
+use Rattle.std.proofs.lemmas.Bool.{eqb-true}
 use Rattle.icu_table_data.specs.Data.{Data}
 use Rattle.icu_table_provider.specs.builder.Building.{set_in}
 use Rattle.icu_cldr_root.specs.inner.LineEntries.{Plain}
 use Rattle.icu_cldr_root.specs.inner.RootValues.{last_given}
-
-pub same_number : (m n : ℕ) → (m == n) ≡ true → m ≡ n
-same_number m n h = grind (arith, nat_tests)
 
 same_test : (k x : ℕ) → (nat_le k x && nat_le x k) ≡ (k == x)
 same_test k x = grind (arith, nat_tests)
@@ -36,7 +34,7 @@ at_same x k = by_tests (nat_lt x k) (x == k) (k == x) (apart x k) (either x k) w
 none_above : (k x : ℕ) (es : List (ℕ × ℕ)) → AllByRecursion (λ l. nat_cmp k l ≡ Less) (keys_of es) → (k == x) ≡ true → lookup (is_at (nat_cmp x)) es ≡ None
 none_above k x [] above here = refl
 none_above k x (e ∷ es) above here =
-    let less : nat_cmp x e.0 ≡ Less = subst (λ y. nat_cmp y e.0 ≡ Less) (same_number k x here) above.0 in
+    let less : nat_cmp x e.0 ≡ Less = subst (λ y. nat_cmp y e.0 ≡ Less) (eqb-true k x here) above.0 in
     ap (λ o. if is_eq o then Some e.1 else lookup (is_at (nat_cmp x)) es) less ∙ none_above k x es above.1 here
 
 last_here : (b : Bool) (v other : ℕ) (rest : Option ℕ) → (b ≡ true → rest ≡ None)

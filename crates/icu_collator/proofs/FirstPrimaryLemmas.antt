@@ -4,6 +4,7 @@ use Rattle.std.specs.Ordering.{nat_cmp, ordering_then}
 use Rattle.std.proofs.lemmas.List.{map-append}
 use Rattle.std.proofs.lemmas.Bool.{cases_order, eqb-false}
 use Rattle.std.proofs.lemmas.Bool.Decides.{nat_tests}
+use Rattle.icu_element_reading.proofs.boundaries.CutPartLemmas.{nothing}
 use Rattle.unicode_normalization.specs.Forms.{nfd}
 use Rattle.icu_options.specs.declared.settings.AlternateHandling.{AlternateHandling}
 use Rattle.icu_options.specs.declared.settings.AlternateHandling.TheVariants.{NonIgnorable, Shifted, Blanked}
@@ -13,13 +14,12 @@ use Rattle.icu_order_levels.specs.ListOrder.{list_order}
 use Rattle.icu_order_levels.proofs.Order.{less_number, more_number, same_front}
 use Rattle.icu_table_entries.specs.Elements.{Element}
 use Rattle.icu_table_provider.specs.CollatorTables.{reorder}
-use Rattle.icu_element_reading.specs.TextElements.{Reading, elements_of, elements_after, elements_along}
-use Rattle.icu_element_reading.proofs.boundaries.NfdLemmas.{nfd-nil}
+use Rattle.icu_element_reading.specs.TextElements.{elements_of, elements_after}
 use Rattle.icu_element_reading.specs.boundaries.ReadingLaws.{FirstStartersLead}
 use Rattle.icu_element_facts.specs.KeptFacts.{HasLeadingPrimary}
 use Rattle.icu_element_cursor.specs.declared.facts_cursor.FactsCursor.{FactsCursor}
 use Rattle.icu_element_cursor.specs.FactsCursors.{GoesOn, facts_give}
-use Rattle.icu_element_facts.specs.BoundaryTables.{HasBoundaryBefore}
+use Rattle.icu_element_reading.specs.boundaries.BoundaryTables.{HasBoundaryBefore}
 use Rattle.icu_order_texts.specs.weighting.Collations.{Collation}
 use Rattle.icu_order_texts.specs.weighting.Forms.{form_by, last_variable_by}
 use Rattle.icu_order_texts.specs.weighting.Handled.{HandledElement, stayed, handled, handled_variable, is_variable, stayed_elements}
@@ -107,13 +107,9 @@ facts_lead collation law c cs q leads (Some p) h =
     let nonzero : q ≢ 0 = λ z. above_nothing (last_variable_by collation) p h.1 (h.0 ∙ z) in
     first_leads collation law c cs p (subst (λ (x : ℕ). HasLeadingPrimary (reading_by collation) c x) (sym h.0) (leads nonzero)) h.1
 
-nothing_after : (reading : Reading) (before : List ℕ) → elements_after reading before (nfd []) ≡ []
-unfolding elements_after elements_along
-nothing_after reading before = ap (elements_after reading before) nfd-nil
-
 pub nothing_leads : (collation : Collation) → LeadsWith collation [] 0
 unfolding LeadsWith handled weights
-nothing_leads collation = subst (λ es. IsFirst 0 (primaries_given collation false es)) (sym (nothing_after (reading_by collation) [])) refl
+nothing_leads collation = subst (λ es. IsFirst 0 (primaries_given collation false es)) (sym (nothing (reading_by collation) [])) refl
 
 -- ---- texts that may be the rest of others
 

@@ -2,6 +2,8 @@
 use Rattle.std.proofs.Common.{◌≡◌, ℕ, ◌≤◌, Bool, true, false, ◌&&◌, ◌||◌, nat_lt, List, [], ◌∷◌, ◌++◌, flat_map, refl, sym, ap, ◌∙◌, inl, inr, append-nil, append_assoc, arith}
 use Rattle.std.specs.List.{list_all}
 use Rattle.std.proofs.lemmas.Bool.{cases_Bool, and_parts, and_from, ltb-true}
+use Rattle.std.proofs.Math.Bool.{and-false}
+use Rattle.icu_element_cursor.proofs.StandLemmas.{or_true}
 use Rattle.ucd_normal.specs.declared.forms.Form.TheVariants.{Nfd}
 use Rattle.ucd_normal.specs.CanonicalCombiningClass.{canonical_combining_class as class_of}
 use Rattle.unicode_normalization.specs.Decompose.{decompose}
@@ -10,14 +12,6 @@ use Rattle.unicode_normalization.specs.Order.{is_starter, is_reorderable}
 use Rattle.icu_element_reading.specs.boundaries.Alone.{stays_first, all_stay}
 use Rattle.icu_element_reading.proofs.boundaries.NfdLemmas.{nfd-nil, nfd-starters, stays_first-starter}
 use Rattle.icu_collator.specs.inner.KeyCharacters.{EndsMarks}
-
-or_true : (b : Bool) → ((b || true) && true) ≡ true
-or_true true = refl
-or_true false = refl
-
-and_false : (b : Bool) → (b && false) ≡ false
-and_false true = refl
-and_false false = refl
 
 both_true : (b c : Bool) → ((b || (c || true)) && ((c || true) && true)) ≡ true
 both_true true true = refl
@@ -53,7 +47,7 @@ pub keeps_order : (d e : ℕ) → class_of d ≤ class_of e → is_reorderable d
 unfolding is_reorderable
 keeps_order d e h = elim (cases_Bool (nat_lt (class_of e) (class_of d))) [
   | inl less ↦ absurd (omega (arith, ltb-true _ _ less, h))
-  | inr more ↦ rw more (and_false (nat_lt 0 (class_of e)))
+  | inr more ↦ rw more (and-false (nat_lt 0 (class_of e)))
 ]
 
 pub three_stay : (d e f : ℕ) (rest : List ℕ) → is_starter d ≡ true → is_reorderable e f ≡ false

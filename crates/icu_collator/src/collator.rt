@@ -18,18 +18,15 @@ ghost use Rattle.icu_order_texts.specs.Forms.{compression_of, form_by, last_vari
 ghost use Rattle.icu_order_texts.specs.TextOrder.{reading_by, handled_elements, handled_by};
 ghost use Rattle.icu_order_texts.specs.weighting.CheckedCollations.{collation_of};
 ghost use Rattle.icu_order_levels.specs.CommonBeginnings.{ReadsForward};
-ghost use Rattle.icu_element_facts.specs.Named.{NamesAll};
 ghost use Rattle.icu_element_facts.specs.KeptFacts.{AreFirstFacts};
 ghost use Rattle.icu_element_facts.specs.FactsTables.{AreFacts};
-ghost use Rattle.icu_element_facts.specs.BoundaryTables.{boundary_reading};
+ghost use Rattle.icu_element_reading.specs.boundaries.BoundaryTables.{boundary_reading};
 ghost use Rattle.unicode_normalization.specs.Forms.{nfd};
 
 use crate::handled::{HandledText, PlainText};
 use crate::key_text::{HandledKeyText, PlainKeyText};
 use crate::steady_text::SteadyText;
-use icu_element_cursor::{
-    Boundaries, CharFacts, CursorTables, ElementCursor, Kept, KeptFacts, NamedCharacters,
-};
+use icu_element_cursor::{Boundaries, CharFacts, CursorTables, ElementCursor, Kept, KeptFacts};
 use icu_element_reading::{ElementTables, TextReading, all_elements};
 use icu_key_texts::TableCompression;
 use icu_key_texts::compression::first_asked;
@@ -52,12 +49,10 @@ use std::alloc::{AllocError, Global};
 #[derive(Debug, Drop)]
 pub struct Collator {
     tables: CheckedTables,
-    named: NamedCharacters,
     kept_facts: KeptFacts,
     settings: CollatorOptionsBitField,
     ghost backward: { (values_of settings).backward_second_level
         ≡ is_backward (checked_tables tables).bits },
-    ghost names: { NamesAll named (checked_tables tables).tables },
     ghost known: { AreFacts (reading_by (collation_of tables settings)) kept_facts },
 }
 
@@ -147,12 +142,10 @@ impl Collator {
         ensures memory { IfErr result (λ e. e.kind ≡ NoMemory) }
     {
         let settings = merged_options(options, preferences, tables.metadata().settings());
-        let named = refused_as_root(NamedCharacters::new(alloc, &tables))?;
-        let places = boundaries(&tables, &named, settings);
+        let places = boundaries(&tables, settings);
         let kept_facts = refused_as_root(KeptFacts::new(alloc, &tables, places))?;
         Ok(Collator {
             tables,
-            named,
             kept_facts,
             settings,
         })
@@ -184,7 +177,6 @@ impl Collator {
         }
         Ok(Collator {
             tables: self.tables,
-            named: self.named,
             kept_facts: self.kept_facts,
             settings,
         })
@@ -211,7 +203,6 @@ impl Collator {
     {
         CollatorBorrowed {
             tables: &self.tables,
-            named: &self.named,
             kept_facts: &self.kept_facts,
             settings: self.settings,
             form: key_form(&self.tables, self.settings),
@@ -249,15 +240,10 @@ fn text_reading(tables: &CheckedTables, settings: CollatorOptionsBitField) -> Te
 }
 
 /// Before which characters texts may be cut that are read by this collation.
-fn boundaries<'d>(
-    tables: &'d CheckedTables,
-    named: &'d NamedCharacters,
-    settings: CollatorOptionsBitField,
-) -> Boundaries<'d>
-    requires { NamesAll named.now (checked_tables tables.now).tables }
+fn boundaries(tables: &CheckedTables, settings: CollatorOptionsBitField) -> Boundaries<'_>
     ensures { boundary_reading result ≡ reading_by (collation_of tables.now settings) }
 {
-    Boundaries::new(text_reading(tables, settings), named)
+    Boundaries::new(text_reading(tables, settings))
 }
 
 /// The lead byte of numbers, where digits are read as numbers.
@@ -276,7 +262,6 @@ fn numeric_primary(tables: &CheckedTables, settings: CollatorOptionsBitField) ->
 #[derive(Debug, Clone, Copy)]
 pub struct CollatorBorrowed<'a> {
     pub(crate) tables: &'a CheckedTables,
-    named: &'a NamedCharacters,
     kept_facts: &'a KeptFacts,
     settings: CollatorOptionsBitField,
     form: KeyForm,
@@ -290,7 +275,6 @@ pub struct CollatorBorrowed<'a> {
     ghost variable: { last_variable ≡ last_variable_by (collation_of tables.now settings) },
     ghost asked: { (lead : ℕ) → lead < first_asked
         → is_compressible (checked_tables tables.now).special lead ≡ false },
-    ghost names: { NamesAll named.now (checked_tables tables.now).tables },
 }
 
 impl<'a> CollatorBorrowed<'a> {
@@ -351,7 +335,6 @@ impl<'a> CollatorBorrowed<'a> {
         }
         Some(CollatorBorrowed {
             tables: self.tables,
-            named: self.named,
             kept_facts: self.kept_facts,
             settings,
             form: key_form(self.tables, settings),
@@ -409,7 +392,7 @@ impl<'a> CollatorBorrowed<'a> {
     pub(crate) fn other_facts(&self, c: char) -> CharFacts
         ensures { AreFirstFacts (reading_by (collation_borrowed self.now)) c result }
     {
-        let places = boundaries(self.tables, self.named, self.settings);
+        let places = boundaries(self.tables, self.settings);
         self.kept_facts.work_out(&places, c)
     }
 
@@ -420,10 +403,7 @@ impl<'a> CollatorBorrowed<'a> {
     pub fn cursor_tables(&self) -> CursorTables<'a>
         ensures { cursor_reading result ≡ reading_by (collation_borrowed self.now) }
     {
-        CursorTables::new(
-            boundaries(self.tables, self.named, self.settings),
-            self.kept_facts,
-        )
+        CursorTables::new(boundaries(self.tables, self.settings), self.kept_facts)
     }
 
     /// Reads the elements of a text, as the collation handles variable ones.

@@ -4,6 +4,8 @@ use Rattle.std.proofs.Common.{◌≡◌, ◌≢◌, ℕ, ◌≤◌, ◌<◌, Boo
 use Rattle.std.specs.Prelude.{bytes_eq, ⊤}
 use Rattle.std.specs.List.{starts_with}
 use Rattle.std.proofs.lemmas.Bool.{cases_Bool, and_parts, lt-ltb, ne_eqb, true≢false}
+use Rattle.std.proofs.Math.Bool.{and-false}
+use Rattle.icu_element_facts.proofs.JoinedPairLemmas.{no_secondary}
 use Rattle.ucd_normal.specs.CanonicalCombiningClass.{canonical_combining_class as class_of}
 use Rattle.ucd_normal.specs.declared.forms.Form.TheVariants.{Nfd}
 use Rattle.unicode_normalization.specs.Decompose.{decompose}
@@ -25,12 +27,12 @@ use Rattle.icu_element_reading.specs.boundaries.Alone.{context_after, stays_firs
 use Rattle.icu_element_reading.proofs.boundaries.NfdLemmas.{nfd-nil, nfd-begins, nfd-stay, stays_first-rises}
 use Rattle.icu_element_facts.proofs.KeptBaseLemmas.{own_entry}
 use Rattle.icu_element_cursor.specs.inner.MarkRuns.{Rises}
-use Rattle.icu_element_cursor.specs.inner.Places.{MayBeCut}
+use Rattle.icu_element_reading.specs.boundaries.Places.{MayBeCut}
 use Rattle.icu_element_cursor.specs.inner.Standing.{StandsBefore}
-use Rattle.icu_element_cursor.proofs.StandLemmas.{cut_stands, nothing_rises, one_in_run}
+use Rattle.icu_element_cursor.proofs.StandLemmas.{cut_stands, nothing_rises, one_in_run, or_true}
 use Rattle.icu_element_cursor.specs.inner.Unjoined.{BeginsNone, IsHead}
 use Rattle.icu_element_cursor.specs.inner.Composed.{AreLowerMarks, AreLowerMarksBefore, IsComposed}
-use Rattle.icu_element_cursor.proofs.UnjoinedLemmas.{none_whole, begins_whole, first_none, no_lead, no_secondary, or_true}
+use Rattle.icu_element_cursor.proofs.UnjoinedLemmas.{none_whole, begins_whole, first_none, no_lead}
 
 -- ---- order
 
@@ -76,20 +78,16 @@ joins_behind context entry joined m passed (d ∷ ds) mark is free h =
 
 -- ---- mappings
 
-and_false : (b : Bool) → (b && false) ≡ false
-and_false true = refl
-and_false false = refl
-
 -- what begins one character is it, or empty
 empty_one : (chars : List ℕ) (m : ℕ) → starts_with nat_eq (m ∷ []) chars ≡ true → bytes_eq chars (m ∷ []) ≡ false → chars ≡ []
 empty_one [] m h other = refl
 empty_one (y ∷ []) m h other = absurd (true≢false (sym h ∙ other))
-empty_one (y ∷ (z ∷ zs)) m h other = absurd (true≢false (sym h ∙ and_false _))
+empty_one (y ∷ (z ∷ zs)) m h other = absurd (true≢false (sym h ∙ and-false _))
 
 no_longer : (chars : List ℕ) (m : ℕ) → starts_with nat_eq (m ∷ []) chars ≡ true → nat_lt 1 (length chars) ≡ false
 no_longer [] m h = refl
 no_longer (y ∷ []) m h = refl
-no_longer (y ∷ (z ∷ zs)) m h = absurd (true≢false (sym h ∙ and_false _))
+no_longer (y ∷ (z ∷ zs)) m h = absurd (true≢false (sym h ∙ and-false _))
 
 both_no : (a b : Bool) → (a ≡ true → b ≡ false) → (a && b) ≡ false
 both_no true b h = h refl
@@ -98,7 +96,7 @@ both_no false b h = refl
 one_long : (chars : List ℕ) (m : ℕ) → bytes_eq chars (m ∷ []) ≡ true → length chars ≡ 1
 one_long [] m h = cc
 one_long (y ∷ []) m h = refl
-one_long (y ∷ (z ∷ zs)) m h = absurd (true≢false (sym h ∙ and_false _))
+one_long (y ∷ (z ∷ zs)) m h = absurd (true≢false (sym h ∙ and-false _))
 
 same_one : (m : ℕ) → bytes_eq (m ∷ []) (m ∷ []) ≡ true
 same_one m = search rules

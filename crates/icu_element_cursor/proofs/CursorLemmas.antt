@@ -12,9 +12,10 @@ use Rattle.icu_element_facts.specs.KeptFacts.{IsPair, char_elements}
 use Rattle.icu_element_cursor.specs.declared.facts_cursor.FactsCursor.{FactsCursor}
 use Rattle.icu_element_cursor.specs.FactsCursors.{facts_give, GivesNextOrEnds, GoesOn}
 use Rattle.icu_element_cursor.specs.inner.NumberElements.{IsNumberPiece}
-use Rattle.icu_element_cursor.specs.inner.Pieces.{IsPiece, IsPieceBegun}
+use Rattle.icu_element_reading.specs.boundaries.Places.{IsPiece}
+use Rattle.icu_element_cursor.specs.inner.Pieces.{IsPieceBegun}
 use Rattle.icu_element_cursor.specs.inner.Standing.{StandsBefore}
-use Rattle.icu_element_cursor.proofs.PieceLemmas.{nothing, pieces_part}
+use Rattle.icu_element_reading.proofs.boundaries.CutPartLemmas.{nothing, pieces_part}
 
 -- where no element stands ready
 pub nothing_ready : (ready rest : List Element) → ready ≡ [] → ready ++ rest ≡ rest

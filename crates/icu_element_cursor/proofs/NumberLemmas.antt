@@ -20,7 +20,7 @@ use Rattle.icu_element_reading.proofs.boundaries.LetterLemmas.{low_text}
 use Rattle.icu_element_reading.proofs.boundaries.NfdLemmas.{nfd-nil}
 use Rattle.icu_element_facts.specs.KeptFacts.{IsNumberDigit}
 use Rattle.icu_element_cursor.specs.inner.NumberElements.{IsDigitRun, IsNumberPiece}
-use Rattle.icu_element_cursor.specs.inner.Places.{BeginsAtBoundary}
+use Rattle.icu_element_reading.specs.boundaries.Places.{BeginsAtBoundary}
 
 -- ---- runs
 

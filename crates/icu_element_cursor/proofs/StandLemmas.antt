@@ -10,7 +10,7 @@ use Rattle.unicode_normalization.proofs.DecomposeLemmas.{decompose-final}
 use Rattle.unicode_normalization.proofs.FormsLemmas.{is_final-Nfd, quick_check-below}
 use Rattle.unicode_normalization.proofs.TableFacts.{class_of_latin}
 use Rattle.icu_element_reading.specs.TextElements.{Reading, elements_after}
-use Rattle.icu_element_cursor.proofs.PieceLemmas.{may_be_cut, parted}
+use Rattle.icu_element_reading.proofs.boundaries.CutPartLemmas.{may_be_cut, parted}
 use Rattle.icu_table_entries.specs.Elements.{Element}
 use Rattle.std.proofs.Props.{props}
 use Rattle.std.proofs.Math.Logic.{∥∥₁_elim}
@@ -26,7 +26,7 @@ use Rattle.icu_element_facts.specs.CharWords.{IsKept}
 use Rattle.icu_element_facts.specs.declared.char_words.Kept.{Kept}
 use Rattle.icu_element_facts.specs.declared.char_words.Kept.TheVariants.{Own, Facts, Nothing}
 use Rattle.icu_element_facts.specs.KeptFacts.{char_elements, IsOwn, StandsAlone, HasStarters, IsMarkedStarter, IsLoneMark, IsBase, IsNumberDigit, AreTrueFacts, StandByThemselves, IsPair, rises_to}
-use Rattle.icu_element_cursor.specs.inner.Places.{BeginsAtBoundary}
+use Rattle.icu_element_reading.specs.boundaries.Places.{BeginsAtBoundary}
 use Rattle.icu_element_cursor.specs.inner.MarkRuns.{Rises, EndsRuns, IsInRun, IsMarkItself}
 use Rattle.icu_element_cursor.specs.inner.Standing.{StandsBefore, Serves, StandsAnywhere, KeptServes}
 
@@ -89,9 +89,9 @@ marks_stay least last (m ∷ ms) text h rise =
     let stays : stays_first m (ms ++ text) ≡ true = stays_first-rises m (ms ++ text) others.1 in
     (rw (mark, stays) others.0, rw (mark, both.1) others.1)
 
-either : (b : Bool) → ((b || true) && true) ≡ true
-either true = refl
-either false = refl
+pub or_true : (b : Bool) → ((b || true) && true) ≡ true
+or_true true = refl
+or_true false = refl
 
 -- starters that stand alone
 pub themselves_stand : (reading : Reading) (c : ℕ) (es : List Element) (text : List ℕ) → StandByThemselves reading (decompose Nfd c) es → StandsBefore reading c es text
@@ -121,7 +121,7 @@ module _ (reading : Reading) (c : ℕ) (l : CharFacts) (text : List ℕ) where
   marks_stand h rise =
       let rest = flat_map (decompose Nfd) text in
       let stays : stays_first c rest ≡ true = stays_first-rises c rest (ap (λ k. rises_from k rest) h.class ∙ rise) in
-      let stay : all_stay (c ∷ []) rest ≡ true = rw stays (either (is_starter c)) in
+      let stay : all_stay (c ∷ []) rest ≡ true = rw stays (or_true (is_starter c)) in
       stays_alone h.stands (ap (λ ds. all_stay ds rest) h.itself ∙ stay)
 
 -- a character before a boundary gives what it gives at the end of a text

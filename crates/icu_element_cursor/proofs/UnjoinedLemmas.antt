@@ -1,8 +1,9 @@
 -- A character that begins contractions, before a text that goes on none of them, gives what it gives at the end of one.
-use Rattle.std.proofs.Common.{◌≡◌, ◌≢◌, ℕ, ◌≤◌, Bool, true, false, ◌&&◌, nat_eq, List, [], ◌∷◌, ◌++◌, length, drop, append-nil, append_assoc, Option, Some, None, refl, sym, ap, ◌∙◌, inl, inr, flat_map, subst, eq-eqb, ◌||◌}
+use Rattle.std.proofs.Common.{◌≡◌, ◌≢◌, ℕ, ◌≤◌, Bool, true, false, ◌&&◌, nat_eq, List, [], ◌∷◌, ◌++◌, length, drop, append-nil, append_assoc, Option, Some, None, refl, sym, ap, ◌∙◌, inl, inr, flat_map, subst, eq-eqb}
 use Rattle.std.specs.Prelude.{bytes_eq}
 use Rattle.std.specs.List.{starts_with}
 use Rattle.std.proofs.lemmas.Bool.{cases_Bool, and_from, ne_eqb, true≢false}
+use Rattle.icu_element_facts.proofs.JoinedPairLemmas.{no_secondary}
 use Rattle.ucd_normal.specs.CanonicalCombiningClass.{canonical_combining_class as class_of}
 use Rattle.ucd_normal.specs.declared.forms.Form.TheVariants.{Nfd}
 use Rattle.unicode_normalization.specs.Decompose.{decompose}
@@ -25,10 +26,10 @@ use Rattle.icu_element_reading.specs.boundaries.Alone.{context_after, stays_firs
 use Rattle.icu_element_reading.proofs.boundaries.NfdLemmas.{nfd-starters, nfd-nil, nfd-begins, nfd-stay, stays_first-rises}
 use Rattle.icu_element_facts.proofs.KeptBaseLemmas.{own_entry}
 use Rattle.icu_element_cursor.specs.inner.MarkRuns.{IsMarkItself}
-use Rattle.icu_element_cursor.specs.inner.Places.{MayBeCut}
+use Rattle.icu_element_reading.specs.boundaries.Places.{MayBeCut}
 use Rattle.icu_element_cursor.specs.inner.Standing.{StandsBefore}
 use Rattle.icu_element_cursor.specs.inner.Unjoined.{BeginsNone, GoesOnNone, IsUnjoined, IsUnjoinedBefore, BeginsContractions, HeadsRun, IsHead}
-use Rattle.icu_element_cursor.proofs.StandLemmas.{ends_runs, one_in_run, nothing_rises}
+use Rattle.icu_element_cursor.proofs.StandLemmas.{ends_runs, one_in_run, nothing_rises, or_true}
 
 -- ---- mappings
 
@@ -123,10 +124,6 @@ pub no_lead : (o : Option ℕ) (f : ℕ → Step) (y : Step) → o ≡ None → 
 no_lead (Some lead) f y h = cc
 no_lead None f y h = refl
 
-pub no_secondary : (o : Option ℕ) (f : ℕ → Step) (y : Step) → o ≡ None → (elim o as (λ _. Step) [ Some s ↦ f s | None ↦ y ]) ≡ y
-no_secondary (Some s) f y h = cc
-no_secondary None f y h = refl
-
 module _ (reading : Reading) (c : ℕ) (context : Context) (h : BeginsContractions reading c context) where
   abbrev home : Data
   home = (entry_of reading.tables c).home
@@ -210,10 +207,6 @@ module _ (reading : Reading) (c : ℕ) (context : Context) (h : BeginsContractio
   unjoined_stands text unjoined es stands = stands_by es text (nfd text) refl stands unjoined.goes_on
 
 -- ---- runs of marks
-
-pub or_true : (b : Bool) → ((b || true) && true) ≡ true
-or_true true = refl
-or_true false = refl
 
 module _ (context : Context) where
   pub ended_unjoined : (least : ℕ) → IsUnjoined context least []

@@ -2,7 +2,7 @@
 use Rattle.std.specs.Prelude.{ℕ, List, ◌++◌}
 use Rattle.unicode_normalization.specs.Forms.{nfd}
 use Rattle.icu_table_entries.specs.Elements.{Element}
-use Rattle.icu_element_facts.specs.BoundaryTables.{boundary_reading}
+use Rattle.icu_element_reading.specs.boundaries.BoundaryTables.{boundary_reading}
 use Rattle.icu_element_reading.specs.TextElements.{Reading, elements_after}
 use Rattle.icu_element_cursor.specs.declared.char_elements.CharElements.{CharElements}
 use Rattle.icu_element_cursor.specs.declared.cursor.ElementCursor.{ElementCursor}

@@ -2,7 +2,6 @@
 pub mod ReadCharacters
 pub mod Ready
 pub mod AllReady
-pub mod Places
 pub mod FirstChars
 pub mod NumberElements
 pub mod Pieces

@@ -6,8 +6,8 @@ ghost use Rattle.icu_element_reading.specs.boundaries.Alone.{elements_of_char};
 ghost use Rattle.icu_element_facts.specs.FewElements.{few_elements};
 ghost use Rattle.icu_element_facts.specs.KeptFacts.{IsNumberDigit, IsPair};
 ghost use Rattle.icu_element_facts.specs.FactsTables.{AreFacts};
-ghost use Rattle.icu_element_facts.specs.BoundaryTables.{boundary_reading};
-ghost use Rattle.icu_element_cursor.specs.inner.Places.{MayBeCut};
+ghost use Rattle.icu_element_reading.specs.boundaries.BoundaryTables.{boundary_reading};
+ghost use Rattle.icu_element_reading.specs.boundaries.Places.{MayBeCut};
 ghost use Rattle.icu_element_cursor.specs.inner.MarkRuns.{EndsRuns, IsInRun};
 ghost use Rattle.icu_element_cursor.specs.inner.Standing.{KeptServes, Serves, StandsBefore};
 

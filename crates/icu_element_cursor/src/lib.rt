@@ -25,8 +25,7 @@ pub use cursor::{ElementCursor, LongPiece};
 pub use cursor_tables::CursorTables;
 pub use facts_cursor::FactsCursor;
 pub use first_chars::FirstChars;
-pub use icu_element_facts::{
-    Boundaries, CharFacts, FactsKind, Kept, KeptFacts, NamedCharacters, facts_of,
-};
+pub use icu_element_facts::{CharFacts, FactsKind, Kept, KeptFacts, facts_of};
+pub use icu_element_reading::boundaries::Boundaries;
 pub use ready_place::ReadyPlace;
 pub use steady_cursor::SteadyCursor;

@@ -7,8 +7,8 @@ ghost use Rattle.icu_text_decomposition.specs.MatchableTexts.{unread_text};
 ghost use Rattle.icu_element_reading.specs.steady_elements.SteadyElements.{elements_left};
 ghost use Rattle.icu_element_cursor.specs.Cursors.{cursor_reading};
 ghost use Rattle.icu_element_cursor.specs.inner.FirstChars.{first_chars};
-ghost use Rattle.icu_element_cursor.specs.inner.Pieces.{IsPiece};
-ghost use Rattle.icu_element_cursor.specs.inner.Places.{BeginsAtBoundary};
+ghost use Rattle.icu_element_reading.specs.boundaries.Places.{IsPiece};
+ghost use Rattle.icu_element_reading.specs.boundaries.Places.{BeginsAtBoundary};
 ghost use Rattle.icu_element_cursor.specs.inner.ReadCharacters.{context_read};
 
 use crate::cursor_tables::CursorTables;

@@ -6,7 +6,7 @@ ghost use Rattle.icu_element_reading.specs.steady_elements.SteadyElements.{eleme
 ghost use Rattle.icu_element_cursor.specs.Cursors.{cursor_reading};
 ghost use Rattle.icu_element_cursor.specs.inner.ReadCharacters.{context_read};
 ghost use Rattle.icu_element_cursor.specs.inner.Pieces.{IsShortPiece, IsPieceBegun};
-ghost use Rattle.icu_element_cursor.specs.inner.Places.{BeginsAtBoundary};
+ghost use Rattle.icu_element_reading.specs.boundaries.Places.{BeginsAtBoundary};
 
 use crate::cursor_tables::CursorTables;
 use crate::last_characters::LastCharacters;

@@ -3,7 +3,7 @@
 ghost use Rattle.std.specs.Prelude.{◌≡◌, ◌∷◌, ℕ, IfSome, IsTrue};
 ghost use Rattle.icu_element_facts.specs.KeptFacts.{char_elements};
 ghost use Rattle.icu_element_cursor.specs.Cursors.{cursor_reading};
-ghost use Rattle.icu_element_cursor.specs.inner.Places.{BeginsAtBoundary};
+ghost use Rattle.icu_element_reading.specs.boundaries.Places.{BeginsAtBoundary};
 ghost use Rattle.icu_element_cursor.specs.inner.MarkRuns.{Rises};
 ghost use Rattle.icu_element_cursor.specs.inner.Standing.{Serves, StandsBefore};
 

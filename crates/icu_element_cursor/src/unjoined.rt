@@ -8,7 +8,7 @@ ghost use Rattle.icu_table_data.specs.Contexts.{has_ascending_mappings};
 ghost use Rattle.icu_table_data.specs.StoredData.{found_context};
 ghost use Rattle.icu_table_entries.specs.Elements.{Element};
 ghost use Rattle.icu_element_cursor.specs.Cursors.{cursor_reading};
-ghost use Rattle.icu_element_cursor.specs.inner.Places.{BeginsAtBoundary};
+ghost use Rattle.icu_element_reading.specs.boundaries.Places.{BeginsAtBoundary};
 ghost use Rattle.icu_element_cursor.specs.inner.Standing.{StandsBefore};
 ghost use Rattle.icu_element_reading.specs.TextElements.{Reading};
 ghost use Rattle.icu_element_reading.specs.inner.StepsTaken.{FirstIsEarlier, FirstIsLater, NoneBeginsWith};

@@ -79,7 +79,7 @@ joined context x h text =
 
 -- ---- the step
 
-no_secondary : (o : Option ℕ) (f : ℕ → Step) (y : Step) → o ≡ None → (elim o as (λ _. Step) [ Some s ↦ f s | None ↦ y ]) ≡ y
+pub no_secondary : (o : Option ℕ) (f : ℕ → Step) (y : Step) → o ≡ None → (elim o as (λ _. Step) [ Some s ↦ f s | None ↦ y ]) ≡ y
 no_secondary (Some s) f y h = cc
 no_secondary None f y h = refl
 

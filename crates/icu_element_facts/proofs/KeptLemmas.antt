@@ -8,8 +8,9 @@ use Rattle.unicode_normalization.specs.Order.{is_starter}
 use Rattle.icu_table_entries.specs.Elements.{Element}
 use Rattle.icu_element_reading.specs.TextElements.{Reading, continues_number}
 use Rattle.icu_element_reading.specs.boundaries.Alone.{elements_of_char, is_alone}
-use Rattle.icu_element_reading.specs.boundaries.Cuts.{IsBoundary, is_named, is_named_by_tailoring, has_prefix}
-use Rattle.icu_element_facts.specs.BoundaryTables.{HasBoundaryBefore}
+use Rattle.icu_table_provider.specs.well_formed.MappingCharacters.{is_named, is_named_by_tailoring}
+use Rattle.icu_element_reading.specs.boundaries.Cuts.{IsBoundary, has_prefix}
+use Rattle.icu_element_reading.specs.boundaries.BoundaryTables.{HasBoundaryBefore}
 use Rattle.icu_element_facts.specs.KeptFacts.{BeginsWithStarter, AreFirstFacts, AreTrueFacts, IsNumberDigit, IsMarkedStarter, HasLeadingPrimary, StandsAlone}
 use Rattle.icu_element_facts.specs.KeptChars.{KeptChar, begins_with, is_marked_starter, is_boundary_place, starts_at_boundary, starts_with_primary, starts_with_starter}
 use Rattle.icu_element_facts.specs.declared.char_facts.CharFacts.{CharFacts}

@@ -1,5 +1,4 @@
 pub mod DigitCharLemmas
-mod NamedLemmas
 mod TableLemmas
 mod DigitEntryLemmas
 mod FewLemmas

@@ -9,11 +9,13 @@ use Rattle.icu_table_entries.specs.Entries.{kind_of}
 use Rattle.icu_table_provider.specs.Tables.{diacritic_of, entry_of}
 use Rattle.icu_element_reading.specs.TextElements.{Reading, is_digit_kind, entry_alone}
 use Rattle.icu_element_reading.specs.boundaries.Alone.{is_alone, is_dot, names_no_context}
-use Rattle.icu_element_facts.proofs.DigitCharLemmas.{own_alone}
-use Rattle.icu_element_reading.specs.boundaries.Cuts.{is_named, is_named_by_tailoring, is_prefix_kind}
-use Rattle.icu_element_facts.specs.BoundaryTables.{HasBoundaryBefore}
+use Rattle.icu_element_reading.proofs.boundaries.PlainCharLemmas.{own_alone}
+use Rattle.icu_table_provider.specs.well_formed.MappingCharacters.{is_named, is_named_by_tailoring}
+use Rattle.icu_element_reading.specs.boundaries.Cuts.{is_prefix_kind}
+use Rattle.icu_element_reading.specs.boundaries.BoundaryTables.{HasBoundaryBefore}
 use Rattle.icu_element_facts.specs.KeptFacts.{IsOwn}
-use Rattle.icu_element_facts.specs.inner.OwnBlocks.{HasLoneEntry, IsOwnBlock, IsPlain, IsPlainBlock, IsUnnamedBlock, IsUnnamedStarter}
+use Rattle.icu_element_reading.specs.boundaries.Cuts.{IsUnnamedBlock, IsUnnamedStarter}
+use Rattle.icu_element_facts.specs.inner.OwnBlocks.{HasLoneEntry, IsOwnBlock, IsPlain, IsPlainBlock}
 
 pub alone_by_entry : (reading : Reading) (c : ℕ) → HasLoneEntry reading c → is_dot reading c ≡ false → is_alone reading c ≡ true
 alone_by_entry reading c lone no_dot = and_from _ _ (or_right (is_some (diacritic_of reading.tables c)) _ lone) (not_from_false _ no_dot)

@@ -6,7 +6,8 @@ use Rattle.unicode_normalization.specs.Order.{is_starter}
 use Rattle.icu_table_entries.specs.Elements.{Element}
 use Rattle.icu_element_reading.specs.TextElements.{Reading, continues_number}
 use Rattle.icu_element_reading.specs.boundaries.Alone.{elements_of_char, is_alone}
-use Rattle.icu_element_reading.specs.boundaries.Cuts.{is_named, is_named_by_tailoring, has_prefix}
+use Rattle.icu_table_provider.specs.well_formed.MappingCharacters.{is_named, is_named_by_tailoring}
+use Rattle.icu_element_reading.specs.boundaries.Cuts.{has_prefix}
 use Rattle.icu_element_facts.specs.KeptFacts.{StandsAlone, HasStarters, IsLoneMark, IsBase, IsNumberDigit, rises_to}
 use Rattle.icu_element_facts.specs.declared.char_facts.CharFacts.{CharFacts}
 use Rattle.icu_element_facts.specs.declared.char_facts.FactsKind.TheVariants.{Starters, Marked, Mark, Base}

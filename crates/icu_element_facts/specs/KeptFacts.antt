@@ -13,7 +13,7 @@ use Rattle.icu_table_provider.specs.Tables.{entry_of}
 use Rattle.icu_element_reading.specs.TextElements.{Reading, continues_number, digit_of_char, elements_after}
 use Rattle.icu_element_reading.specs.boundaries.Alone.{context_after, elements_by_char, elements_of_char, is_alone}
 use Rattle.icu_element_reading.specs.boundaries.Cuts.{IsBoundary}
-use Rattle.icu_element_facts.specs.BoundaryTables.{HasBoundaryBefore}
+use Rattle.icu_element_reading.specs.boundaries.BoundaryTables.{HasBoundaryBefore}
 use Rattle.icu_element_facts.specs.declared.char_facts.CharFacts.{CharFacts}
 use Rattle.icu_element_facts.specs.declared.char_facts.FactsKind.TheVariants.{Starters, Marked, Mark, Base}
 

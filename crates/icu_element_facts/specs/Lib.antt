@@ -1,6 +1,3 @@
-pub mod MappingCharacters
-pub mod Named
-pub mod BoundaryTables
 pub mod FewElements
 pub mod KeptFacts
 pub mod KeptChars

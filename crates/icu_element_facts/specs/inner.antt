@@ -6,4 +6,3 @@ pub mod WordBlocks
 pub mod LoneEntries
 pub mod LoneTables
 pub mod JoinedPairs
-pub mod NamedBlocks

@@ -11,15 +11,15 @@ ghost use Rattle.icu_table_entries.specs.Entries.{kind_of};
 ghost use Rattle.icu_element_matches.specs.WellFormedEntries.{IsWellFormedFrom};
 ghost use Rattle.icu_element_reading.specs.boundaries.Alone.{elements_by_char, elements_of_char, is_alone, is_dot, looks_at_nothing, plain_entry};
 ghost use Rattle.icu_element_facts.specs.FewElements.{few_elements};
-ghost use Rattle.icu_element_facts.specs.BoundaryTables.{boundary_reading};
+ghost use Rattle.icu_element_reading.specs.boundaries.BoundaryTables.{boundary_reading};
 
-use crate::boundaries::Boundaries;
 use crate::few_elements::FewElements;
+use icu_element_reading::boundaries::Boundaries;
 use icu_table_data::CollationData;
 use icu_table_entries::{CollationElement, CollationElement32, EntryKind};
 
 /// Whether U+0307 may be silent, as it may where texts are read by the Lithuanian rule.
-#[tactic(auto, unfolding(crate::specs::BoundaryTables::boundary_reading))]
+#[tactic(auto, unfolding(icu_element_reading::specs::boundaries::BoundaryTables::boundary_reading))]
 pub(crate) fn is_dot(places: &Boundaries<'_>, c: char) -> bool
     ensures { result ≡ is_dot (boundary_reading places.now) c }
 {
@@ -69,7 +69,7 @@ fn with_entry(
 
 /// These elements and those of a character of a decomposed text that stands alone. None where it does not, or there is
 /// a fourth.
-#[tactic(auto, unfolding(crate::specs::BoundaryTables::boundary_reading, icu_element_reading::specs::boundaries::Alone::elements_of_char))]
+#[tactic(auto, unfolding(icu_element_reading::specs::boundaries::BoundaryTables::boundary_reading, icu_element_reading::specs::boundaries::Alone::elements_of_char))]
 pub(crate) fn with_char(places: &Boundaries<'_>, c: char, few: FewElements) -> Option<FewElements>
     ensures stands { IfSome result (λ _. is_alone (boundary_reading places.now) c ≡ true) }
     ensures elements { IfSome result (λ more. few_elements more ≡ few_elements few
@@ -124,7 +124,7 @@ fn element_of_entry(
 }
 
 /// The element of a character by its own entry, where that gives one: of a character that stands alone, its only one.
-#[tactic(auto, unfolding(crate::specs::BoundaryTables::boundary_reading, icu_element_reading::specs::boundaries::Alone::elements_of_char))]
+#[tactic(auto, unfolding(icu_element_reading::specs::boundaries::BoundaryTables::boundary_reading, icu_element_reading::specs::boundaries::Alone::elements_of_char))]
 #[inline]
 pub fn own_element(places: &Boundaries<'_>, c: char) -> Option<CollationElement>
     ensures { IfSome result (λ e. elements_of_char (boundary_reading places.now).tables c

@@ -1,81 +1,55 @@
 //! Characters that begin contractions, and all that is kept of a character.
 
-ghost use Rattle.std.specs.Prelude.{◌≡◌, ◌++◌, ◌∷◌, [], ℕ, List, IsTrue, IfOk, IfSome};
+ghost use Rattle.std.specs.Prelude.{◌≡◌, ◌++◌, ◌∷◌, [], ℕ, List, IsTrue, IfSome};
 ghost use Rattle.unicode_normalization.specs.Forms.{nfd};
 ghost use Rattle.icu_table_entries.specs.declared.entry.EntryKind.TheVariants.{Contraction};
 ghost use Rattle.icu_table_entries.specs.Entries.{kind_of};
 ghost use Rattle.icu_table_provider.specs.Tables.{entry_of};
-ghost use Rattle.icu_element_reading.specs.ElementReaders.{elements_to_come};
+ghost use Rattle.icu_element_reading.specs.steady_elements.SteadyElements.{elements_left};
 ghost use Rattle.icu_element_reading.specs.TextElements.{elements_after, elements_of};
 ghost use Rattle.icu_element_facts.specs.FewElements.{few_elements};
 ghost use Rattle.icu_element_facts.specs.KeptFacts.{AreTrueFacts};
-ghost use Rattle.icu_element_facts.specs.BoundaryTables.{boundary_reading};
+ghost use Rattle.icu_element_reading.specs.boundaries.BoundaryTables.{boundary_reading};
 
-use crate::boundaries::Boundaries;
 use crate::char_facts::{CharFacts, FactsKind};
 use crate::digit_values::digit_at;
 use crate::few_elements::FewElements;
 use crate::read_char::{facts_of, with_elements};
-use icu_element_reading::ElementReader;
+use icu_element_reading::boundaries::Boundaries;
+use icu_element_reading::steady_elements::SteadyElements;
 use icu_table_entries::EntryKind;
-use std::alloc::{AllocError, Global};
+use icu_text_decomposition::{MatchableText, TextForMatches};
+use icu_text_encodings::CharsText;
 use unicode_normalization::Form;
 use unicode_normalization::char::decomposition;
-use unicode_normalization::slice::extend_nfd;
 
-/// The elements that a reader still gives. None where there is a fourth.
-fn few_left(reader: &mut ElementReader<'_>) -> Result<Option<FewElements>, AllocError>
-    ensures { IfOk result (λ found. IfSome found (λ few.
-        few_elements few ≡ elements_to_come reader.old)) }
+/// The elements that a reader still gives. None if there is a fourth.
+fn few_left<X: TextForMatches>(elements: &mut SteadyElements<'_, X>) -> Option<FewElements>
+    ensures { IfSome result (λ few. few_elements few ≡ elements_left X.unread elements.old) }
 {
     let mut few = FewElements::new();
     'elements: for _ in 0..4u8 {
-        let Some(element) = reader.next()? else {
-            return Ok(Some(few));
+        let Some(element) = elements.next() else {
+            return Some(few);
         };
-        let Some(more) = few.with_element(element) else {
-            return Ok(None);
-        };
-        few = more;
+        few = few.with_element(element)?;
     }
-    Ok(None)
+    None
 }
 
-/// The elements of a character that is a text by itself. None where there is a fourth.
-#[tactic(auto, unfolding(crate::specs::BoundaryTables::boundary_reading))]
-fn elements_of_one(
-    alloc: Global,
-    places: &Boundaries<'_>,
-    c: char,
-) -> Result<Option<FewElements>, AllocError>
-    ensures { IfOk result (λ found. IfSome found (λ few. few_elements few
-        ≡ elements_of (boundary_reading places.now) (nfd (c ∷ [])))) }
+/// The elements of characters that are a text by themselves. None if there is a fourth.
+#[tactic(auto, unfolding(icu_element_reading::specs::boundaries::BoundaryTables::boundary_reading))]
+pub(crate) fn elements_of_chars(places: &Boundaries<'_>, chars: &[char]) -> Option<FewElements>
+    ensures { IfSome result (λ few. few_elements few
+        ≡ elements_of (boundary_reading places.now) (nfd chars.now)) }
 {
-    let mut text = Vec::new(alloc);
-    extend_nfd(&mut text, &[c])?;
-    let mut reader = ElementReader::new(text, places.reading);
-    few_left(&mut reader)
-}
-
-/// The elements of two characters that are a text by themselves. None where there is a fourth.
-#[tactic(auto, unfolding(crate::specs::BoundaryTables::boundary_reading))]
-pub(crate) fn elements_of_two(
-    alloc: Global,
-    places: &Boundaries<'_>,
-    c: char,
-    x: char,
-) -> Result<Option<FewElements>, AllocError>
-    ensures { IfOk result (λ found. IfSome found (λ few. few_elements few
-        ≡ elements_of (boundary_reading places.now) (nfd (c ∷ x ∷ [])))) }
-{
-    let mut text = Vec::new(alloc);
-    extend_nfd(&mut text, &[c, x])?;
-    let mut reader = ElementReader::new(text, places.reading);
-    few_left(&mut reader)
+    let text = MatchableText::new(CharsText(chars));
+    let mut elements = SteadyElements::new(text, places.reading);
+    few_left(&mut elements)
 }
 
 /// Whether a character's entry has contractions.
-#[tactic(auto, unfolding(crate::specs::BoundaryTables::boundary_reading))]
+#[tactic(auto, unfolding(icu_element_reading::specs::boundaries::BoundaryTables::boundary_reading))]
 fn begins_contractions(places: &Boundaries<'_>, c: char) -> bool
     ensures { IsTrue result → kind_of (entry_of (boundary_reading places.now).tables c).entry
         ≡ Contraction }
@@ -88,7 +62,7 @@ fn begins_contractions(places: &Boundaries<'_>, c: char) -> bool
 
 /// Whether a character's decomposition begins with one that begins contractions, and what stands before it changes
 /// nothing of what it gives at the end of a text. False says nothing.
-#[tactic(auto, unfolding(crate::specs::BoundaryTables::boundary_reading))]
+#[tactic(auto, unfolding(icu_element_reading::specs::boundaries::BoundaryTables::boundary_reading))]
 fn is_base(places: &Boundaries<'_>, c: char, facts: &CharFacts) -> bool
     requires { AreTrueFacts (boundary_reading places.now) c facts.now }
     ensures { IsTrue result → (before : List ℕ)
@@ -104,21 +78,16 @@ fn is_base(places: &Boundaries<'_>, c: char, facts: &CharFacts) -> bool
 }
 
 /// What is known of a character, and where it begins contractions, its elements before a boundary.
-fn with_base(
-    alloc: Global,
-    places: &Boundaries<'_>,
-    c: char,
-    facts: CharFacts,
-) -> Result<CharFacts, AllocError>
+fn with_base(places: &Boundaries<'_>, c: char, facts: CharFacts) -> CharFacts
     requires { AreTrueFacts (boundary_reading places.now) c facts }
-    ensures { IfOk result (λ l. AreTrueFacts (boundary_reading places.now) c l) }
+    ensures { AreTrueFacts (boundary_reading places.now) c result }
 {
     if facts.kind != FactsKind::Unknown || !is_base(places, c, &facts) {
-        return Ok(facts);
+        return facts;
     }
-    match elements_of_one(alloc, places, c)? {
-        Some(few) => Ok(with_elements(facts, few, (FactsKind::Base, 0))),
-        None => Ok(facts),
+    match elements_of_chars(places, &[c]) {
+        Some(few) => with_elements(facts, few, (FactsKind::Base, 0)),
+        None => facts,
     }
 }
 
@@ -134,13 +103,8 @@ fn with_digit(places: &Boundaries<'_>, c: char, facts: CharFacts) -> CharFacts
 
 /// All that is kept of a character: what is known of it, its elements where it begins contractions, and its value where
 /// it is a digit.
-pub(crate) fn facts_to_keep(
-    alloc: Global,
-    places: &Boundaries<'_>,
-    c: char,
-) -> Result<CharFacts, AllocError>
-    ensures { IfOk result (λ l. AreTrueFacts (boundary_reading places.now) c l) }
+pub(crate) fn facts_to_keep(places: &Boundaries<'_>, c: char) -> CharFacts
+    ensures { AreTrueFacts (boundary_reading places.now) c result }
 {
-    let facts = with_base(alloc, places, c, facts_of(places, c))?;
-    Ok(with_digit(places, c, facts))
+    with_digit(places, c, with_base(places, c, facts_of(places, c)))
 }

@@ -4,12 +4,12 @@ ghost use Rattle.std.specs.Prelude.{◌≡◌, ◌<◌, ℕ, length, slice_index
 ghost use Rattle.icu_table_data.specs.CodePointTables.{IsCodePointTable};
 ghost use Rattle.icu_table_provider.specs.well_formed.Checked.{checked_tables};
 ghost use Rattle.icu_element_reading.specs.TextElements.{Reading};
-ghost use Rattle.icu_element_facts.specs.BoundaryTables.{boundary_reading};
+ghost use Rattle.icu_element_reading.specs.boundaries.BoundaryTables.{boundary_reading};
 
-use crate::boundaries::Boundaries;
 use crate::char_facts::CharFacts;
 use crate::lone_blocks::LoneBlocks;
 use crate::word_blocks::{BLOCK_LEN, WordBlocks};
+use icu_element_reading::boundaries::Boundaries;
 use icu_table_provider::well_formed::CheckedTables;
 use std::alloc::{AllocError, Global};
 

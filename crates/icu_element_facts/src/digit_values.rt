@@ -4,9 +4,9 @@ ghost use Rattle.std.specs.Prelude.{◌≡◌, ◌<◌, IfSome};
 ghost use Rattle.icu_table_entries.specs.declared.entry.EntryKind.TheVariants.{Digit};
 ghost use Rattle.icu_table_entries.specs.Entries.{kind_of, digit_value};
 ghost use Rattle.icu_element_facts.specs.KeptFacts.{IsNumberDigit};
-ghost use Rattle.icu_element_facts.specs.BoundaryTables.{boundary_reading};
+ghost use Rattle.icu_element_reading.specs.boundaries.BoundaryTables.{boundary_reading};
 
-use crate::boundaries::Boundaries;
+use icu_element_reading::boundaries::Boundaries;
 use icu_table_entries::{CollationElement32, EntryKind};
 
 /// The value of a decimal digit's entry.
@@ -21,7 +21,7 @@ fn digit_of_entry(ce32: CollationElement32) -> Option<u8>
 
 /// The value that a character below U+00C0 has in a number, where digits are read as numbers. None of any other
 /// character.
-#[tactic(auto, unfolding(crate::specs::BoundaryTables::boundary_reading))]
+#[tactic(auto, unfolding(icu_element_reading::specs::boundaries::BoundaryTables::boundary_reading))]
 pub(crate) fn digit_at(places: &Boundaries<'_>, c: char) -> Option<u8>
     ensures { IfSome result (λ d. IsNumberDigit (boundary_reading places.now) c d) }
 {

@@ -3,16 +3,16 @@
 ghost use Rattle.std.specs.Prelude.{◌≡◌, ◌+◌, ◌≤◌, ◌<◌, length, true, IfOk, OnOk};
 ghost use Rattle.icu_table_provider.specs.well_formed.Checked.{checked_tables};
 ghost use Rattle.icu_element_reading.specs.TextElements.{Reading};
-ghost use Rattle.icu_element_facts.specs.BoundaryTables.{boundary_reading};
+ghost use Rattle.icu_element_reading.specs.boundaries.BoundaryTables.{boundary_reading};
 ghost use Rattle.icu_element_facts.specs.KeptFacts.{AreTrueFacts};
 ghost use Rattle.icu_element_facts.specs.KeptChars.{KeptChar, AreFactsFrom, IsOneMore};
 
 use crate::bases::facts_to_keep;
-use crate::boundaries::Boundaries;
 use crate::char_facts::CharFacts;
 use crate::char_words::{CharWords, Kept};
 use crate::joined_pairs::{KeptPair, kept_pairs, pair_slots};
 use crate::read_char::{facts_of, own_facts};
+use icu_element_reading::boundaries::Boundaries;
 use icu_table_provider::well_formed::CheckedTables;
 use std::alloc::{AllocError, Global};
 
@@ -114,26 +114,25 @@ fn facts_from(
 {
     let mut kept_facts: Vec<CharFacts> = Vec::with_capacity(alloc, count as usize)?;
     for code in first..first + count {
-        push_facts_at(alloc, places, &mut kept_facts, code)?;
+        push_facts_at(places, &mut kept_facts, code)?;
     }
     Ok(kept_facts)
 }
 
 /// What is known of the character with a code below U+D800.
 #[tactic(auto, using(crate::proofs::KeptLemmas::kept_facts))]
-fn facts_at(alloc: Global, places: Boundaries<'_>, code: u32) -> Result<CharFacts, AllocError>
+fn facts_at(places: Boundaries<'_>, code: u32) -> CharFacts
     requires { code < 0xD800 }
-    ensures { IfOk result (λ facts. KeptChar (boundary_reading places.entry) code facts) }
+    ensures { KeptChar (boundary_reading places.entry) code result }
 {
     match char::from_u32(code) {
-        Some(c) => facts_to_keep(alloc, &places, c),
+        Some(c) => facts_to_keep(&places, c),
         None => unreachable!(),
     }
 }
 
 /// Appends what is known of one more character, with a code below U+D800.
 fn push_facts_at(
-    alloc: Global,
     places: Boundaries<'_>,
     kept_facts: &mut Vec<CharFacts>,
     code: u32,
@@ -142,6 +141,6 @@ fn push_facts_at(
     ensures { OnOk result (IsOneMore (boundary_reading places.entry) code kept_facts.old.items
         kept_facts.new.items) }
 {
-    let facts = facts_at(alloc, places, code)?;
+    let facts = facts_at(places, code);
     kept_facts.extend_from_slice(&[facts])
 }

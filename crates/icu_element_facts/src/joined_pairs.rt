@@ -10,19 +10,19 @@ ghost use Rattle.icu_table_data.specs.StoredData.{found_context};
 ghost use Rattle.icu_table_entries.specs.declared.entry.EntryKind.TheVariants.{Digit};
 ghost use Rattle.icu_table_entries.specs.Entries.{kind_of};
 ghost use Rattle.icu_element_reading.specs.TextElements.{Reading};
-ghost use Rattle.icu_element_facts.specs.BoundaryTables.{boundary_reading};
+ghost use Rattle.icu_element_reading.specs.boundaries.BoundaryTables.{boundary_reading};
 ghost use Rattle.icu_element_facts.specs.FactsTables.{AreFacts};
 ghost use Rattle.icu_element_facts.specs.FewElements.{few_elements};
 ghost use Rattle.icu_element_facts.specs.KeptFacts.{IsPair};
 ghost use Rattle.icu_element_facts.specs.KeptPairs.{ArePairs};
 ghost use Rattle.icu_element_facts.specs.inner.JoinedPairs.{AreJoined, BeginsPairs, IsMappingOf, NamesAlone};
 
-use crate::bases::elements_of_two;
-use crate::boundaries::Boundaries;
+use crate::bases::elements_of_chars;
 use crate::facts_table::KeptFacts;
 use crate::few_elements::FewElements;
 use crate::own::decomposes_to_itself;
 use icu_element_matches::{find_longest, mapping_goes_on};
+use icu_element_reading::boundaries::Boundaries;
 use icu_table_data::FoundContext;
 use icu_table_entries::{CollationElement32, EntryKind};
 use std::alloc::{AllocError, Global};
@@ -95,7 +95,7 @@ fn names_alone(context: FoundContext<'_>, x: char) -> bool
 
 /// The mappings of a character that begins contractions, where it is a starter that decomposes to itself, and no
 /// diacritic.
-#[tactic(auto, unfolding(crate::specs::BoundaryTables::boundary_reading))]
+#[tactic(auto, unfolding(icu_element_reading::specs::boundaries::BoundaryTables::boundary_reading))]
 fn contractions_of<'d>(places: &Boundaries<'d>, c: char) -> Option<FoundContext<'d>>
     ensures begins { IfSome result (λ context.
         BeginsPairs (boundary_reading places.now) c (found_context context)) }
@@ -114,7 +114,6 @@ fn contractions_of<'d>(places: &Boundaries<'d>, c: char) -> Option<FoundContext<
 
 /// Appends a pair with its elements, where there are three at most.
 fn push_joined(
-    alloc: Global,
     places: &Boundaries<'_>,
     c: char,
     x: char,
@@ -124,7 +123,7 @@ fn push_joined(
     ensures { OnOk result (ArePairs (boundary_reading places.now) pairs.old.items
         → ArePairs (boundary_reading places.now) pairs.new.items) }
 {
-    match elements_of_two(alloc, places, c, x)? {
+    match elements_of_chars(places, &[c, x]) {
         Some(few) => pairs.extend_from_slice(&[KeptPair {
             first: c,
             second: x,
@@ -137,7 +136,6 @@ fn push_joined(
 /// Appends the pair of a character that begins contractions and of what a mapping names, where that is one character
 /// that it joins whatever follows.
 fn push_pair(
-    alloc: Global,
     places: &Boundaries<'_>,
     c: char,
     context: FoundContext<'_>,
@@ -150,16 +148,13 @@ fn push_pair(
         → ArePairs (boundary_reading places.now) pairs.new.items) }
 {
     match suffix {
-        [x] if is_plain(*x) && names_alone(context, *x) => {
-            push_joined(alloc, places, c, *x, pairs)
-        }
+        [x] if is_plain(*x) && names_alone(context, *x) => push_joined(places, c, *x, pairs),
         _ => Ok(()),
     }
 }
 
 /// Appends the pairs of a character that begins contractions.
 fn push_pairs(
-    alloc: Global,
     places: &Boundaries<'_>,
     c: char,
     context: FoundContext<'_>,
@@ -171,21 +166,13 @@ fn push_pairs(
         → ArePairs (boundary_reading places.now) pairs.new.items) }
 {
     for index in 0..context.len() {
-        push_pair(
-            alloc,
-            places,
-            c,
-            context,
-            context.mapping(index).chars,
-            pairs,
-        )?;
+        push_pair(places, c, context, context.mapping(index).chars, pairs)?;
     }
     Ok(())
 }
 
 /// Appends the pairs of the character with a code, where it begins contractions and there aren't many pairs yet.
 fn push_pairs_at(
-    alloc: Global,
     places: &Boundaries<'_>,
     code: u32,
     pairs: &mut Vec<KeptPair>,
@@ -200,7 +187,7 @@ fn push_pairs_at(
         return Ok(());
     };
     match contractions_of(places, c) {
-        Some(context) => push_pairs(alloc, places, c, context, pairs),
+        Some(context) => push_pairs(places, c, context, pairs),
         None => Ok(()),
     }
 }
@@ -214,7 +201,7 @@ pub(crate) fn kept_pairs(
 {
     let mut pairs = Vec::new(alloc);
     for code in FIRST..LIMIT {
-        push_pairs_at(alloc, places, code, &mut pairs)?;
+        push_pairs_at(places, code, &mut pairs)?;
     }
     Ok(pairs)
 }

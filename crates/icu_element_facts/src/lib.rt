@@ -4,7 +4,6 @@
 
 mod alone;
 mod bases;
-mod boundaries;
 pub mod char_facts;
 pub mod char_words;
 mod digit_values;
@@ -12,7 +11,6 @@ pub mod facts_table;
 pub mod few_elements;
 pub mod joined_pairs;
 mod lone_blocks;
-mod named;
 mod own;
 mod own_blocks;
 mod plain_blocks;
@@ -22,10 +20,8 @@ mod syllables;
 mod word_blocks;
 
 pub use alone::{own_element, own_elements};
-pub use boundaries::Boundaries;
 pub use char_facts::{CharFacts, FactsKind};
 pub use char_words::Kept;
 pub use facts_table::KeptFacts;
 pub use few_elements::FewElements;
-pub use named::NamedCharacters;
 pub use read_char::facts_of;

@@ -3,12 +3,12 @@
 ghost use Rattle.std.specs.Prelude.{◌≡◌, ◌∷◌, [], IsTrue};
 ghost use Rattle.ucd_normal.specs.declared.forms.Form.TheVariants.{Nfd};
 ghost use Rattle.unicode_normalization.specs.Decompose.{decompose};
-ghost use Rattle.icu_element_facts.specs.BoundaryTables.{boundary_reading};
+ghost use Rattle.icu_element_reading.specs.boundaries.BoundaryTables.{boundary_reading};
 ghost use Rattle.icu_element_facts.specs.KeptFacts.{IsOwn};
 ghost use Rattle.icu_element_facts.specs.inner.OwnBlocks.{HasLoneEntry};
 
 use crate::alone::is_dot;
-use crate::boundaries::Boundaries;
+use icu_element_reading::boundaries::Boundaries;
 use icu_table_entries::EntryKind;
 use unicode_normalization::Form;
 use unicode_normalization::char::decomposition;
@@ -25,7 +25,7 @@ pub(crate) fn decomposes_to_itself(c: char) -> bool
 }
 
 /// Whether a character's entry gives the same wherever it stands.
-#[tactic(auto, unfolding(crate::specs::BoundaryTables::boundary_reading))]
+#[tactic(auto, unfolding(icu_element_reading::specs::boundaries::BoundaryTables::boundary_reading))]
 fn has_lone_entry(places: &Boundaries<'_>, c: char) -> bool
     ensures { IsTrue result → HasLoneEntry (boundary_reading places.now) c }
 {

@@ -6,16 +6,16 @@ ghost use Rattle.unicode_normalization.specs.Decompose.{decompose};
 ghost use Rattle.icu_element_reading.specs.TextElements.{Reading};
 ghost use Rattle.icu_element_reading.specs.boundaries.Alone.{elements_of_char, is_alone};
 ghost use Rattle.icu_element_facts.specs.FewElements.{few_elements};
-ghost use Rattle.icu_element_facts.specs.BoundaryTables.{boundary_reading};
+ghost use Rattle.icu_element_reading.specs.boundaries.BoundaryTables.{boundary_reading};
 ghost use Rattle.icu_element_facts.specs.KeptFacts.{AreTrueFacts, IsOwn, char_elements};
 ghost use Rattle.icu_element_facts.specs.inner.ReadFacts.{LeadsBy, IsOutline};
 ghost use Rattle.icu_element_facts.specs.declared.char_facts.FactsKind.TheVariants.{Unknown};
 
 use crate::alone::{own_element, with_char, with_chars};
-use crate::boundaries::Boundaries;
 use crate::char_facts::{CharFacts, FactsKind};
 use crate::few_elements::FewElements;
 use crate::shapes::shape_of;
+use icu_element_reading::boundaries::Boundaries;
 use icu_table_entries::CollationElement;
 use unicode_normalization::Form;
 use unicode_normalization::char::{canonical_combining_class, decomposition};

@@ -3,7 +3,7 @@
 ghost use Rattle.std.specs.Prelude.{◌≡◌, ◌==◌, ◌<◌, ◌≤◌, ◌+◌, ◌*◌, ℕ, length, slice_index, IfOk, IsTrue, OnOk};
 ghost use Rattle.std.specs.List.{list_all};
 ghost use Rattle.icu_element_reading.specs.TextElements.{Reading};
-ghost use Rattle.icu_element_facts.specs.BoundaryTables.{boundary_reading};
+ghost use Rattle.icu_element_reading.specs.boundaries.BoundaryTables.{boundary_reading};
 ghost use Rattle.icu_element_facts.specs.CharWords.{IsWord};
 ghost use Rattle.icu_element_facts.specs.KeptChars.{IsOneMore};
 ghost use Rattle.icu_element_facts.specs.KeptFacts.{IsOwn};
@@ -11,14 +11,16 @@ ghost use Rattle.icu_element_facts.specs.inner.LoneTables.{AreLoneBlocks};
 ghost use Rattle.icu_element_facts.specs.inner.WordBlocks.{IsOneWord, AreMoreWords, AreWordsFrom, IsBlockMore, IsMade};
 
 use crate::bases::facts_to_keep;
-use crate::boundaries::Boundaries;
 use crate::char_facts::CharFacts;
 use crate::lone_blocks::LoneBlocks;
-use crate::named::BLOCK_COUNT;
 use crate::own::is_own;
 use crate::own_blocks::is_own_block;
 use crate::syllables::is_syllable;
+use icu_element_reading::boundaries::Boundaries;
 use std::alloc::{AllocError, Global};
+
+/// How many blocks of 64 code points there are.
+const BLOCK_COUNT: usize = 0x4400;
 
 /// The word of an own character.
 pub(crate) const OWN: u16 = 0;
@@ -46,7 +48,6 @@ pub(crate) struct WordBlocks {
 
 /// Keeps the facts of one more character.
 fn push_facts_of(
-    alloc: Global,
     places: &Boundaries<'_>,
     c: char,
     facts: &mut Vec<CharFacts>,
@@ -54,13 +55,12 @@ fn push_facts_of(
     ensures { OnOk result (IsOneMore (boundary_reading places.now) c facts.old.items
         facts.new.items) }
 {
-    let known = facts_to_keep(alloc, places, c)?;
+    let known = facts_to_keep(places, c);
     facts.extend_from_slice(&[known])
 }
 
 /// The word of a character whose facts are kept, where there is room for them.
 fn word_of_facts(
-    alloc: Global,
     places: &Boundaries<'_>,
     c: char,
     facts: &mut Vec<CharFacts>,
@@ -72,7 +72,7 @@ fn word_of_facts(
     if count >= MOST_FACTS {
         return Ok(NOTHING);
     }
-    push_facts_of(alloc, places, c, facts)?;
+    push_facts_of(places, c, facts)?;
     Ok(count as u16 + FIRST_FACTS)
 }
 
@@ -91,7 +91,6 @@ fn needs_no_facts(places: &Boundaries<'_>, c: char) -> bool
 
 /// The word of a character, whose facts are kept where it has some.
 fn word_of_char(
-    alloc: Global,
     places: &Boundaries<'_>,
     c: char,
     facts: &mut Vec<CharFacts>,
@@ -105,12 +104,11 @@ fn word_of_char(
     if is_syllable(c) {
         return Ok(NOTHING);
     }
-    word_of_facts(alloc, places, c, facts)
+    word_of_facts(places, c, facts)
 }
 
 /// The word of the character with a code, or that of nothing where there is none.
 fn word_at(
-    alloc: Global,
     places: &Boundaries<'_>,
     code: u32,
     facts: &mut Vec<CharFacts>,
@@ -119,7 +117,7 @@ fn word_at(
         facts.new.items) }
 {
     match char::from_u32(code) {
-        Some(c) => word_of_char(alloc, places, c, facts),
+        Some(c) => word_of_char(places, c, facts),
         None => Ok(NOTHING),
     }
 }
@@ -138,7 +136,7 @@ fn words_from(
 {
     let mut words: Vec<u16> = Vec::with_capacity(alloc, BLOCK_LEN)?;
     for code in first..first + 64 {
-        let word = word_at(alloc, places, code, facts)?;
+        let word = word_at(places, code, facts)?;
         words.push(word)?;
     }
     Ok(words)

@@ -1,10 +1,11 @@
 -- Marks that stand by their classes: those of all queues, and where one of them stands.
-use Rattle.std.proofs.Common.{◌≡◌, ℕ, zero, suc, ◌+◌, ◌-◌, ◌<◌, ◌≤◌, Bool, true, false, ◌||◌, ◌==◌, List, [], ◌∷◌, ◌++◌, length, take, drop, get_or, set, Option, Some, None, is_some, refl, sym, ap, subst, ◌∙◌, append_assoc, append-nil, arith, length-append}
+use Rattle.std.proofs.Common.{◌≡◌, ℕ, zero, suc, ◌+◌, ◌-◌, ◌<◌, ◌≤◌, Bool, true, ◌||◌, ◌==◌, List, [], ◌∷◌, ◌++◌, length, take, drop, get_or, set, Option, Some, None, is_some, refl, sym, ap, subst, ◌∙◌, append_assoc, append-nil, arith, length-append}
 use Rattle.std.specs.Prelude.{slice_get, option_to_list}
 use Rattle.std.specs.List.{list_any}
-use Rattle.std.proofs.lemmas.Bool.{and_parts, and_from, eq-eqb, eqb-true, ne_eqb}
+use Rattle.std.proofs.lemmas.Bool.{and_parts, and_from, eq-eqb, eqb-true}
 use Rattle.std.proofs.lemmas.List.{drop_all, drop_more, take-append-drop, set_split, drop-set-lt, length-take-le, length-set}
 use Rattle.std.proofs.lemmas.Option.{same_Some}
+use Rattle.icu_text_decomposition.proofs.FrontMarkLemmas.{no_starter}
 use Rattle.ucd_normal.specs.CanonicalCombiningClass.{canonical_combining_class as class_of}
 use Rattle.unicode_normalization.specs.Order.{is_starter}
 use Rattle.icu_element_matches.specs.declared.mark_queue.MarkQueue.{MarkQueue}
@@ -35,13 +36,10 @@ of_class-left k old new None is all = subst (λ (l : List ℕ). are_of_class k l
 of_class-left k old new (Some c) is all =
     (and_parts (class_of c == k) (are_of_class k new) (subst (λ (l : List ℕ). are_of_class k l ≡ true) is all)).1
 
-pub no_starter_of : (c : ℕ) → 0 < class_of c → is_starter c ≡ false
-no_starter_of c mark = ne_eqb (class_of c) 0 (λ e. absurd (omega (arith, mark, e)))
-
 no_starters : (k : ℕ) (cs more : List ℕ) → 0 < k → AreOfClass k cs → list_any is_starter (cs ++ more) ≡ list_any is_starter more
 no_starters k [] more mark all = refl
 no_starters k (c ∷ cs) more mark all =
-    ap (λ b. b || list_any is_starter (cs ++ more)) (no_starter_of c (omega (arith, mark, all.0))) ∙ no_starters k cs more mark all.1
+    ap (λ b. b || list_any is_starter (cs ++ more)) (no_starter c (omega (arith, mark, all.0))) ∙ no_starters k cs more mark all.1
 
 -- ---- the marks of queues
 

@@ -3,6 +3,7 @@ use Rattle.std.proofs.Common.{◌≡◌, ℕ, ◌+◌, ◌<◌, ◌≤◌, true,
 use Rattle.std.specs.Prelude.{slice_get, max}
 use Rattle.std.proofs.lemmas.Bool.{eq-eqb, le-leb, lt-leb}
 use Rattle.std.proofs.lemmas.Option.{same_Some}
+use Rattle.icu_text_decomposition.proofs.FrontMarkLemmas.{no_starter}
 use Rattle.ucd_normal.specs.CanonicalCombiningClass.{canonical_combining_class as class_of}
 use Rattle.unicode_normalization.specs.Order.{is_starter}
 use Rattle.icu_table_data.specs.Data.{Mapping, mapping_entry}
@@ -10,7 +11,7 @@ use Rattle.icu_element_matches.specs.Matches.{Match, is_blocked, with_marks}
 use Rattle.icu_element_matches.specs.inner.Joining.{greatest_class}
 use Rattle.icu_element_matches.specs.inner.MarkQueues.{HasNoMark}
 use Rattle.icu_element_matches.proofs.MarkLemmas.{blocked_by_greatest, greatest_more, at_starter, at_blocked, at_joining, at_other}
-use Rattle.icu_element_matches.proofs.MarkQueueLemmas.{AreOfClass, no_starter_of}
+use Rattle.icu_element_matches.proofs.MarkQueueLemmas.{AreOfClass}
 
 -- ---- the greatest class
 
@@ -44,7 +45,7 @@ module _ (mappings : List Mapping) where
       let more : k ≤ greatest_class (passed ++ m ∷ []) = omega (arith, greatest_more passed m, below) in
       ap (λ (l : List ℕ). with_marks mappings entry suffix l left) (sym (append_assoc passed (m ∷ []) ms))
       ∙ pass_class entry suffix (passed ++ m ∷ []) ms left k mark all.1 more
-      ∙ sym (at_blocked mappings entry suffix passed (m ∷ (ms ++ left)) 0 m refl (no_starter_of m is_mark) blocked)
+      ∙ sym (at_blocked mappings entry suffix passed (m ∷ (ms ++ left)) 0 m refl (no_starter m is_mark) blocked)
 
   -- those of a class above it, where the first doesn't join
   pub pass_others : (entry : ℕ) (suffix passed ms left : List ℕ) (k m : ℕ) → 0 < k → AreOfClass k ms → greatest_class passed < k → slice_get ms 0 ≡ Some m
@@ -58,7 +59,7 @@ module _ (mappings : List Mapping) where
       let other : mapping_entry mappings (suffix ++ x ∷ []) ≡ None = ap (λ y. mapping_entry mappings (suffix ++ y ∷ [])) same ∙ none in
       ap (λ (l : List ℕ). with_marks mappings entry suffix l left) (sym (append_assoc passed (x ∷ []) xs))
       ∙ pass_class entry suffix (passed ++ x ∷ []) xs left k mark all.1 more
-      ∙ sym (at_other mappings entry suffix passed (x ∷ (xs ++ left)) 0 x refl (no_starter_of x is_mark) free other)
+      ∙ sym (at_other mappings entry suffix passed (x ∷ (xs ++ left)) 0 x refl (no_starter x is_mark) free other)
 
   -- ---- a mark that joins
 
@@ -73,7 +74,7 @@ module _ (mappings : List Mapping) where
       let joins : mapping_entry mappings (suffix ++ x ∷ []) ≡ Some joined = ap (λ y. mapping_entry mappings (suffix ++ y ∷ [])) same ∙ some in
       ap (λ y. with_marks mappings joined (suffix ++ y ∷ []) passed (rest ++ left)) (sym same)
       ∙ ap (λ (l : List ℕ). with_marks mappings joined (suffix ++ x ∷ []) passed (l ++ left)) (sym others)
-      ∙ sym (at_joining mappings entry suffix passed (x ∷ (xs ++ left)) 0 x refl joined (no_starter_of x is_mark) free joins)
+      ∙ sym (at_joining mappings entry suffix passed (x ∷ (xs ++ left)) 0 x refl joined (no_starter x is_mark) free joins)
 
   -- ---- where no mark comes next
 

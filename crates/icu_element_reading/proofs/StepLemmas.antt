@@ -52,7 +52,7 @@ Leaves-match_of h before text =
 pub record Rests (n : ℕ) (s : Step) : Type 0 where
   pub fits : length s.rest ≤ n
 
-at_digit : (P : Step → Type 0) (k : EntryKind) (x y : Step) → P x → P y → P (elim k as (λ _. Step) [ Digit ↦ x | _ ↦ y ])
+pub at_digit : (P : Step → Type 0) (k : EntryKind) (x y : Step) → P x → P y → P (elim k as (λ _. Step) [ Digit ↦ x | _ ↦ y ])
 at_digit P Digit x y p q = p
 at_digit P _ x y p q = q
 
@@ -64,7 +64,7 @@ Rests-number_step tables lead m =
     let together : Step = record { elements = number_elements lead (digit_value m.entry ∷ map (digit_of_char tables) run); suffix = run; rest = drop (length run) m.rest } in
     at_nil (Rests (length m.rest)) m.suffix _ alone (either (Rests (length m.rest)) _ alone together (record { fits = omega arith }) (record { fits = simp length-drop (omega arith) })) (record { fits = omega arith })
 
-Rests-entry_step : (reading : Reading) (home : Data) (c : ℕ) (m : Match) → Rests (length m.rest) (entry_step reading home c m)
+pub Rests-entry_step : (reading : Reading) (home : Data) (c : ℕ) (m : Match) → Rests (length m.rest) (entry_step reading home c m)
 unfolding entry_step
 Rests-entry_step reading home c m =
     at_digit (Rests (length m.rest)) (kind_of m.entry) _ _

@@ -8,3 +8,5 @@ pub mod NumberRunLemmas
 pub mod BaseLemmas
 mod WorkedCuts
 pub mod LetterLemmas
+pub mod CutPartLemmas
+pub mod PlainCharLemmas

@@ -21,7 +21,6 @@ pub mod TextElements
 pub mod ReadAhead
 pub mod Reading
 pub mod LastChars
-pub mod ElementReaders
 pub mod CollationElements
 pub mod StepReaders
 pub mod TextParts

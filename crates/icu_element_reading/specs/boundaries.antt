@@ -4,3 +4,5 @@ pub mod Alone
 pub mod Cuts
 pub mod LeftContexts
 pub mod ReadingLaws
+pub mod BoundaryTables
+pub mod Places

@@ -1,11 +1,12 @@
 //! The tables that elements are read from.
 
-ghost use Rattle.std.specs.Prelude.{◌≡◌, ◌<◌, if◌then◌else◌, IfSome, Some, None};
+ghost use Rattle.std.specs.Prelude.{◌≡◌, ◌<◌, ◌+◌, ◌*◌, ℕ, false, if◌then◌else◌, IfSome, Some, None};
 ghost use Rattle.icu_table_provider.specs.Tables.{entry_of, diacritic_of};
 ghost use Rattle.icu_table_data.specs.Data.{homed};
 ghost use Rattle.icu_table_entries.specs.Entries.{kind_of};
 ghost use Rattle.icu_table_data.specs.StoredData.{data_of};
 ghost use Rattle.icu_table_provider.specs.well_formed.Checked.{checked_tables};
+ghost use Rattle.icu_table_provider.specs.well_formed.MappingCharacters.{is_named, is_named_by_tailoring};
 ghost use Rattle.icu_element_matches.specs.WellFormedEntries.{IsWellFormedFrom};
 
 use crate::matched_alone::matched_alone;
@@ -43,6 +44,27 @@ impl<'d> ElementTables<'d> {
     /// The allocator that the tables were made with.
     pub fn allocator(self) -> Global {
         self.tables.allocator()
+    }
+
+    /// Whether a mapping may name a character. Where this is false, none does.
+    pub fn may_name(self, c: char) -> bool
+        ensures root { result ≡ false → is_named c (element_tables self.entry).root ≡ false }
+        ensures tailoring { result ≡ false
+            → is_named_by_tailoring c (element_tables self.entry).tailoring ≡ false }
+    {
+        self.tables.named().has(c)
+    }
+
+    /// Whether a mapping may name one of the 64 characters from `64 * index` on. Where this is false, none does.
+    #[inline(always)]
+    pub fn may_name_in_block(self, index: u32) -> bool
+        requires { index < 17408 }
+        ensures root { result ≡ false → (k : ℕ) → k < 64
+            → is_named (64 * index + k) (element_tables self.entry).root ≡ false }
+        ensures tailoring { result ≡ false → (k : ℕ) → k < 64
+            → is_named_by_tailoring (64 * index + k) (element_tables self.entry).tailoring ≡ false }
+    {
+        self.tables.named().has_in_block(index)
     }
 
     /// The secondary weight of a combining diacritic.

@@ -6,7 +6,7 @@ pub mod boundaries;
 pub mod collation_elements;
 mod decomposed_source;
 mod element_list;
-pub mod element_reader;
+mod element_reader;
 pub mod element_tables;
 pub mod laws;
 pub mod look_up;
@@ -19,7 +19,6 @@ pub mod text_reading;
 pub mod whole;
 
 pub use collation_elements::CollationElements;
-pub use element_reader::ElementReader;
 pub use element_tables::ElementTables;
 pub use icu_table_entries::{CollationElement, CollationElement32, NonPrimary, Tag};
 pub use read::decomposed_text;

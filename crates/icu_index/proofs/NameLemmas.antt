@@ -103,7 +103,7 @@ kept_both : (a b : Bool) (x : Keyed) (xs ys : List Keyed) → a ≡ b → names_
 kept_both true b x xs ys e h = subst (λ c. x.1 ∷ names_in xs ≡ names_in (if c then x ∷ ys else ys)) e (ap (λ zs. x.1 ∷ zs) h)
 kept_both false b x xs ys e h = subst (λ c. names_in xs ≡ names_in (if c then x ∷ ys else ys)) e h
 
-and_true : (b : Bool) → b ≡ (b && true)
+pub and_true : (b : Bool) → b ≡ (b && true)
 and_true true = refl
 and_true false = refl
 

@@ -1,6 +1,7 @@
 -- The names behind a border, and those whose keys begin with bytes.
-use Rattle.std.proofs.Common.{◌≡◌, ℕ, ◌≤◌, arith, Bool, true, false, not, ◌&&◌, List, [], ◌∷◌, ◌++◌, Some, None, drop, filter, length, map, suc, if◌then◌else◌, refl, sym, ap, ◌∙◌}
+use Rattle.std.proofs.Common.{◌≡◌, ℕ, ◌≤◌, arith, Bool, true, not, ◌&&◌, List, [], ◌∷◌, ◌++◌, Some, None, drop, filter, length, map, suc, if◌then◌else◌, refl, sym, ap, ◌∙◌}
 use Rattle.std.proofs.lemmas.List.{append-nil, drop_all, take_all}
+use Rattle.std.proofs.Math.Bool.{and-true}
 use Rattle.std.specs.Borrow.{Bor}
 use Rattle.std.specs.Global.{Vec}
 use Rattle.std.specs.List.{AllByRecursion}
@@ -40,16 +41,12 @@ parts_at_end ls n e =
 
 -- ---- the names behind a border
 
-plain : (b : Bool) → (b && true) ≡ b
-plain true = refl
-plain false = refl
-
 module _ (bytes : List ℕ) (are : AreBytes bytes) (ls : List (Vec Entry)) (sound : AreEntriesIn bytes (entries_of ls))
     (from : Border) (from_bytes : AreBytes (border_key from)) where
   behind_alike : (es : List Entry) → AllByRecursion (λ e. entry_before bytes from e ≡ lies_before from (key_in bytes e)) es
       → AllByRecursion (λ e. (not (entry_before bytes from e) && any_entry e) ≡ not (lies_before from (key_in bytes e))) es
   behind_alike [] h = tt
-  behind_alike (e ∷ es) h = (plain (not (entry_before bytes from e)) ∙ ap not h.0, behind_alike es h.1)
+  behind_alike (e ∷ es) h = (and-true (not (entry_before bytes from e)) ∙ ap not h.0, behind_alike es h.1)
 
   pub names_behind : (i a n : ℕ) → n ≡ length ls → Parts (entry_before bytes from) ls i a
       → map (name_in bytes) (entries_between ls i a n 0) ≡ names_in (behind_border from (map (keyed_in bytes) (entries_of ls)))
@@ -89,7 +86,7 @@ module _ (from : Bor (List ℕ)) (are : AreBytes from.now) where
       → AllByRecursion (λ x. not (lies_before (Before from) x.0) ≡ begins from.now x.0) xs
   no_bound is [] h = tt
   no_bound is (x ∷ xs) h = (
-    sym (plain (not (lies_before (Before from) x.0)))
+    sym (and-true (not (lies_before (Before from) x.0)))
         ∙ sym (beginnings_between from.now x.0 are h.0 ∙ ap (λ o. stands_between from.now o x.0) is),
     no_bound is xs h.1,
   )

@@ -3,10 +3,11 @@ use Rattle.std.proofs.Common.{◌≡◌, ℕ, zero, suc, ◌+◌, ◌*◌, ◌<�
 use Rattle.std.proofs.lemmas.Cmp.{nat_list_cmp_total}
 use Rattle.std.proofs.lemmas.Bool.{cases_lt}
 use Rattle.std.proofs.lemmas.Bool.Decides.{nat_tests}
+use Rattle.icu_order_levels.proofs.Order.{same_number, less_head, less_number}
 use Rattle.std.specs.Int.{from_be_bytes, w64}
-use Rattle.std.specs.Ordering.{nat_cmp, ordering_then, ordering_reverse}
+use Rattle.std.specs.Ordering.{ordering_then, ordering_reverse}
 use Rattle.std.specs.declared.cmp.Ordering.{Ordering}
-use Rattle.std.specs.declared.cmp.Ordering.TheVariants.{Less, Equal}
+use Rattle.std.specs.declared.cmp.Ordering.TheVariants.{Less}
 use Rattle.icu_order_levels.specs.ListOrder.{list_order}
 use Rattle.icu_index_keys.specs.Borders.{border_key, lies_before, stands_before}
 use Rattle.icu_index_keys.specs.declared.borders.Border.{Border}
@@ -33,27 +34,18 @@ prefix_is (a ∷ b ∷ c ∷ d ∷ e ∷ f ∷ g ∷ h ∷ rest) = omega arith
 
 -- ---- what it tells
 
-cmp_less : (x y : ℕ) → x < y → nat_cmp x y ≡ Less
-cmp_less x y h = grind arith
-
-cmp_same : (x : ℕ) → nat_cmp x x ≡ Equal
-cmp_same x = grind arith
-
 abbrev Tells : ℕ → ℕ → List ℕ → List ℕ → Type 0
 Tells a b xs ys = (a < b) ⊎ ((a ≡ b) × (list_order xs ys ≡ Less))
 
-less_first : (x y : ℕ) (xs ys : List ℕ) → x < y → list_order (x ∷ xs) (y ∷ ys) ≡ Less
-less_first x y xs ys h = ap (λ o. ordering_then o (list_order xs ys)) (cmp_less x y h)
-
 less_later : (x y : ℕ) (xs ys : List ℕ) → x ≡ y → list_order xs ys ≡ Less → list_order (x ∷ xs) (y ∷ ys) ≡ Less
-less_later x y xs ys e h = rw e (ap (λ o. ordering_then o (list_order xs ys)) (cmp_same y) ∙ h)
+less_later x y xs ys e h = rw e (ap (λ o. ordering_then o (list_order xs ys)) (same_number y) ∙ h)
 
 alike : (a b x y : ℕ) → x < 256 → y < 256 → a * 256 + x ≡ b * 256 + y → (a ≡ b) × (x ≡ y)
 alike a b x y hx hy e = (omega arith, omega arith)
 
 by_first : (a b x y : ℕ) (xs ys : List ℕ) → x < 256 → y < 256 → a * 256 + x < b * 256 + y → (a < b) ⊎ (b ≤ a) → Tells a b (x ∷ xs) (y ∷ ys)
 by_first a b x y xs ys hx hy h (inl less) = inl less
-by_first a b x y xs ys hx hy h (inr more) = let e : a ≡ b = omega arith in let l : x < y = omega arith in inr (e, less_first x y xs ys l)
+by_first a b x y xs ys hx hy h (inr more) = let e : a ≡ b = omega arith in let l : x < y = omega arith in inr (e, less_head x y xs ys l)
 
 step : (a b x y : ℕ) (xs ys : List ℕ) → x < 256 → y < 256 → Tells (a * 256 + x) (b * 256 + y) xs ys → Tells a b (x ∷ xs) (y ∷ ys)
 step a b x y xs ys hx hy (inl h) = by_first a b x y xs ys hx hy h (cases_lt a b)

@@ -31,7 +31,7 @@ pub bytes_in : (xs : List ℕ) → ((i d : ℕ) → i < length xs → get_or xs 
 bytes_in [] h = tt
 bytes_in (x ∷ xs) h = (h 0 0 (omega arith), bytes_in xs (λ i d low. h (suc i) d (omega arith)))
 
-bytes_drop : (n : ℕ) (xs : List ℕ) → AreBytes xs → AreBytes (drop n xs)
+pub bytes_drop : (n : ℕ) (xs : List ℕ) → AreBytes xs → AreBytes (drop n xs)
 bytes_drop zero xs h = h
 bytes_drop (suc n) [] h = tt
 bytes_drop (suc n) (x ∷ xs) h = bytes_drop n xs h.1

@@ -2,6 +2,7 @@
 use Rattle.std.proofs.Common.{◌≡◌, ℕ, zero, suc, ◌-◌, ◌<◌, ◌≤◌, ◌⊎◌, List, [], ◌∷◌, ◌++◌, drop, get_or, length, min, slice_index, take, inl, inr, refl, sym, ap, ◌∙◌, arith}
 use Rattle.std.proofs.lemmas.Bool.{cases_lt}
 use Rattle.std.proofs.lemmas.Nat.{be_bytes_8}
+use Rattle.std.proofs.Math.Seq.{take-nil}
 use Rattle.std.specs.Int.{to_be_bytes, w64}
 use Rattle.std.specs.Ordering.{nat_cmp, ordering_then}
 use Rattle.std.specs.declared.cmp.Ordering.TheVariants.{Less, Greater}
@@ -12,10 +13,6 @@ use Rattle.icu_index_keys.specs.declared.name_entries.Entry.{Entry}
 use Rattle.icu_index_keys.specs.inner.NameEntries.{behind_count, count_of, first_counted, key_in, prefix_of}
 
 -- ---- the first eight bytes of a key
-
-none_left : (n : ℕ) → ◌≡◌ {A = List ℕ} (take n []) []
-none_left zero = refl
-none_left (suc n) = refl
 
 abbrev first_eight : List ℕ → List ℕ
 first_eight key = slice_index key 0 ∷ slice_index key 1 ∷ slice_index key 2 ∷ slice_index key 3 ∷ slice_index key 4 ∷ slice_index key 5 ∷ slice_index key 6 ∷ slice_index key 7 ∷ []
@@ -48,7 +45,7 @@ joined (a ∷ b ∷ c ∷ d ∷ []) = refl
 joined (a ∷ b ∷ c ∷ d ∷ e ∷ []) = refl
 joined (a ∷ b ∷ c ∷ d ∷ e ∷ f ∷ []) = refl
 joined (a ∷ b ∷ c ∷ d ∷ e ∷ f ∷ g ∷ []) = refl
-joined (a ∷ b ∷ c ∷ d ∷ e ∷ f ∷ g ∷ h ∷ rest) = ap (λ ks. a ∷ b ∷ c ∷ d ∷ e ∷ f ∷ g ∷ h ∷ (ks ++ rest)) (none_left (length rest))
+joined (a ∷ b ∷ c ∷ d ∷ e ∷ f ∷ g ∷ h ∷ rest) = ap (λ ks. a ∷ b ∷ c ∷ d ∷ e ∷ f ∷ g ∷ h ∷ (ks ++ rest)) (take-nil (length rest))
 
 pub key_joined : (key : List ℕ) → AreBytes key → take (length key) (to_be_bytes w64 (prefix_of key)) ++ drop 8 key ≡ key
 key_joined key h = ap (λ ds. take (length key) ds ++ drop 8 key) (digits_are key h) ∙ joined key
@@ -79,8 +76,8 @@ by_lengths : (n c m : ℕ) (ds r s : List ℕ) → length ds ≡ n → (c < n �
 by_lengths zero c m [] r s e hr hs =
     let none : min c 0 ≡ 0 = omega arith in
     let nothing : min m 0 ≡ 0 = omega arith in
-    ap (λ ks. list_order (ks ++ r) (take m [] ++ s)) (none_left c)
-    ∙ (ap (λ ks. list_order r (ks ++ s)) (none_left m)
+    ap (λ ks. list_order (ks ++ r) (take m [] ++ s)) (take-nil c)
+    ∙ (ap (λ ks. list_order r (ks ++ s)) (take-nil m)
     ∙ ap (λ o. ordering_then o (list_order r s)) (sym (ap (λ a. nat_cmp a (min m 0)) none ∙ ap (nat_cmp 0) nothing)))
 by_lengths zero c m (d ∷ ds) r s e hr hs = absurd (omega arith)
 by_lengths (suc n) c m [] r s e hr hs = absurd (omega arith)
@@ -97,7 +94,7 @@ by_lengths (suc n) (suc c) (suc m) (d ∷ ds) r s e hr hs =
 short_rest : (xs : List ℕ) → count_of xs < 8 → first_counted 8 xs ≡ []
 short_rest xs h = let e : count_of xs - 8 ≡ 0 = omega arith in ap (λ n. take n (behind_count xs)) e
 
-short_drop : (n : ℕ) (xs : List ℕ) → length xs < n → drop n xs ≡ []
+pub short_drop : (n : ℕ) (xs : List ℕ) → length xs < n → drop n xs ≡ []
 short_drop zero xs h = absurd (omega arith)
 short_drop (suc n) [] h = refl
 short_drop (suc n) (x ∷ xs) h = short_drop n xs (omega arith)

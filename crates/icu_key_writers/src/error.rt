@@ -1,14 +1,19 @@
 //! Why a call that writes a key failed.
 
 use std::alloc::AllocError;
+use std::fmt::Display;
+use thiserror::Error;
 
 /// Why a sort key was not written.
-#[derive(Debug, PartialEq, Eq, Drop)]
+#[derive(Debug, PartialEq, Eq, Drop, Error)]
+#[error_bound(E: Display)]
 pub enum SortKeyError<E> {
     /// The sink's own error: a write returned it after a beginning of the key was taken, or `finish` did after all
     /// of it was.
+    #[error("the sort key could not be written: {0}")]
     Sink(E),
     /// The writer ran out of memory; the sink took a beginning of the key.
+    #[error("out of memory")]
     NoMemory,
 }
 

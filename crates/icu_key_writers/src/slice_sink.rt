@@ -6,9 +6,11 @@ ghost use Rattle.icu_key_writers.specs.SliceSinks.{SliceTook, slice_finish};
 ghost use Rattle.icu_key_writers.specs.inner.SliceSinkLaws.{slice_nothing, slice_both};
 
 use crate::sink::CollationKeySink;
+use thiserror::Error;
 
 /// The slice is shorter than the key.
-#[derive(Debug, PartialEq, Eq, Drop)]
+#[derive(Debug, PartialEq, Eq, Drop, Error)]
+#[error("the slice is too short for the key, which takes {length} bytes")]
 pub struct TooSmall {
     /// The length of the key in bytes, or the greatest `usize` where the key is longer.
     pub length: usize,

@@ -11,7 +11,7 @@ use Rattle.icu_order_levels.proofs.NumberWeightOrder.{numbers_by_value}
 use Rattle.icu_order_levels.proofs.NumberStands.{number_stands}
 
 -- first zeros are of no value
-value_without_zeros : (ds : List ℕ) → value_of (without_first_zeros ds) ≡ value_of ds
+pub value_without_zeros : (ds : List ℕ) → value_of (without_first_zeros ds) ≡ value_of ds
 value_without_zeros [] = refl
 value_without_zeros (zero ∷ ds) = value_without_zeros ds
 value_without_zeros (suc d ∷ ds) = refl

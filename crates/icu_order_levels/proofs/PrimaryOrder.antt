@@ -1,15 +1,20 @@
 -- The primary level's bytes order as its reordered lists, numbers among them.
-use Rattle.std.proofs.Common.{◌≡◌, ◌≢◌, ℕ, ◌^◌, ◌<◌, ◌≤◌, Bool, true, false, if◌then◌else◌, List, [], ◌∷◌, ◌++◌, map, refl, sym, ap, ap₂, ◌∙◌, subst, inl, inr, ◌⊎◌, arith, lit<, Less, ne_eqb}
+use Rattle.std.proofs.Common.{◌≡◌, ◌≢◌, ℕ, ◌^◌, ◌<◌, ◌≤◌, Bool, true, false, if◌then◌else◌, List, [], ◌∷◌, ◌++◌, map, refl, sym, ap, ap₂, ◌∙◌, subst, inl, inr, ◌⊎◌, append-nil, arith, lit<, ne_eqb}
 use Rattle.std.proofs.lemmas.Bool.{cases_order, cases_eq, cases_Bool, cond-true, cond-false}
-use Rattle.std.specs.Ordering.{ordering_then}
+use Rattle.std.specs.Ordering.{is_lt, ordering_then}
+use Rattle.std.specs.declared.cmp.Ordering.{Ordering}
+use Rattle.std.specs.declared.cmp.Ordering.TheVariants.{Less, Equal, Greater}
 use Rattle.icu_order_levels.specs.ListOrder.{list_order, IsUnder, IsBeginning}
 use Rattle.icu_order_levels.specs.WeightBytes.{weight_bytes}
 use Rattle.icu_order_levels.specs.Primaries.{Compression, lead, below_lead, second_byte, primary_bytes, dropped_after, primary_level}
 use Rattle.icu_order_levels.specs.Premises.{MayStand, goes_on, IsPrimaryList, ArePrimaries}
+use Rattle.icu_order_levels.specs.beginnings.KeyBeginnings.{begins}
+use Rattle.icu_order_levels.specs.beginnings.BeginningLaws.{PrimariesAreKept}
 use Rattle.icu_order_levels.proofs.Order.{same_lists_order}
 use Rattle.icu_order_levels.proofs.WeightOrder.{digits_less, trimmed_less}
 use Rattle.icu_order_levels.proofs.PrecedesLemmas.{begins_alike}
 use Rattle.icu_order_levels.proofs.StepwiseOrder.{stepwise_bytes, StandAlong, IsRising, stepwise_order}
+use Rattle.icu_order_levels.proofs.beginnings.StepwiseBeginnings.{stepwise_begins}
 use Rattle.icu_order_levels.proofs.CompressionOrder.{FitsAfter, next_leads, next_rises}
 use Rattle.icu_order_levels.proofs.NumberPieceLemmas.{first_pieces_apart, further_pieces_apart}
 
@@ -29,6 +34,12 @@ same_weights k v w f g e = by (cases_order v w)
     by (inl h) = h
     by (inr (inl l)) = absurd (no (weight_bytes k v) (weight_bytes k w) e (trimmed_less k v w (digits_less 256 k v w (lit< tt) g l)))
     by (inr (inr l)) = absurd (no (weight_bytes k w) (weight_bytes k v) (sym e) (trimmed_less k w v (digits_less 256 k w v (lit< tt) f l)))
+
+no_less : (o : Ordering) (s : List ℕ) → is_lt (ordering_then o (list_order s [])) ≡ is_lt o
+no_less Less s = refl
+no_less Equal [] = refl
+no_less Equal (x ∷ s) = refl
+no_less Greater s = refl
 
 module _ (c : Compression) (numeric : ℕ) (IsReachable : ℕ → Type 0) (well_formed : ArePrimaries c numeric IsReachable) where
   -- a lead is dropped only after a reachable compressible weight
@@ -200,3 +211,16 @@ module _ (c : Compression) (numeric : ℕ) (IsReachable : ℕ → Type 0) (well_
   primary_order vs ws s t p q u v = rw (as_steps vs start, as_steps ws start)
       (stepwise_order c.reorder bytes_at place_after Stands primaries_rise vs ws start s t (all_stand vs start (none refl) p)
       (all_stand ws start (none refl) q) u v)
+
+  -- the level of a list begins with that of another, just where the primaries do, and both order alike
+  pub primaries_kept : (ps ws more : List ℕ) → IsPrimaryList numeric IsReachable false ps → IsPrimaryList numeric IsReachable false ws → IsUnder 2 more
+      → PrimariesAreKept c ps ws more
+  primaries_kept ps ws more p q u = record {
+    begin = ap (λ bs. begins bs (primary_level c 0 ws ++ more)) (as_steps ps start)
+        ∙ (ap (λ bs. begins (stepwise_bytes bytes_at place_after start ps) (bs ++ more)) (as_steps ws start)
+        ∙ stepwise_begins c.reorder bytes_at place_after Stands primaries_rise ps ws start more (all_stand ps start (none refl) p)
+        (all_stand ws start (none refl) q) u);
+    order = ap is_lt
+        (ap (list_order (primary_level c 0 ws ++ more)) (sym (append-nil (primary_level c 0 ps))) ∙ primary_order ws ps more [] q p u tt)
+        ∙ no_less (list_order (map c.reorder ws) (map c.reorder ps)) more;
+  }

@@ -1,4 +1,3 @@
 pub mod ListBeginningLemmas
 pub mod AboveLemmas
-pub mod PrimaryPlaces
 pub mod StepwiseBeginnings

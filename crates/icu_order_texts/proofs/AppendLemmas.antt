@@ -1,6 +1,7 @@
 -- The levels of elements one after another.
 use Rattle.std.proofs.Common.{◌≡◌, ◌⊎◌, ℕ, Bool, true, false, ◌&&◌, ◌||◌, ◌==◌, nat_lt, nat_le, List, [], ◌∷◌, ◌++◌, Option, Some, None, if◌then◌else◌, refl, ap, sym, ◌∙◌, arith, append_assoc, ⊎_elim}
 use Rattle.std.proofs.lemmas.Bool.Decides.{nat_tests}
+use Rattle.std.proofs.lemmas.Bool.{not-true}
 use Rattle.icu_options.specs.declared.settings.AlternateHandling.{AlternateHandling}
 use Rattle.icu_table_entries.specs.Elements.{Element}
 use Rattle.icu_table_entries.specs.ElementConditions.{separator_primary, tertiary_of}
@@ -10,7 +11,6 @@ use Rattle.icu_order_levels.specs.declared.forms.SecondaryForm.{SecondaryForm}
 use Rattle.icu_order_texts.specs.weighting.Handled.{HandledElement, stayed, shifted_primary, handled, handled_variable, is_variable, stayed_elements}
 use Rattle.icu_order_texts.specs.TextCuts.{begins_with_primary}
 use Rattle.icu_order_texts.specs.weighting.Levels.{weights, cases_in, case_reads, case_rank, tertiaries_in, masked_tertiary, tertiary_in, quaternaries, quaternary_weight}
-use Rattle.icu_table_data.proofs.ViolationLemmas.{not_true}
 
 -- a choice, and then more
 chosen : {A : Type 0} (b : Bool) (xs ys zs us vs : List A) → xs ≡ us ++ zs → ys ≡ vs ++ zs → (if b then xs else ys) ≡ (if b then us else vs) ++ zs
@@ -92,7 +92,7 @@ unfolding handled
 starts_anew handling last [] h = refl
 starts_anew handling last (y ∷ ys) h =
     ap (λ b. if is_variable last y then handled_variable handling y.primary ++ handled handling last true ys
-    else if b then handled handling last true ys else stayed y ∷ handled handling last false ys) (not_true (y.primary == 0) h)
+    else if b then handled handling last true ys else stayed y ∷ handled handling last false ys) (not-true (y.primary == 0) h)
 
 apart_by : (handling : AlternateHandling) (last : ℕ) (ys : List Element) (after : Bool) → begins_with_primary ys ≡ true
     → handled handling last after ys ≡ handled handling last false ys

@@ -3,6 +3,7 @@ use Rattle.std.proofs.Common.{◌≡◌, ◌≢◌, ◌⊎◌, ℕ, ◌/◌, ◌
 use Rattle.std.specs.Option.{ForSome}
 use Rattle.std.proofs.lemmas.Bool.{cases_eq, and_parts}
 use Rattle.std.proofs.lemmas.Bool.Decides.{nat_tests}
+use Rattle.icu_element_matches.proofs.steady_matches.LongestLemmas.{implied}
 use Rattle.icu_order_levels.specs.ListOrder.{IsBeginning}
 use Rattle.icu_order_levels.specs.WeightBytes.{weight_bytes}
 use Rattle.icu_order_levels.specs.Primaries.{lead, second_byte}
@@ -23,7 +24,7 @@ use Rattle.icu_table_provider.proofs.well_formed.LeadLemmas.{reordered-rest, reo
 use Rattle.icu_order_texts.specs.weighting.Levels.{primary_of}
 use Rattle.icu_order_texts.specs.weighting.Forms.{compression_of}
 use Rattle.icu_order_texts.specs.ReachableWeights.{IsReachablePrimary, IsShiftedPrimary}
-use Rattle.icu_order_texts.proofs.ReachableElementLemmas.{reachable-primary_lead, implied, where_some}
+use Rattle.icu_order_texts.proofs.ReachableElementLemmas.{reachable-primary_lead, where_some}
 
 -- ---- reordering, where there is one
 

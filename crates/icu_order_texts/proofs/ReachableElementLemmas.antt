@@ -6,6 +6,7 @@ use Rattle.std.proofs.lemmas.Bool.{and_parts}
 use Rattle.std.proofs.lemmas.Bool.Decides.{nat_tests}
 use Rattle.std.proofs.lemmas.List.Elements.{All-contains}
 use Rattle.std.proofs.lemmas.List.Sums.{AllPass-from_list_all}
+use Rattle.icu_element_matches.proofs.steady_matches.LongestLemmas.{implied}
 use Rattle.icu_table_entries.specs.declared.error.DataTable.{DataTable}
 use Rattle.icu_table_entries.specs.declared.error.DataTable.TheVariants.{Root, Jamo, SpecialPrimaries, Metadata, Tailoring, Reordering, Diacritics}
 use Rattle.icu_table_data.specs.declared.reachable_condition.ReachableCondition.TheVariants.{Shapes, Leads, Primaries}
@@ -24,10 +25,6 @@ use Rattle.icu_table_provider.specs.well_formed.WellFormedTables.{IsWellFormedTa
 pub other_part : (a b : Bool) → (a || b) ≡ true → a ≡ false → b ≡ true
 other_part true b h e = cc
 other_part false b h e = h
-
-pub implied : (a b : Bool) → (not a || b) ≡ true → a ≡ true → b ≡ true
-implied true b h e = h
-implied false b h e = cc
 
 pub where_some : (n : ℕ) (b : Bool) → (n == 0 || b) ≡ true → n ≢ 0 → b ≡ true
 where_some n b h some = other_part (n == 0) b h (grind (arith, nat_tests))

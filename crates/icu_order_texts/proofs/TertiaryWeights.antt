@@ -6,6 +6,7 @@ use Rattle.std.proofs.lemmas.Nat.{and_le_r, and_mod, and_assoc}
 use Rattle.std.proofs.lemmas.Nat.Bits.{and_high}
 use Rattle.std.proofs.lemmas.Bool.{and_parts}
 use Rattle.std.proofs.lemmas.Bool.Decides.{nat_tests}
+use Rattle.icu_element_matches.proofs.steady_matches.LongestLemmas.{implied}
 use Rattle.icu_order_levels.specs.WeightBytes.{weight_bytes}
 use Rattle.icu_order_levels.specs.Tertiaries.{tertiary_runs}
 use Rattle.icu_order_levels.specs.declared.forms.TertiaryForm.{TertiaryForm}
@@ -25,7 +26,7 @@ use Rattle.icu_table_provider.specs.well_formed.ReachableElements.{IsElementBy}
 use Rattle.icu_table_provider.specs.well_formed.WellFormedTables.{IsWellFormedTables}
 use Rattle.icu_order_texts.specs.weighting.Levels.{cased_mask, masked_tertiary, tertiary_in}
 use Rattle.icu_order_texts.specs.ReachableWeights.{IsLevelWeight, IsReachableTertiary}
-use Rattle.icu_order_texts.proofs.ReachableElementLemmas.{reachable-shape, reachable-leads, other_part, implied}
+use Rattle.icu_order_texts.proofs.ReachableElementLemmas.{reachable-shape, reachable-leads, other_part}
 
 -- ---- bits of a lower half
 

@@ -8,7 +8,7 @@ use Rattle.icu_order_levels.specs.Numbers.{run_weights}
 use Rattle.icu_table_entries.specs.Elements.{Element, of_primary, of_secondary}
 use Rattle.icu_table_data.specs.Data.{homed}
 use Rattle.icu_table_data.specs.Final.{final_elements}
-use Rattle.icu_table_data.proofs.ListLemmas.{of_member, weaker}
+use Rattle.icu_table_data.proofs.ListLemmas.{of_member, weaker, all_where}
 use Rattle.icu_table_provider.specs.ReachableTables.{IsReachable}
 use Rattle.icu_table_provider.specs.Tables.{diacritic_of}
 use Rattle.icu_table_provider.specs.CollatorTables.{CollatorTables}
@@ -18,7 +18,7 @@ use Rattle.icu_element_reading.specs.TextParts.{HasParts, NumbersHold}
 use Rattle.icu_element_reading.specs.ReachableTexts.{IsReachableElement, IsNumberElement, IsReachableOrNumber}
 use Rattle.icu_element_reading.proofs.ElementPartLemmas.{elements_of-well_formed, AllReachable-weaker}
 use Rattle.icu_element_reading.proofs.ReadableLemmas.{well_formed_readable, readable_digits}
-use Rattle.icu_element_reading.proofs.ElementSourceLemmas.{all_contained, all_reachable}
+use Rattle.icu_element_reading.proofs.ElementSourceLemmas.{all_reachable}
 use Rattle.icu_element_reading.proofs.ReachableTextLemmas.{reachable_entry, well_formed_tables_reachable}
 use Rattle.icu_element_reading.proofs.DecomposedLemmas.{IsDecomposedText-nfd}
 use Rattle.icu_order_texts.specs.weighting.Collations.{Collation}
@@ -97,7 +97,7 @@ module _ (collation : Collation) (well_formed : IsWellFormedTables collation.tab
     digits = readable_digits all.tables (well_formed_readable all well_formed);
     entries =
         AllReachable-weaker (IsReachable all.tables) (λ home c e. GoesBefore (final_elements (homed home e) c)) all.tables
-        (λ home c e reachable. reachable_go (final_elements (homed home e) c) (all_contained HasReachablePrimary (final_elements (homed home e) c)
+        (λ home c e reachable. reachable_go (final_elements (homed home e) c) (all_where HasReachablePrimary (final_elements (homed home e) c)
         (λ x member. reachable_primary all x (reachable_entry all.tables x home c e reachable member))))
         (all_reachable all.tables);
     diacritics = λ c read. diacritic_goes (diacritic_of all.tables c);

@@ -1,6 +1,6 @@
 -- Weights of the root keep their order.
 use Rattle.std.proofs.Common.{◌≡◌, ℕ, zero, suc, ◌<◌, ◌≤◌, true, false, ◌==◌, ◌||◌, ◌⊎◌, inl, inr, nat_lt, List, [], ◌∷◌, ◌++◌, length, take, Option, Some, None, if◌then◌else◌, ap, sym, subst, ◌∙◌, arith}
-use Rattle.std.proofs.lemmas.Bool.{true≢false}
+use Rattle.std.proofs.lemmas.Bool.{true≢false, ltb-true}
 use Rattle.std.proofs.lemmas.Bool.Decides.{nat_tests}
 use Rattle.icu_options.specs.declared.settings.Strength.{Strength}
 use Rattle.icu_options.specs.declared.settings.Strength.TheVariants.{Primary, Secondary, Tertiary, Quaternary, Identical}
@@ -42,9 +42,6 @@ same_number v w e = ap number e
 not_rooted : (k w : ℕ) → Tailored k ≡ Rooted w → ⊥
 not_rooted k w e = cc
 
-less_from : (n u : ℕ) → nat_lt n u ≡ true → n < u
-less_from n u e = grind (arith, nat_tests)
-
 greater_from : (n u : ℕ) → (n == u) ≡ false → nat_lt n u ≡ false → u < n
 greater_from n u e f = grind (arith, nat_tests)
 
@@ -76,7 +73,7 @@ ascends_rooted n (Rooted u ∷ xs) (greater, s) =
     let later : List SymbolicWeight = if nat_lt n u then Rooted n ∷ Rooted u ∷ xs else Rooted u ∷ with_rooted n xs in
     either Ascends (n == u) (Rooted u ∷ xs) later (λ _. (greater, s))
     (λ other. either Ascends (nat_lt n u) (Rooted n ∷ Rooted u ∷ xs) (Rooted u ∷ with_rooted n xs)
-    (λ less. (λ t a. above_new (less_from n u less) t a, (greater, s)))
+    (λ less. (λ t a. above_new (ltb-true n u less) t a, (greater, s)))
     (λ no. (λ t a. above_old (greater_from n u other no) t a, ascends_rooted n xs s))) where
       above_new : n < u → (t : ℕ) → IsAmongWeights (Rooted t) (Rooted u ∷ xs) → n < t
       above_new less t (inl e) = let same = same_number u t e in omega (arith, less, same)

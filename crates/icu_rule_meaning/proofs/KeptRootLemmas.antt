@@ -28,13 +28,13 @@ second_of : {A : Type 0} (b : Bool) (x y : A) → b ≡ false → (if b then x e
 second_of true x y e = cc
 second_of false x y e = refl
 
-before_keeps : (root : Root) (before : Option Strength) (place : ResetPlace) (state : TailoringState)
+pub before_keeps : (root : Root) (before : Option Strength) (place : ResetPlace) (state : TailoringState)
     → (reset_step root before place state).mappings ≡ state.mappings
 unfolding reset_step before_step
 before_keeps root None place state = refl
 before_keeps root (Some strength) place state = refl
 
-strength_keeps : (strength : Strength) (state : TailoringState) → (strength_step strength state).mappings ≡ state.mappings
+pub strength_keeps : (strength : Strength) (state : TailoringState) → (strength_step strength state).mappings ≡ state.mappings
 unfolding difference_step
 strength_keeps Primary state = refl
 strength_keeps Secondary state = refl
@@ -66,27 +66,27 @@ state_keeps root state (rule ∷ rules) c e =
 
 -- ---- what a match leaves is of the text
 
-all_append : (P : ℕ → Type 0) (xs ys : List ℕ) → AllByRecursion P xs → AllByRecursion P ys → AllByRecursion P (xs ++ ys)
+pub all_append : (P : ℕ → Type 0) (xs ys : List ℕ) → AllByRecursion P xs → AllByRecursion P ys → AllByRecursion P (xs ++ ys)
 all_append P [] ys p q = q
 all_append P (x ∷ xs) ys (p, ps) q = (p, all_append P xs ys ps q)
 
-all_drop : (P : ℕ → Type 0) (n : ℕ) (xs : List ℕ) → AllByRecursion P xs → AllByRecursion P (drop n xs)
+pub all_drop : (P : ℕ → Type 0) (n : ℕ) (xs : List ℕ) → AllByRecursion P xs → AllByRecursion P (drop n xs)
 all_drop P zero xs p = p
 all_drop P (suc n) [] p = p
 all_drop P (suc n) (x ∷ xs) (p, ps) = all_drop P n xs ps
 
-one_of : (P : ℕ → Type 0) (b : Bool) (m n : SymbolicMatch) → AllByRecursion P m.rest → AllByRecursion P n.rest
+pub one_of : (P : ℕ → Type 0) (b : Bool) (m n : SymbolicMatch) → AllByRecursion P m.rest → AllByRecursion P n.rest
     → AllByRecursion P (if b then m else n).rest
 one_of P true m n p q = p
 one_of P false m n p q = q
 
-found_or : (P : ℕ → Type 0) (o : Option SymbolicMapping) (some : SymbolicMapping → SymbolicMatch) (none : SymbolicMatch)
+pub found_or : (P : ℕ → Type 0) (o : Option SymbolicMapping) (some : SymbolicMapping → SymbolicMatch) (none : SymbolicMatch)
     → ((m : SymbolicMapping) → AllByRecursion P (some m).rest) → AllByRecursion P none.rest
     → AllByRecursion P (elim o as (λ _. SymbolicMatch) [ Some m ↦ some m | None ↦ none ]).rest
 found_or P (Some m) some none p q = p m
 found_or P None some none p q = q
 
-marks_leave : (P : ℕ → Type 0) (mappings : List SymbolicMapping) (found : SymbolicMapping) (passed text : List ℕ)
+pub marks_leave : (P : ℕ → Type 0) (mappings : List SymbolicMapping) (found : SymbolicMapping) (passed text : List ℕ)
     → AllByRecursion P passed → AllByRecursion P text → AllByRecursion P (joined_marks mappings found passed text).rest
 unfolding joined_marks
 marks_leave P mappings found passed [] p q = p
@@ -106,7 +106,7 @@ marks_leave P mappings found passed (m ∷ text) p (q, qs) =
     (found_or P (mapping_with mappings (found.suffix ++ m ∷ [])) (λ longer. joined_marks mappings longer passed text)
     passed_over (λ longer. marks_leave P mappings longer passed text p qs) over))
 
-match_leaves : (P : ℕ → Type 0) (mappings : List SymbolicMapping) (text : List ℕ) → AllByRecursion P text
+pub match_leaves : (P : ℕ → Type 0) (mappings : List SymbolicMapping) (text : List ℕ) → AllByRecursion P text
     → AllByRecursion P (match_by mappings text).rest
 match_leaves P mappings text p =
     let none : SymbolicMatch = record { elements = []; suffix = []; rest = text } in

@@ -2,7 +2,7 @@ mod ComputedRules
 mod SmallRoot
 mod WorkedDifferences
 mod WorkedTailorings
-mod KeptRootLemmas
+pub mod KeptRootLemmas
 pub mod TreeLemmas
 mod WholeElements
 mod WholeStates

@@ -1,6 +1,6 @@
 -- Rules put weights between others, and move none.
-use Rattle.std.proofs.Common.{◌≡◌, ℕ, Bool, true, false, ◌==◌, ◌&&◌, inl, inr, nat_lt, List, [], ◌∷◌, ◌++◌, take, Option, Some, None, if◌then◌else◌, refl, ap, sym, subst, ◌∙◌}
-use Rattle.std.proofs.lemmas.Bool.{eqb-true, eq-eqb}
+use Rattle.std.proofs.Common.{◌≡◌, ℕ, Bool, true, false, ◌==◌, inl, inr, nat_lt, List, [], ◌∷◌, ◌++◌, take, Option, Some, None, if◌then◌else◌, refl, ap, sym, subst, ◌∙◌}
+use Rattle.std.proofs.lemmas.Bool.{eqb-true, eq-eqb, and_parts}
 use Rattle.icu_options.specs.declared.settings.Strength.{Strength}
 use Rattle.icu_options.specs.declared.settings.Strength.TheVariants.{Primary, Secondary, Tertiary, Quaternary, Identical}
 use Rattle.unicode_normalization.specs.Forms.{nfd}
@@ -30,16 +30,12 @@ pub is_itself : (w : SymbolicWeight) → is_same_weight w w ≡ true
 is_itself (Rooted w) = eq-eqb w w refl
 is_itself (Tailored k) = eq-eqb k k refl
 
-both_are : (a b : Bool) → (a && b) ≡ true → (a ≡ true) × (b ≡ true)
-both_are true b e = (refl, e)
-both_are false b e = cc
-
 pub same_weights_are : (vs ws : List SymbolicWeight) → are_same_weights vs ws ≡ true → vs ≡ ws
 same_weights_are [] [] e = refl
 same_weights_are [] (w ∷ ws) e = cc
 same_weights_are (v ∷ vs) [] e = cc
 same_weights_are (v ∷ vs) (w ∷ ws) e =
-    let (first, rest) = both_are (is_same_weight v w) (are_same_weights vs ws) e in
+    let (first, rest) = and_parts (is_same_weight v w) (are_same_weights vs ws) e in
     ap (λ x. x ∷ vs) (same_weight_is v w first) ∙ ap (λ xs. w ∷ xs) (same_weights_are vs ws rest)
 
 pub are_themselves : (ws : List SymbolicWeight) → are_same_weights ws ws ≡ true

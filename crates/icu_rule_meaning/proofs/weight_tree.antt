@@ -2,7 +2,7 @@ mod SiblingLemmas
 mod ParentOrderLemmas
 mod ListedTreeLemmas
 mod TreeLoopLemmas
-mod CountingLemmas
+pub mod CountingLemmas
 mod RuleStateLemmas
 mod PositionLemmas
 mod BegunParentLemmas

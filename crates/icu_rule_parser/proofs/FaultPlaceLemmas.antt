@@ -1,6 +1,7 @@
 -- Where a part of a statement is at fault.
-use Rattle.std.proofs.Common.{ℕ, Bool, true, false, not, ◌≡◌, inl, inr, List, [], ◌∷◌, ◌++◌, ap, ◌∙◌, sym, refl, subst, arith}
+use Rattle.std.proofs.Common.{ℕ, Bool, true, false, ◌≡◌, inl, inr, List, [], ◌∷◌, ◌++◌, ap, ◌∙◌, sym, refl, subst, arith}
 use Rattle.std.proofs.lemmas.List.{append-nil}
+use Rattle.std.proofs.lemmas.Bool.{not-true}
 use Rattle.icu_rule_parser.specs.declared.relations.Sign.{Sign}
 use Rattle.icu_rule_parser.specs.declared.resets.Said.{Said}
 use Rattle.icu_rule_parser.specs.declared.resets.Said.TheVariants as said_by
@@ -38,10 +39,6 @@ opens_next {text} {old} {after} {opened} within true cs h n o before taken = (
 )
 opens_next {text} {old} {after} {opened} within false cs h n o before taken =
     subst (λ p. OpensIn text p) (sym (o refl)) before
-
-pub not_true : (b : Bool) → not b ≡ true → b ≡ false
-not_true true h = sym h
-not_true false h = refl
 
 pub string_fault : (e : UnplacedError) {text rest : List ℕ} (cs : List ℕ) (within : Bool) → TakesCharacters false text cs within rest → IsHere e rest → IsInString e text
 string_fault NoMemory cs within taken h = tt

@@ -1,7 +1,7 @@
 -- Statements, taken one at a time.
-use Rattle.std.proofs.Common.{ℕ, true, false, ◌≡◌, inl, inr, List, [], ◌∷◌, ◌++◌, length, ap, ◌∙◌, sym, refl, subst, append_assoc, arith}
+use Rattle.std.proofs.Common.{ℕ, true, false, ◌≡◌, inl, inr, List, [], ◌∷◌, ◌++◌, ap, ◌∙◌, sym, refl, subst, append_assoc}
 use Rattle.std.specs.Prelude.{codes}
-use Rattle.std.proofs.lemmas.List.{append-nil}
+use Rattle.std.proofs.lemmas.List.{append-nil, nil_from_length}
 use Rattle.icu_options.specs.declared.settings.Strength.{Strength}
 use Rattle.icu_rule_parser.specs.declared.chain.Chain.{Chain}
 use Rattle.icu_rule_parser.specs.declared.chain.Chain.TheVariants as chains
@@ -117,7 +117,3 @@ all_told {text} {rest} {chain} items none told ordered complete =
       each = subst (λ ss. AreStatements ss p.0) (append-nil items) p.2;
       in_order = subst (λ ss. AreInOrder chains.Outside ss) (append-nil items) (ordered [] complete);
     }
-
-pub nothing_of : (xs : List ℕ) → length xs ≡ 0 → xs ≡ []
-nothing_of [] h = refl
-nothing_of (x ∷ xs) h = absurd (omega arith)

@@ -1,8 +1,9 @@
 -- The keys that are collected: those that were there, and those of the elements of all entries that a walk comes to.
-use Rattle.std.proofs.Common.{◌≡◌, ℕ, ◌+◌, ◌-◌, ◌<◌, ◌≤◌, ◌⊎◌, inl, inr, Bool, true, false, ◌&&◌, nat_lt, nat_le, List, [], ◌∷◌, ◌++◌, length, map, fold, if◌then◌else◌, slice_index, refl, sym, ap, ◌∙◌, subst, arith, IsTrue, ◌↔◌, Result, Ok, Err, OnOk, append_assoc, append-nil}
+use Rattle.std.proofs.Common.{◌≡◌, ℕ, ◌+◌, ◌-◌, ◌<◌, ◌≤◌, ◌⊎◌, inl, inr, Bool, true, false, ◌&&◌, nat_lt, nat_le, List, [], ◌∷◌, ◌++◌, length, map, fold, if◌then◌else◌, slice_index, refl, sym, ap, ◌∙◌, subst, arith, IsTrue, ◌↔◌, append_assoc, append-nil}
 use Rattle.std.proofs.lemmas.Bool.{cases_lt, and_parts, and_from}
 use Rattle.std.proofs.lemmas.Bool.Decides.{nat_tests}
 use Rattle.std.proofs.lemmas.List.Elements.{Contains-append_left, Contains-append_right, Contains-append_cases, Contains-push, Contains-push_cases}
+use Rattle.icu_table_data.proofs.CollectedWeightLemmas.{given-parts, given-from}
 use Rattle.std.specs.List.{AllByRecursion, Contains}
 use Rattle.icu_table_entries.specs.declared.entry.EntryKind.{EntryKind}
 use Rattle.icu_table_entries.specs.declared.entry.EntryKind.TheVariants.{Implicit}
@@ -25,14 +26,6 @@ use Rattle.icu_rule_root.specs.inner.KeyWindows.{element_key}
 use Rattle.icu_rule_root.specs.inner.KeyCollections.{stated_elements, with_key, with_keys, IsKeyOf, IsRootKey, IsStatedAtJamo, IsDiacriticAt, HoldsBelow, IsJamoKey, IsDiacriticKey}
 
 -- ---- the elements of an entry
-
-given-parts : (b : Bool) (xs : List Element) (x : Element) → Contains (if b then xs else []) x → IsTrue b × Contains xs x
-given-parts true xs x h = (refl, h)
-given-parts false xs x h = absurd (nothing_in x h)
-
-given-from : (b : Bool) (xs : List Element) (x : Element) → IsTrue b → Contains xs x → Contains (if b then xs else []) x
-given-from true xs x is h = h
-given-from false xs x is h = cc
 
 stated_is : (home : Data) (c e : ℕ) (x : Element) → Contains (stated_elements home c e) x → IsTrue (is_stated home c e) × Contains (final_elements (homed home e) c) x
 unfolding stated_elements
@@ -293,8 +286,3 @@ keys_of_root tables a b c root jamo diacritics k = (
     | inr (inr placed) ↦ (diacritics k).1 (inr (diacritic_at tables.diacritics k (record { element = h.element; holds = placed; is = h.is })))
   ],
 )
-
--- where a call ends well
-pub on_ok : {X E : Type 0} (A B : Type 0) → (A → B) → (r : Result X E) → OnOk r A → OnOk r B
-on_ok A B f (Ok x) h = f h
-on_ok A B f (Err e) h = tt

@@ -1,7 +1,6 @@
 -- What stands at a place among ascending keys is the next weight of a window.
 use Rattle.std.proofs.Common.{◌≡◌, ℕ, zero, suc, ◌+◌, ◌-◌, ◌<◌, ◌≤◌, ◌⊎◌, inl, inr, Bool, true, false, ◌==◌, ◌&&◌, nat_lt, nat_le, List, [], ◌∷◌, length, get_or, slice_index, Option, Some, None, if◌then◌else◌, unwrap_or, min, max, refl, sym, ap, ◌∙◌, subst, arith}
-use Rattle.std.proofs.lemmas.Bool.{cases_lt, lt-ltb, le-ltb, le-leb, lt-leb}
-use Rattle.std.proofs.lemmas.Bool.Decides.{nat_tests}
+use Rattle.std.proofs.lemmas.Bool.{cases_lt, lt-ltb, le-ltb, le-leb, lt-leb, eqb-true}
 use Rattle.std.proofs.lemmas.List.{get_or_default}
 use Rattle.std.proofs.lemmas.List.Elements.{recursion_from_All, All-from_get_or}
 use Rattle.std.proofs.lemmas.List.Sorted.{IsNonDecreasingBy-from_all_adjacent}
@@ -157,13 +156,10 @@ pub below_zero : (found : Option ℕ) (ws : List ℕ) → last_below found ws 0 
 below_zero found [] = below_none found 0
 below_zero found (v ∷ ws) = below_ended found v 0 ws (omega arith)
 
-pub same_number : (v w : ℕ) → (v == w) ≡ true → v ≡ w
-same_number v w h = grind (arith, nat_tests)
-
 -- ---- a weight before others
 
 first_by : (b : Bool) (x y w : ℕ) (ys : List ℕ) → (y == x) ≡ b → w < x → first_above (if b then y ∷ ys else x ∷ y ∷ ys) w ≡ Some x
-first_by true x y w ys same less = above_found y w ys (subst (λ v. w < v) (sym (same_number y x same)) less) ∙ ap Some (same_number y x same)
+first_by true x y w ys same less = above_found y w ys (subst (λ v. w < v) (sym (eqb-true y x same)) less) ∙ ap Some (eqb-true y x same)
 first_by false x y w ys same less = above_found x w (y ∷ ys) less
 
 first_front : (x w : ℕ) (ws : List ℕ) → w < x → first_above (with_front (Some x) ws) w ≡ Some x
@@ -183,7 +179,7 @@ ended_by false found x w ws most is = below_ended found x w ws most
 
 more_by : (b : Bool) (found : Option ℕ) (x y w : ℕ) (ys : List ℕ) → (y == x) ≡ b → x < w → last_below found (if b then y ∷ ys else x ∷ y ∷ ys) w ≡ last_below (Some x) (y ∷ ys) w
 more_by true found x y w ys same less =
-    let small : y < w = subst (λ v. v < w) (sym (same_number y x same)) less in
+    let small : y < w = subst (λ v. v < w) (sym (eqb-true y x same)) less in
     below_more found y w ys small ∙ sym (below_more (Some x) y w ys small)
 more_by false found x y w ys same less = below_more found x w (y ∷ ys) less
 

@@ -1,7 +1,8 @@
 -- A list with the weights of a level in keys has the weights of the root there.
-use Rattle.std.proofs.Common.{◌≡◌, ℕ, Bool, true, false, List, ◌↔◌, refl, sym, ◌∙◌, nat_eq, eqb-true}
+use Rattle.std.proofs.Common.{◌≡◌, ℕ, true, List, ◌↔◌, sym, ◌∙◌, nat_eq, eqb-true}
 use Rattle.std.proofs.lemmas.Cmp.{nat_eq_equiv}
 use Rattle.std.proofs.lemmas.Map.Views.{list_any-from_Contains, Contains-from_any}
+use Rattle.icu_table_data.proofs.CollectedWeightLemmas.{same_bool}
 use Rattle.std.specs.List.{Contains}
 use Rattle.icu_rule_meaning.specs.TailoredRoots.{Root}
 use Rattle.icu_rule_root.specs.declared.key_window.KeyLevel.{KeyLevel}
@@ -10,12 +11,6 @@ use Rattle.icu_rule_root.specs.CheckedRoots.{AreAll, IsSecondaryOfRoot, IsTertia
 use Rattle.icu_rule_root.specs.inner.KeyWindows.{low_parts, weights_by_keys}
 use Rattle.icu_rule_root.specs.inner.LevelLists.{HasLevelWeights, has_number}
 use Rattle.icu_rule_root.proofs.RootWeightLemmas.{secondaries_are, tertiaries_are}
-
--- two tests are the same if each is true where the other one is
-same_by : (a b : Bool) → (a ≡ true → b ≡ true) → (b ≡ true → a ≡ true) → a ≡ b
-same_by true b to from = sym (to refl)
-same_by false true to from = from refl
-same_by false false to from = refl
 
 found : (ws : List ℕ) (w : ℕ) → Contains ws w → has_number ws w ≡ true
 found ws w has = list_any-from_Contains nat_eq_equiv w ws has
@@ -26,7 +21,7 @@ contained ws w has = Contains-from_any eqb-true w ws has
 -- lists with the same members have the same numbers
 pub same_numbers : (vs ws : List ℕ) (w : ℕ) → (Contains vs w ↔ Contains ws w) → has_number vs w ≡ has_number ws w
 same_numbers vs ws w same =
-    same_by (has_number vs w) (has_number ws w) (λ h. found ws w (same.0 (contained vs w h))) (λ h. found vs w (same.1 (contained ws w h)))
+    same_bool (has_number vs w) (has_number ws w) (λ h. found ws w (same.0 (contained vs w h))) (λ h. found vs w (same.1 (contained ws w h)))
 
 all_of : (level : KeyLevel) (keys ws : List ℕ) (P : ℕ → Type 0) → HasLevelWeights level keys ws
     → ((w : ℕ) → Contains (low_parts level keys) w ↔ P w) → AreAll P ws

@@ -1,6 +1,6 @@
 -- The weights that keys have in a window ascend, and are those of the root's elements.
 use Rattle.std.proofs.Common.{◌≡◌, ◌≢◌, ℕ, zero, suc, ◌+◌, ◌-◌, ◌*◌, ◌/◌, ◌^◌, ◌<◌, ◌≤◌, inl, inr, Bool, true, false, ◌&&◌, ◌==◌, nat_lt, List, [], ◌∷◌, slice_index, Option, Some, None, if◌then◌else◌, refl, sym, ap, subst, arith, IsTrue, ◌↔◌, not, filter, map, ◌%◌}
-use Rattle.std.proofs.lemmas.Bool.{and_parts, lt-ltb, cases_lt, le-ltb}
+use Rattle.std.proofs.lemmas.Bool.{and_parts, lt-ltb, cases_lt, le-ltb, eqb-true}
 use Rattle.std.proofs.lemmas.Bool.Decides.{nat_tests}
 use Rattle.std.proofs.lemmas.Nat.{and_le_r}
 use Rattle.std.specs.List.{AllByRecursion, Contains}
@@ -22,7 +22,7 @@ use Rattle.icu_rule_root.specs.RootElements.{IsRootElement, IsRootWeight, first_
 use Rattle.icu_rule_root.specs.inner.KeyCollections.{IsRootKey}
 use Rattle.icu_rule_root.specs.inner.KeyPlaces.{IsWindow}
 use Rattle.icu_rule_root.specs.inner.KeyWindows.{element_key, key_to, low_part, low_parts, with_front, window_weight, tertiary_window, secondary_window, weights_by_keys, weights_in_window, window_below}
-use Rattle.icu_rule_root.proofs.KeyPlaceLemmas.{ClimbFrom, Steps, steps, after_next, same_number, IsInside, weight_inside, weight_cases, all_weights, weights_none, weights_front, with_inside, with_none}
+use Rattle.icu_rule_root.proofs.KeyPlaceLemmas.{ClimbFrom, Steps, steps, after_next, IsInside, weight_inside, weight_cases, all_weights, weights_none, weights_front, with_inside, with_none}
 
 -- ---- a weight before others
 
@@ -36,7 +36,7 @@ front_keeps (Some x) v [] has = at_rest x v [] has
 front_keeps (Some x) v (y ∷ ys) has = keeps_by (y == x) x v (y ∷ ys) has
 
 has_by : (b : Bool) (x y : ℕ) (ys : List ℕ) → (y == x) ≡ b → Contains (if b then y ∷ ys else x ∷ y ∷ ys) x
-has_by true x y ys same = subst (Contains (y ∷ ys)) (same_number y x same) (at_first y ys)
+has_by true x y ys same = subst (Contains (y ∷ ys)) (eqb-true y x same) (at_first y ys)
 has_by false x y ys same = at_first x (y ∷ ys)
 
 front_has : (x : ℕ) (ws : List ℕ) → Contains (with_front (Some x) ws) x

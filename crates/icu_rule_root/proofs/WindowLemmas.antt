@@ -1,6 +1,7 @@
 -- Windows below weights that rules may have tailored, and what is looked for among mappings.
-use Rattle.std.proofs.Common.{◌≡◌, ℕ, suc, ◌+◌, ◌-◌, ◌<◌, ◌≤◌, Bool, true, false, List, [], ◌∷◌, length, get_or, map, drop, Option, Some, None, unwrap_or, if◌then◌else◌, refl, sym, ap, ◌∙◌, arith}
+use Rattle.std.proofs.Common.{◌≡◌, ℕ, ◌+◌, ◌-◌, ◌<◌, ◌≤◌, Bool, true, false, List, [], ◌∷◌, length, get_or, map, drop, Option, Some, None, unwrap_or, if◌then◌else◌, refl, sym, ap, ◌∙◌, arith}
 use Rattle.std.proofs.lemmas.List.{drop_more}
+use Rattle.icu_rule_meaning.proofs.weight_tree.CountingLemmas.{sub_one}
 use Rattle.icu_table_entries.specs.Elements.{Element}
 use Rattle.icu_rule_meaning.specs.declared.symbolic.SymbolicWeight.{SymbolicWeight}
 use Rattle.icu_rule_meaning.specs.declared.symbolic.SymbolicWeight.TheVariants.{Rooted, Tailored}
@@ -40,9 +41,6 @@ no_window (p ∷ s ∷ []) many = absurd (omega (arith, many))
 no_window (p ∷ s ∷ t ∷ ws) many = deeper p s t ws
 
 -- ---- the last of weights
-
-sub_one : (n : ℕ) → suc n - 1 ≡ n
-sub_one n = omega arith
 
 pub ends_is : (xs : List SymbolicWeight) (d : SymbolicWeight) → 0 < length xs → is_same_weight (get_or xs (length xs - 1) d) (Rooted 0) ≡ ends_with_zero xs
 ends_is [] d some = absurd (omega arith)

@@ -21,9 +21,6 @@ by_last (c ∷ d ∷ e ∷ xs) y z many before last =
     (before ∙ further c (length (c ∷ d ∷ e ∷ xs) - 2) (length (d ∷ e ∷ xs) - 2) (d ∷ e ∷ xs) (omega arith))
     (last ∙ further c (length (c ∷ d ∷ e ∷ xs) - 1) (length (d ∷ e ∷ xs) - 1) (d ∷ e ∷ xs) (omega arith))
 
-pub or_left : (a b : Bool) → a ≡ true → (a || b) ≡ true
-or_left a b e = rw e refl
-
 pub or_right : (a b : Bool) → a ≡ false → (a || b) ≡ b
 or_right a b e = rw e refl
 

@@ -1,5 +1,5 @@
 mod StateLemmas
-mod TouchedRuleLemmas
+pub mod TouchedRuleLemmas
 mod RuleLoopLemmas
 mod ContractionEnds
 mod WeightMakerLemmas

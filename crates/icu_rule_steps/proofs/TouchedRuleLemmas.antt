@@ -3,6 +3,7 @@ use Rattle.std.proofs.Common.{◌≡◌, ℕ, Bool, true, false, ◌||◌, List,
 use Rattle.std.proofs.lemmas.Grind.{flat_map-append}
 use Rattle.std.proofs.lemmas.List.{append-nil}
 use Rattle.std.proofs.lemmas.List.Folds.{list_any-append}
+use Rattle.std.proofs.Math.Bool.{or-false}
 use Rattle.unicode_normalization.specs.Forms.{nfd}
 use Rattle.icu_options.specs.declared.settings.Strength.{Strength}
 use Rattle.icu_rule_parser.specs.declared.statement.CharacterRange.{CharacterRange}
@@ -11,11 +12,7 @@ use Rattle.icu_rule_meaning.specs.RootLaws.{string_begins}
 use Rattle.icu_rule_steps.specs.declared.symbolic_mappings.kept_mappings.Mappings.{Mappings}
 use Rattle.icu_rule_steps.specs.symbolic_mappings.TouchedCharacters.{root_of, HasTouched, TouchesByRule, TouchesByRules, TouchesMore, is_related, suppressed_ranges, relates, suppressed_by, suppressed_in, touched_in}
 
-or_false : (b : Bool) → (b || false) ≡ b
-or_false true = refl
-or_false false = refl
-
-or_assoc : (a b c : Bool) → ((a || b) || c) ≡ (a || (b || c))
+pub or_assoc : (a b c : Bool) → ((a || b) || c) ≡ (a || (b || c))
 or_assoc true b c = refl
 or_assoc false b c = refl
 
@@ -23,7 +20,7 @@ module _ {R : Type 0} where
   -- where mappings are the same, nothing more is touched
   pub touches_nothing : (old new : Mappings R) → new ≡ old → TouchesMore (λ _. false) [] old new
   touches_nothing old new same = record {
-    touched = λ c. ap (λ (m : Mappings R). touched_in m c) same ∙ sym (or_false (touched_in old c));
+    touched = λ c. ap (λ (m : Mappings R). touched_in m c) same ∙ sym (or-false (touched_in old c));
     suppressed = ap (λ (m : Mappings R). suppressed_in m) same ∙ sym (append-nil (suppressed_in old));
     over = ap (λ (m : Mappings R). root_of m) same;
   }
@@ -31,7 +28,7 @@ module _ {R : Type 0} where
   -- a rule alone
   pub touches_one : (rule : Rule) (old new : Mappings R) → TouchesByRule rule old new → TouchesByRules (rule ∷ []) old new
   touches_one rule old new by = record {
-    touched = λ c. by.touched c ∙ ap (λ b. touched_in old c || b) (sym (or_false (relates c rule)));
+    touched = λ c. by.touched c ∙ ap (λ b. touched_in old c || b) (sym (or-false (relates c rule)));
     suppressed = by.suppressed ∙ ap (λ rs. suppressed_in old ++ rs) (sym (append-nil (suppressed_ranges rule)));
     over = by.over;
   }
@@ -130,7 +127,7 @@ module _ {R : Type 0} where
       → IsTouchedTo whole all root now rest → ((c : ℕ) → touched_in now c ≡ whole c) × (suppressed_in now ≡ all)
   touched_end whole all root now rest e to =
       let touched : (c : ℕ) → touched_in now c ≡ whole c = λ c.
-      sym (or_false (touched_in now c)) ∙ ap (λ rs. touched_in now c || is_related rs c) (sym e) ∙ to.touched c in
+      sym (or-false (touched_in now c)) ∙ ap (λ rs. touched_in now c || is_related rs c) (sym e) ∙ to.touched c in
       let suppressed : suppressed_in now ≡ all =
       sym (append-nil (suppressed_in now)) ∙ ap (λ rs. suppressed_in now ++ suppressed_by rs) (sym e) ∙ to.suppressed in
       (touched, suppressed)

@@ -39,7 +39,7 @@ marked old primary p one_byte is =
 
 -- ---- no marks
 
-unmarked : (n l : ℕ) → get_or (replicate n false) l false ≡ false
+pub unmarked : (n l : ℕ) → get_or (replicate n false) l false ≡ false
 unmarked n l = grind (arith, common_steps)
 
 none_lone : (p : ℕ) → is_lone (replicate 256 false) p ≡ false

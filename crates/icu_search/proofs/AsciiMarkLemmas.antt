@@ -4,6 +4,7 @@ use Rattle.std.specs.Prelude.{IfSome}
 use Rattle.std.proofs.lemmas.Bool.{cases_eq, cases_lt, and_from, and_parts, and_right, false≢true}
 use Rattle.std.proofs.lemmas.Grind.{common_steps}
 use Rattle.std.proofs.lemmas.List.{append-nil, get_or-set_other, get_or-set_same, get_or_past, length-set}
+use Rattle.icu_search.proofs.ApartLeadLemmas.{unmarked}
 use Rattle.ucd_normal.specs.declared.forms.Form.TheVariants.{Nfd}
 use Rattle.unicode_normalization.specs.Decompose.{decompose}
 use Rattle.unicode_normalization.specs.Forms.{nfd}
@@ -29,9 +30,6 @@ char_marked old c k is =
       | inl same ↦ inl same
       | inr other ↦ inr (and_from (nat_lt k 0x80) _ parts.0 (sym (get_or-set_other old c k true false other) ∙ parts.1))
     ]
-
-unmarked : (n l : ℕ) → get_or (replicate n false) l false ≡ false
-unmarked n l = grind (arith, common_steps)
 
 pub none_marked : (is : ℕ → Type 0) → AllMarked is (replicate 128 false)
 none_marked is = λ c marked. absurd (false≢true (sym (and_right (nat_lt c 0x80) _ (unmarked 128 c)) ∙ marked))

@@ -4,6 +4,8 @@ use Rattle.std.specs.Prelude.{slice_range}
 use Rattle.std.specs.Option.{option_map}
 use Rattle.std.proofs.lemmas.Bool.{cases_Bool, cases_lt, and_from, true≢false}
 use Rattle.std.proofs.lemmas.List.{drop_all, drop_at, drop-drop, ext_get_or, get_or-drop, get_or-take, length-drop, length-take-le, take_at, take-append-drop, take-append-le}
+use Rattle.std.proofs.Math.Bool.{and-false}
+use Rattle.icu_search_places.proofs.FoundLemmas.{ends_in_place}
 use Rattle.icu_element_reading.specs.TextElements.{Reading}
 use Rattle.icu_order_texts.specs.TextOrder.{reading_by}
 use Rattle.icu_search_places.specs.LeastMatches.{span, shortest_from, TellsLeastStop}
@@ -18,9 +20,9 @@ use Rattle.icu_search.specs.inner.PartOutcomes.{ends_match, equals_pattern}
 use Rattle.icu_search.specs.inner.SearchCuts.{BeginsPieceAt, EndsPieceAt}
 use Rattle.icu_search.proofs.CountedWalks.{CountedTo, total_is, weight_count}
 use Rattle.icu_search.proofs.LongerPartLemmas.{too_many, unlike_count}
-use Rattle.icu_search.proofs.PartWalks.{empty_matches_not, matches_there, never_last, no_place, not_ended}
+use Rattle.icu_search.proofs.PartWalks.{empty_matches_not, matches_there, no_place, not_ended}
 use Rattle.icu_search.proofs.ShortestLemmas.{none_found}
-use Rattle.icu_search.proofs.TextCutLemmas.{first_place, last_place, places_from, places_to, taken_twice}
+use Rattle.icu_search.proofs.TextCutLemmas.{first_place, places_from, places_to, taken_twice}
 
 -- ---- texts that repeat themselves
 
@@ -98,7 +100,7 @@ module _ (s : Search) where
         | inl place ↦
             let there : is_place reading (front ++ tail) k ≡ true = ap (λ (l : List ℕ). is_place reading l k) (sym is) ∙ place in
             let unlike = none tail piece k (omega (arith, after)) (omega (arith, within, ap length is, length-drop start text)) there in
-            not_ended s text start t (ap (λ b. s.allowed t && b) (ap (equals_pattern s) (ap (take k) is) ∙ unlike) ∙ never_last (s.allowed t))
+            not_ended s text start t (ap (λ b. s.allowed t && b) (ap (equals_pattern s) (ap (take k) is) ∙ unlike) ∙ and-false (s.allowed t))
         | inr not ↦ no_place s text start t not
       ]
 
@@ -174,7 +176,7 @@ module _ (s : Search) where
     none_begins = λ tail piece k some fits place.
         elim (cases_lt n k) as (λ _. equals_pattern s (take k (front ++ tail)) ≡ false) [
           | inl behind ↦
-              let cut : is_place reading (front ++ tail) n ≡ true = places_in_front front tail n piece (omega (arith, size)) ∙ last_place reading front n (sym size) in
+              let cut : is_place reading (front ++ tail) n ≡ true = places_in_front front tail n piece (omega (arith, size)) ∙ ends_in_place reading front n (sym size) in
               let first : take n (front ++ tail) ≡ front = take_at front tail n size in
               too_many s.collation (front ++ tail) s.pattern n k (omega (arith, ordered)) behind fits cut place
               (subst (λ (l : List ℕ). weight_count s.collation s.pattern < weight_count s.collation l) (sym first) many)

@@ -5,6 +5,7 @@ use Rattle.std.specs.Option.{option_map}
 use Rattle.std.proofs.lemmas.Bool.{cases_Bool, cases_lt}
 use Rattle.std.proofs.lemmas.List.{drop_at, drop-append-le, length-drop, take_at}
 use Rattle.std.proofs.Math.Seq.{take-add}
+use Rattle.std.proofs.Math.Bool.{and-false}
 use Rattle.unicode_normalization.specs.Forms.{nfd}
 use Rattle.icu_element_reading.proofs.boundaries.CutLemmas.{boundary_cut}
 use Rattle.icu_element_reading.proofs.boundaries.NfdLemmas.{nfd-nil}
@@ -23,7 +24,7 @@ use Rattle.icu_search.specs.inner.PartOutcomes.{ends_match, equals_pattern}
 use Rattle.icu_search.specs.inner.SearchCuts.{CutsAt, EndsPieceAt}
 use Rattle.icu_search.proofs.FirstWeightLemmas.{primaries_counted, counted-append, nothing}
 use Rattle.icu_search.proofs.LongerPartLemmas.{too_many, unlike_count}
-use Rattle.icu_search.proofs.PartWalks.{matches_there, never_last, no_place, not_ended}
+use Rattle.icu_search.proofs.PartWalks.{matches_there, no_place, not_ended}
 use Rattle.icu_search.proofs.ShortestLemmas.{NoneTo, none_at_start, none_found, none_more, one_found}
 use Rattle.icu_search.proofs.TextCutLemmas.{places_after}
 
@@ -149,14 +150,14 @@ module _ (s : Search) (text : List ℕ) (start : ℕ) where
               (ap (λ b. s.allowed t && b)
               (too_many c (drop start text) s.pattern i j (omega (arith, ordered)) (omega (arith, after, ordered)) (omega (arith, before, length-drop start text)) place_is there
               (omega (arith, many, total_is)))
-              ∙ never_last (s.allowed t))
+              ∙ and-false (s.allowed t))
           | inr not ↦ no_place s text start t not
         ]
 
     pub counted_too_long : weight_count c s.pattern < met + n → option_map (span start) None ≡ shortest_from (is_match s text) start start (length text - start)
     counted_too_long many =
         let unlike : equals_pattern s (slice_range text start (at + 1)) ≡ false = unlike_count c (slice_range text start (at + 1)) s.pattern (λ e. omega (arith, many, total_is, e)) in
-        let not : ends_match s (slice_range text start (at + 1)) (at + 1) ≡ false = ap (λ b. s.allowed (at + 1) && b) unlike ∙ never_last (s.allowed (at + 1)) in
+        let not : ends_match s (slice_range text start (at + 1)) (at + 1) ≡ false = ap (λ b. s.allowed (at + 1) && b) unlike ∙ and-false (s.allowed (at + 1)) in
         let so_far = counted_on not in
         sym (none_found (is_match s text) start (length text) (omega (arith, inside, ordered)) (λ t from to. elim (cases_lt (at + 1) t) as (λ _. is_match s text start t ≡ false) [
           | inl behind ↦ no_longer many t behind to
@@ -170,4 +171,4 @@ module _ (s : Search) (text : List ℕ) (start : ℕ) where
 -- a part with another number of weights than the pattern doesn't match
 pub ends_otherwise : (s : Search) (part : List ℕ) (stop met : ℕ) → met ≡ weight_count s.collation part → (met ≡ weight_count s.collation s.pattern → ⊥) → false ≡ ends_match s part stop
 ends_otherwise s part stop met is other =
-    sym (ap (λ b. s.allowed stop && b) (unlike_count s.collation part s.pattern (λ e. other (is ∙ e))) ∙ never_last (s.allowed stop))
+    sym (ap (λ b. s.allowed stop && b) (unlike_count s.collation part s.pattern (λ e. other (is ∙ e))) ∙ and-false (s.allowed stop))

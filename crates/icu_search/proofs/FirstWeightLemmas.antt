@@ -6,9 +6,10 @@ use Rattle.std.specs.declared.cmp.Ordering.TheVariants.{Equal}
 use Rattle.std.proofs.lemmas.Bool.{cases_Bool, le-leb, lt-leb, lt-ltb, ne_eqb, or_right}
 use Rattle.std.proofs.lemmas.List.{get_or-map, get_or_append_left, length-map, map-append, take-append-drop}
 use Rattle.std.proofs.Math.Seq.{get_or-append_seam, take-suc}
+use Rattle.icu_search_places.proofs.FoundLemmas.{eq_is}
+use Rattle.icu_order_texts.proofs.HandledLemmas.{none_stayed}
 use Rattle.unicode_normalization.specs.Forms.{nfd}
 use Rattle.icu_options.specs.declared.settings.AlternateHandling.{AlternateHandling}
-use Rattle.icu_options.specs.declared.settings.AlternateHandling.TheVariants.{NonIgnorable, Shifted, Blanked}
 use Rattle.icu_table_entries.specs.Elements.{Element}
 use Rattle.icu_table_entries.specs.ElementConditions.{separator_primary}
 use Rattle.icu_element_reading.specs.TextElements.{elements_of}
@@ -21,7 +22,7 @@ use Rattle.icu_order_levels.proofs.Order.{tied_lists}
 use Rattle.icu_table_provider.specs.Reorderings.{Reordering, lead_byte, with_lead, lies_below, moved, reordered}
 use Rattle.icu_table_provider.specs.CollatorTables.{reorder, reorder_by}
 use Rattle.icu_order_texts.specs.TextOrder.{reading_by, lists_by, text_order}
-use Rattle.icu_search.proofs.LongerPartLemmas.{eq_is, first_tied}
+use Rattle.icu_search.proofs.LongerPartLemmas.{first_tied}
 use Rattle.icu_search.specs.inner.FirstWeights.{BeginsOtherwise, BeginsWith, counts, counted_primaries, low}
 
 -- ---- the primary weights of a text are those of its elements that count
@@ -42,11 +43,6 @@ primaries-some : (x : Element) (xs : List Element) → (x.primary == 0) ≡ fals
 unfolding weights
 primaries-some x xs some = ap (λ b. if b then primaries xs else x.primary ∷ primaries xs) some
 
-variable_goes : (handling : AlternateHandling) (p : ℕ) (hs : List HandledElement) → stayed_elements (handled_variable handling p ++ hs) ≡ stayed_elements hs
-variable_goes NonIgnorable p hs = refl
-variable_goes Shifted p hs = refl
-variable_goes Blanked p hs = refl
-
 module _ (handling : AlternateHandling) (last : ℕ) where
   abbrev staying : Element → List Element → List HandledElement
   staying x xs = stayed x ∷ handled handling last false xs
@@ -58,7 +54,7 @@ module _ (handling : AlternateHandling) (last : ℕ) where
   unfolding handled
   variable_first after x xs is =
       ap (λ b. primaries (stayed_elements (if b then handled_variable handling x.primary ++ handled handling last true xs else if after && x.primary == 0 then handled handling last true xs else staying x xs))) is
-      ∙ ap primaries (variable_goes handling x.primary (handled handling last true xs))
+      ∙ ap primaries (none_stayed handling x.primary (handled handling last true xs))
 
   vanished_first : (after : Bool) (x : Element) (xs : List Element) → is_variable last x ≡ false → (after && x.primary == 0) ≡ true → left after (x ∷ xs) ≡ left true xs
   unfolding handled

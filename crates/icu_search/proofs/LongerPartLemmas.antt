@@ -3,9 +3,10 @@ use Rattle.std.proofs.Common.{◌≡◌, ℕ, suc, ◌+◌, ◌-◌, ◌<◌, �
 use Rattle.std.specs.declared.cmp.Ordering.{Ordering}
 use Rattle.std.specs.declared.cmp.Ordering.TheVariants.{Less, Equal, Greater}
 use Rattle.std.specs.Ordering.{is_eq, ordering_then}
-use Rattle.std.proofs.lemmas.Bool.{cases_Bool, cases_lt, ne_eqb, false≢true}
+use Rattle.std.proofs.lemmas.Bool.{cases_Bool, cases_lt, ne_eqb}
 use Rattle.std.proofs.lemmas.List.{take-append-drop, drop_more, drop_all, drop-drop, length-map, append-nil}
 use Rattle.std.proofs.Math.Seq.{take-add}
+use Rattle.icu_search_places.proofs.FoundLemmas.{eq_is}
 use Rattle.unicode_normalization.specs.Forms.{nfd}
 use Rattle.icu_order_levels.specs.Keys.{LevelLists, primaries_order}
 use Rattle.icu_order_levels.proofs.Order.{tied_lists}
@@ -16,11 +17,6 @@ use Rattle.icu_order_texts.specs.weighting.Forms.{compression_of}
 use Rattle.icu_order_texts.specs.TextOrder.{reading_by, lists_by, text_order}
 use Rattle.icu_search_places.specs.SearchPlaces.{is_place, is_place_before}
 use Rattle.icu_search_places.proofs.SearchPartLemmas.{lists_begin, part_has_places}
-
-pub eq_is : (o : Ordering) → is_eq o ≡ true → o ≡ Equal
-eq_is Less h = absurd (false≢true h)
-eq_is Equal h = refl
-eq_is Greater h = absurd (false≢true h)
 
 -- orders in turn are equal only if the first one is
 pub first_tied : (o next : Ordering) → ordering_then o next ≡ Equal → o ≡ Equal

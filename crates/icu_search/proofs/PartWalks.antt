@@ -4,6 +4,7 @@ use Rattle.std.specs.Prelude.{slice_range}
 use Rattle.std.specs.Option.{option_map}
 use Rattle.std.proofs.lemmas.Bool.{cases_Bool, cases_lt, and_from, and_parts, le-leb}
 use Rattle.std.proofs.lemmas.List.{length-drop, take_at, append-nil}
+use Rattle.std.proofs.Math.Bool.{and-false}
 use Rattle.unicode_normalization.specs.Forms.{nfd}
 use Rattle.icu_element_reading.specs.TextElements.{Reading, elements_of}
 use Rattle.icu_order_texts.specs.weighting.Collations.{Collation}
@@ -27,10 +28,6 @@ never_first : (a p e : Bool) → (a && false && p && e) ≡ false
 never_first true p e = refl
 never_first false p e = refl
 
-pub never_last : (a : Bool) → (a && false) ≡ false
-never_last true = refl
-never_last false = refl
-
 none_allowed : (b o p q e : Bool) → (false && b && o && p && q && e) ≡ false
 none_allowed b o p q e = refl
 
@@ -38,10 +35,7 @@ none_allowed b o p q e = refl
 ends_not : (a o p q b e : Bool) → (b && e) ≡ false → (a && b && o && p && q && e) ≡ false
 ends_not false o p q b e h = refl
 ends_not true o p q false e h = refl
-ends_not true o p q true e h = ap (λ (x : Bool). o && p && q && x) h ∙ never_last (o && p && q)
-
-both_hold : (a b : Bool) → (a && b) ≡ true → (a ≡ true) × (b ≡ true)
-both_hold a b h = and_parts a b h
+ends_not true o p q true e h = ap (λ (x : Bool). o && p && q && x) h ∙ and-false (o && p && q)
 
 module _ (s : Search) (text : List ℕ) (start : ℕ) where
   abbrev c : Collation
@@ -69,7 +63,7 @@ module _ (s : Search) (text : List ℕ) (start : ℕ) where
   pub matches_there : (stop : ℕ) → start ≤ stop → s.allowed start ≡ true → is_place (reading_by c) text start ≡ true → is_place (reading_by c) rest (stop - start) ≡ true
       → ends_match s (slice_range text start stop) stop ≡ true → matches start stop ≡ true
   matches_there stop ordered allowed first last ends =
-      let both = both_hold (s.allowed stop) (equals_pattern s (slice_range text start stop)) ends in
+      let both = and_parts (s.allowed stop) (equals_pattern s (slice_range text start stop)) ends in
       and_from _ _ (and_from _ _ (and_from _ _ (and_from _ _ (and_from _ _ allowed both.0) (le-leb start stop ordered)) first) last) both.1
 
   -- where no place is no match begins
@@ -105,7 +99,7 @@ module _ (s : Search) (text : List ℕ) (start : ℕ) where
   -- where the empty text isn't equal to the pattern it doesn't match
   pub empty_matches_not : equals_pattern s [] ≡ false → matches start start ≡ false
   empty_matches_not not =
-      not_ended start (ap (λ b. s.allowed start && b) (ap (equals_pattern s) empty_part ∙ not) ∙ never_last (s.allowed start))
+      not_ended start (ap (λ b. s.allowed start && b) (ap (equals_pattern s) empty_part ∙ not) ∙ and-false (s.allowed start))
 
   -- ---- the walk
 
@@ -188,7 +182,7 @@ module _ (s : Search) (text : List ℕ) (start : ℕ) where
           let some : 0 < i = omega (arith, w.stop_is) in
           let room : j ≤ length rest = omega (arith, before, length-drop start text) in
           elim (cases_Bool (is_place (reading_by c) rest j)) [
-            | inl there ↦ not_ended t (ap (λ b. s.allowed t && b) (too_many c rest pattern i j some rises room (sym place_is ∙ is) there many) ∙ never_last (s.allowed t))
+            | inl there ↦ not_ended t (ap (λ b. s.allowed t && b) (too_many c rest pattern i j some rises room (sym place_is ∙ is) there many) ∙ and-false (s.allowed t))
             | inr not ↦ no_place t not
           ]
 

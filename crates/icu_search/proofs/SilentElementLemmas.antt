@@ -1,10 +1,10 @@
 -- Elements without weights and variable ones give nothing below the quaternary level.
-use Rattle.std.proofs.Common.{◌≡◌, ℕ, Bool, true, false, not, ◌&&◌, ◌||◌, ◌==◌, nat_le, nat_lt, bit_and, List, [], ◌∷◌, ◌++◌, Option, Some, None, map, reverse, if◌then◌else◌, refl, sym, ap, ◌∙◌, inl, inr}
+use Rattle.std.proofs.Common.{◌≡◌, ℕ, Bool, true, false, ◌&&◌, ◌||◌, ◌==◌, nat_le, nat_lt, bit_and, List, [], ◌∷◌, ◌++◌, Option, Some, None, map, reverse, if◌then◌else◌, refl, sym, ap, ◌∙◌, inl, inr}
 use Rattle.std.specs.List.{list_all}
 use Rattle.std.specs.declared.cmp.Ordering.{Ordering}
-use Rattle.std.proofs.lemmas.Bool.{cases_Bool, and_parts, and_from, eqb-true, eq-eqb}
+use Rattle.std.proofs.lemmas.Bool.{cases_Bool, and_parts, and_from, eqb-true, eq-eqb, not-true}
+use Rattle.icu_order_texts.proofs.HandledLemmas.{none_stayed}
 use Rattle.icu_options.specs.declared.settings.AlternateHandling.{AlternateHandling}
-use Rattle.icu_options.specs.declared.settings.AlternateHandling.TheVariants.{NonIgnorable, Shifted, Blanked}
 use Rattle.icu_order_levels.specs.ListOrder.{list_order, segments_order}
 use Rattle.icu_order_levels.specs.Keys.{LevelLists, in_turn, secondaries_order, cases_order, tertiaries_order, quaternaries_order, characters_order, levels_order}
 use Rattle.icu_order_levels.specs.Primaries.{Compression}
@@ -77,18 +77,9 @@ tertiaries_zeros (Some form) zeros es all = zeros_first (masked_tertiary form) (
 
 -- ---- what stays
 
-not_zero : (b : Bool) → not b ≡ true → b ≡ false
-not_zero true h = cc
-not_zero false h = refl
-
 first_of : (a b : Bool) → (a || b) ≡ true → b ≡ false → a ≡ true
 first_of true b h none = refl
 first_of false b h none = sym none ∙ h
-
-variable_goes : (handling : AlternateHandling) (p : ℕ) (hs : List HandledElement) → stayed_elements (handled_variable handling p ++ hs) ≡ stayed_elements hs
-variable_goes NonIgnorable p hs = refl
-variable_goes Shifted p hs = refl
-variable_goes Blanked p hs = refl
 
 never_variable : (last : ℕ) (x : Element) → IsZero x → is_variable last x ≡ false
 never_variable last x zero = ap (λ p. nat_lt separator_primary p && nat_le p last) zero.primary
@@ -103,7 +94,7 @@ module _ (handling : AlternateHandling) (last : ℕ) where
 
   variable_first : (after : Bool) (x : Element) (xs : List Element) → is_variable last x ≡ true → staying after (x ∷ xs) ≡ staying true xs
   unfolding handled
-  variable_first after x xs is = ap (λ b. by_tests x xs b (after && x.primary == 0)) is ∙ variable_goes handling x.primary (handled handling last true xs)
+  variable_first after x xs is = ap (λ b. by_tests x xs b (after && x.primary == 0)) is ∙ none_stayed handling x.primary (handled handling last true xs)
 
   zero_vanishes : (x : Element) (xs : List Element) → IsZero x → staying true (x ∷ xs) ≡ staying true xs
   unfolding handled
@@ -126,7 +117,7 @@ module _ (handling : AlternateHandling) (last : ℕ) where
   primary_first false es begins = refl
   primary_first true [] begins = refl
   primary_first true (x ∷ xs) begins =
-      ap (by_tests x xs (is_variable last x)) (not_zero (x.primary == 0) begins)
+      ap (by_tests x xs (is_variable last x)) (not-true (x.primary == 0) begins)
 
   -- silent elements leave some without weights
   pub record Leaves (after : Bool) (own es : List Element) : Type 0 where

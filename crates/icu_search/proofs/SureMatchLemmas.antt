@@ -2,6 +2,7 @@
 use Rattle.std.proofs.Common.{◌≡◌, ◌⊎◌, ℕ, ◌+◌, ◌-◌, ◌<◌, ◌≤◌, false, ◌&&◌, List, [], length, take, drop, refl, sym, ap, ◌∙◌, arith, inl, inr}
 use Rattle.std.specs.Prelude.{slice_range}
 use Rattle.std.proofs.lemmas.Bool.{cases_lt}
+use Rattle.std.proofs.Math.Bool.{and-false}
 use Rattle.icu_order_texts.specs.weighting.Collations.{Collation}
 use Rattle.icu_order_texts.specs.TextOrder.{reading_by}
 use Rattle.icu_search_places.specs.LeastMatches.{span, HoldsNoOther}
@@ -11,7 +12,7 @@ use Rattle.icu_search.specs.inner.PartOutcomes.{equals_pattern}
 use Rattle.icu_search.specs.inner.SearchCuts.{EndsPieceAt}
 use Rattle.icu_search.proofs.CountedWalks.{no_weights, one_more_counted, weight_count}
 use Rattle.icu_search.proofs.LongerPartLemmas.{unlike_count}
-use Rattle.icu_search.proofs.PartWalks.{never_last, not_ended}
+use Rattle.icu_search.proofs.PartWalks.{not_ended}
 
 -- up to an offset no part behind a start has more weights than this
 pub record HasAtMost (c : Collation) (text : List ℕ) (start at met : ℕ) : Type 0 where
@@ -68,4 +69,4 @@ pub holds_none : (s : Search) (text : List ℕ) (start stop met : ℕ) → HasAt
 holds_none s text start stop met w few = λ k t after ordered to.
     let part = slice_range text k t in
     let unlike : equals_pattern s part ≡ false = unlike_count s.collation part s.pattern (λ e. omega (arith, few, e, w.most k t after ordered to)) in
-    not_ended s text k t (ap (λ b. s.allowed t && b) unlike ∙ never_last (s.allowed t))
+    not_ended s text k t (ap (λ b. s.allowed t && b) unlike ∙ and-false (s.allowed t))

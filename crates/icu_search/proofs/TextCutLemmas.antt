@@ -2,8 +2,10 @@
 use Rattle.std.proofs.Common.{◌≡◌, ℕ, zero, suc, ◌+◌, ◌-◌, ◌<◌, ◌≤◌, Bool, true, false, ◌&&◌, ◌||◌, ◌==◌, List, [], ◌∷◌, ◌++◌, Some, None, length, take, drop, get_or, refl, sym, ap, ◌∙◌, subst, arith, inl, inr, append-nil, length-append}
 use Rattle.std.specs.Prelude.{slice_range}
 use Rattle.std.specs.Option.{option_map}
-use Rattle.std.proofs.lemmas.Bool.{cases_Bool, cases_lt, eq-eqb, or_left, or_right, true≢false}
+use Rattle.std.proofs.lemmas.Bool.{cases_Bool, cases_lt, eq-eqb, or_left, true≢false}
 use Rattle.std.proofs.lemmas.List.{drop_at, drop_more, drop-append-le, take-append-drop, length-drop, length-take-le, take_all, take_at}
+use Rattle.std.proofs.Math.Bool.{and-false}
+use Rattle.icu_search_places.proofs.FoundLemmas.{ends_in_place}
 use Rattle.unicode_normalization.specs.Forms.{nfd}
 use Rattle.icu_element_reading.specs.TextElements.{Reading}
 use Rattle.icu_order_texts.specs.TextOrder.{reading_by, lists_by}
@@ -16,16 +18,13 @@ use Rattle.icu_search_places.proofs.SearchPieceLemmas.{place_behind, place_befor
 use Rattle.icu_search.specs.inner.PartOutcomes.{equals_pattern}
 use Rattle.icu_search.specs.inner.SearchCuts.{CutsAt, BeginsPieceAt, EndsPieceAt, IsPieceFrom}
 use Rattle.icu_search.proofs.LongerPartLemmas.{lists_grow}
-use Rattle.icu_search.proofs.PartWalks.{no_place, not_ended, never_last, empty_matches_not}
+use Rattle.icu_search.proofs.PartWalks.{no_place, not_ended, empty_matches_not}
 use Rattle.icu_search.proofs.ShortestLemmas.{one_found}
 
 -- ---- places
 
 pub first_place : (reading : Reading) (text : List ℕ) (k : ℕ) → k ≡ 0 → is_place reading text k ≡ true
 first_place reading text k e = or_left (k == 0 || k == length text) (is_place_before reading text (drop k text)) (or_left (k == 0) (k == length text) (eq-eqb k 0 e))
-
-pub last_place : (reading : Reading) (text : List ℕ) (k : ℕ) → k ≡ length text → is_place reading text k ≡ true
-last_place reading text k e = or_left (k == 0 || k == length text) (is_place_before reading text (drop k text)) (or_right (k == 0) (k == length text) (eq-eqb k (length text) e))
 
 -- from a cut on, the places of the text are those of the piece
 pub places_from : (reading : Reading) (text : List ℕ) (cut i : ℕ) → BeginsPieceAt reading text cut → is_place reading text (cut + i) ≡ is_place reading (drop cut text) i
@@ -65,7 +64,7 @@ pub places_after : (reading : Reading) (text : List ℕ) (start stop : ℕ) → 
 places_after reading text start stop ordered ends =
     let i = stop - start in
     places_to reading text start stop i ordered ends (omega arith)
-    ∙ last_place reading (slice_range text start stop) i (size ends)
+    ∙ ends_in_place reading (slice_range text start stop) i (size ends)
   where
     size : EndsPieceAt reading text stop → stop - start ≡ length (slice_range text start stop)
     size (inl end) = omega (arith, length-take-le (stop - start) (drop start text) (omega (arith, length-drop start text, end)))
@@ -128,7 +127,7 @@ module _ (s : Search) (text : List ℕ) (start last : ℕ) (part : List ℕ) (p 
   begins_unlike i some fits place =
       elim (cases_lt i (length part)) [
         | inl before ↦
-            let grown = lists_grow s.collation part i (length part) some before (omega arith) place (last_place (reading_by s.collation) part (length part) refl) in
+            let grown = lists_grow s.collation part i (length part) some before (omega arith) place (ends_in_place (reading_by s.collation) part (length part) refl) in
             let all : take (length part) part ≡ part = take_all (length part) part (omega arith) in
             unlike (take i part) grown.0.primaries (ap (λ (l : List ℕ). (lists_by s.collation (nfd l)).primaries) (sym all) ∙ grown.1.primaries)
         | inr end ↦
@@ -147,7 +146,7 @@ module _ (s : Search) (text : List ℕ) (start last : ℕ) (part : List ℕ) (p 
             ap (λ (l : List ℕ). is_place (reading_by s.collation) l i) p.part_is ∙ sym (places_to (reading_by s.collation) text start p.stop i ordered p.ends (omega (arith, to, p.reaches))) ∙ place in
             let same : slice_range text start t ≡ take i part = taken_twice i (p.stop - start) (drop start text) (omega (arith, to, p.reaches)) ∙ ap (take i) (sym p.part_is) in
             not_ended s text start t
-            (ap (λ b. s.allowed t && b) (ap (equals_pattern s) same ∙ begins_unlike i (omega (arith, after)) (omega (arith, size, to, p.reaches)) there) ∙ never_last (s.allowed t))
+            (ap (λ b. s.allowed t && b) (ap (equals_pattern s) same ∙ begins_unlike i (omega (arith, after)) (omega (arith, size, to, p.reaches)) there) ∙ and-false (s.allowed t))
         | inr not ↦ no_place s text start t not
       ]
 

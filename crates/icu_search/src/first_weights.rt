@@ -10,8 +10,8 @@ use crate::apart_leads::differ;
 use icu_collator::CollatorBorrowed;
 use icu_element_cursor::FactsCursor;
 use icu_element_reading::CollationElement;
-use icu_search_places::indexed_text::CharsText;
 use icu_table_entries::element::MERGE_SEPARATOR_PRIMARY;
+use icu_text_encodings::CharsText;
 use std::alloc::{AllocError, Global};
 
 /// By which primary weights elements are surely variable, or surely aren't.

@@ -14,8 +14,8 @@ use crate::first_weights::{KnownVariables, known_primaries};
 use icu_collator::CollatorBorrowed;
 use icu_element_cursor::FactsCursor;
 use icu_element_reading::{CollationElement, TextReading, all_elements};
-use icu_search_places::indexed_text::CharsText;
 use icu_table_entries::element::MERGE_SEPARATOR_PRIMARY;
+use icu_text_encodings::CharsText;
 use std::alloc::{AllocError, Global};
 
 /// Whether a primary weight counts, where the last variable one is this: it is there, and elements that have it aren't

@@ -14,8 +14,8 @@ use icu_collator::CollatorBorrowed;
 use icu_collator::options::Strength;
 use icu_element_cursor::FactsCursor;
 use icu_element_reading::CollationElement;
-use icu_search_places::indexed_text::CharsText;
 use icu_table_entries::element::MERGE_SEPARATOR_PRIMARY;
+use icu_text_encodings::CharsText;
 
 /// Whether no level counts from the quaternary one on.
 pub(crate) fn ends_at_tertiaries(collator: &CollatorBorrowed<'_>) -> bool

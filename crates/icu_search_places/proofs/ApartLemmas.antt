@@ -2,9 +2,10 @@
 use Rattle.std.proofs.Common.{◌≡◌, ℕ, ◌<◌, ◌≤◌, Bool, true, false, nat_le, List, [], ◌∷◌, refl, sym, arith, inl, inr, subst, ◌⊎◌}
 use Rattle.std.specs.List.{AllByRecursion, Any, Contains}
 use Rattle.std.proofs.lemmas.Bool.{cases_Bool, leb-true, leb-false}
+use Rattle.icu_table_data.proofs.ListLemmas.{all_where, nothing_in}
 use Rattle.icu_search_places.specs.LeastMatches.{Span, least_from, apart_from, RisesTo, StandsApart, ReachesInto}
 use Rattle.icu_search_places.specs.LeastMatchLaws.{AreFound}
-use Rattle.icu_search_places.proofs.SpanListLemmas.{not_in_nil, at_head, in_tail, head_or_tail, member_of, each_member, some_member, the_member, InPairs, AllPairs-in_pairs}
+use Rattle.icu_search_places.proofs.SpanListLemmas.{at_head, in_tail, head_or_tail, member_of, some_member, the_member, InPairs, AllPairs-in_pairs}
 use Rattle.icu_search_places.proofs.LeastLemmas.{least_rise, least_ordered}
 
 pub apart_from-nil : (offset : ℕ) → apart_from offset [] ≡ []
@@ -43,7 +44,7 @@ begins_after offset (x ∷ later) ordered =
           let from : offset ≤ x.start = leb-true offset x.start taken in
           let from_behind = begins_after x.stop later ordered.1 in
           let all : AllByRecursion (λ (m : Span). offset ≤ m.start) (x ∷ apart_from x.stop later) =
-          (from, each_member (λ (m : Span). offset ≤ m.start) (apart_from x.stop later) (λ m at. omega (arith, from, ordered.0, member_of (λ (m : Span). x.stop ≤ m.start) m (apart_from x.stop later) from_behind at))) in
+          (from, all_where (λ (m : Span). offset ≤ m.start) (apart_from x.stop later) (λ m at. omega (arith, from, ordered.0, member_of (λ (m : Span). x.stop ≤ m.start) m (apart_from x.stop later) from_behind at))) in
           rw (apart_from-taken offset x later taken) all
       | inr passed ↦ rw (apart_from-passed offset x later passed) (begins_after offset later ordered.1)
     ]
@@ -58,7 +59,7 @@ stand_apart offset (x ∷ later) rise ordered =
             start = (member_of (RisesTo x) m later rise.0 (taken_member x.stop later m at)).start;
             apart = member_of (λ (m : Span). x.stop ≤ m.start) m (apart_from x.stop later) from_behind at;
           } in
-          let all : InPairs StandsApart (x ∷ apart_from x.stop later) = (each_member (StandsApart x) (apart_from x.stop later) stands, stand_apart x.stop later rise.1 ordered.1) in
+          let all : InPairs StandsApart (x ∷ apart_from x.stop later) = (all_where (StandsApart x) (apart_from x.stop later) stands, stand_apart x.stop later rise.1 ordered.1) in
           rw (apart_from-taken offset x later taken) all
       | inr passed ↦ rw (apart_from-passed offset x later passed) (stand_apart offset later rise.1 ordered.1)
     ]
@@ -75,7 +76,7 @@ met_behind x m taken before (inr (inr some)) offset =
     inr (inr (some_member (λ f. ReachesInto f m) f.0 (x ∷ taken) (in_tail f.0 x taken f.1.0) f.1.1))
 
 each_is_met : (offset : ℕ) (spans : List Span) → InPairs RisesTo spans → (m : Span) → Contains spans m → Met offset (apart_from offset spans) m
-each_is_met offset [] rise m at = absurd (not_in_nil m at)
+each_is_met offset [] rise m at = absurd (nothing_in m at)
 each_is_met offset (x ∷ later) rise m at =
     elim (cases_Bool (nat_le offset x.start)) [
       | inl taken ↦

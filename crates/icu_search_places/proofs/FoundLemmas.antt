@@ -32,7 +32,7 @@ use Rattle.icu_search_places.proofs.ApartLemmas.{found_matches_stand_apart, apar
 
 -- ---- the test of a match says what a match is
 
-eq_is : (o : Ordering) → is_eq o ≡ true → o ≡ Equal
+pub eq_is : (o : Ordering) → is_eq o ≡ true → o ≡ Equal
 eq_is Less h = absurd (false≢true h)
 eq_is Equal h = refl
 eq_is Greater h = absurd (false≢true h)
@@ -116,7 +116,7 @@ found_keys s well_formed text is_text is_pattern m at =
 
 -- ---- a text in itself
 
-ends_in_place : (reading : Reading) (text : List ℕ) (k : ℕ) → k ≡ length text → is_place reading text k ≡ true
+pub ends_in_place : (reading : Reading) (text : List ℕ) (k : ℕ) → k ≡ length text → is_place reading text k ≡ true
 ends_in_place reading text k at = or_left (k == 0 || k == length text) (is_place_before reading text (drop k text)) (or_right (k == 0) (k == length text) (eq-eqb k (length text) at))
 
 pub matches_itself : (s : Search) → IsWellFormedTables s.collation.tables → IsText s.pattern → s.allowed 0 ≡ true → s.allowed (length s.pattern) ≡ true

@@ -1,8 +1,9 @@
 -- A text whose decomposition has a character that leads is parted there: before a character that decomposes to it
 -- first.
-use Rattle.std.proofs.Common.{◌≡◌, ℕ, ◌≤◌, true, false, not, List, [], ◌∷◌, ◌++◌, length, flat_map, refl, sym, ap, ◌∙◌, inl, inr, arith, length-append}
+use Rattle.std.proofs.Common.{◌≡◌, ℕ, true, false, not, List, [], ◌∷◌, ◌++◌, length, flat_map, refl, sym, ap, ◌∙◌, inl, inr, arith, length-append}
 use Rattle.std.specs.List.{list_all}
-use Rattle.std.proofs.lemmas.Bool.{cases_Bool, and_parts, eqb-true, true≢false}
+use Rattle.std.proofs.lemmas.Bool.{cases_Bool, and_parts, true≢false}
+use Rattle.icu_element_reading.proofs.boundaries.NfdLemmas.{low}
 use Rattle.ucd_normal.specs.declared.forms.Form.TheVariants.{Nfd}
 use Rattle.ucd_normal.specs.CanonicalCombiningClass.{canonical_combining_class as class_of}
 use Rattle.unicode_normalization.specs.Decompose.{decompose}
@@ -18,9 +19,6 @@ head_or d (x ∷ xs) = x
 abbrev tail_of : List ℕ → List ℕ
 tail_of [] = []
 tail_of (x ∷ xs) = xs
-
-low : (s : ℕ) → is_starter s ≡ true → class_of s ≤ 0
-low s h = let e : class_of s ≡ 0 = eqb-true (class_of s) 0 h in omega (arith, e)
 
 none_left : (front : List ℕ) (x : ℕ) (back : List ℕ) → [] ≡ front ++ x ∷ back → ⊥
 none_left front x back h = omega (arith, ap length h, length-append front (x ∷ back))

@@ -2,9 +2,10 @@
 use Rattle.std.proofs.Common.{◌≡◌, ℕ, zero, suc, ◌<◌, ◌≤◌, ◌+◌, Bool, true, false, nat_le, List, [], ◌∷◌, Option, Some, None, refl, sym, ap, ◌∙◌, arith, inl, inr, subst}
 use Rattle.std.specs.List.{AllByRecursion, Any, Contains}
 use Rattle.std.proofs.lemmas.Bool.{cases_Bool, cases_lt, cases_eq, leb-true, leb-false, true≢false}
+use Rattle.icu_table_data.proofs.ListLemmas.{all_where}
 use Rattle.icu_search_places.specs.LeastMatches.{Span, span, shortest_from, narrowed, least_from, HoldsSpan, RisesTo}
 use Rattle.icu_search_places.specs.LeastMatchLaws.{IsMatchWithin, IsLeastWithin, AreLeastWithin}
-use Rattle.icu_search_places.proofs.SpanListLemmas.{at_head, in_tail, member_of, each_member, some_member, the_member, InPairs, AllPairs-in_pairs}
+use Rattle.icu_search_places.proofs.SpanListLemmas.{at_head, in_tail, member_of, some_member, the_member, InPairs, AllPairs-in_pairs}
 
 -- ---- the shortest match from a start
 
@@ -134,7 +135,7 @@ not_first matches low high first l later is ls ends = record {
 is_first : (matches : ℕ → ℕ → Bool) (low high : ℕ) (first : Span) (later : List Span) → IsShortest matches low low high first → Leasts matches (low + 1) high later → AllByRecursion (λ (l : Span). first.stop < l.stop) later → Leasts matches low high (first ∷ later)
 is_first matches low high first later is ls ends = record {
   each = (record { is_match = first_match matches low high first is; least = least }, earlier_leasts matches low high later ls.each);
-  rise = (each_member (RisesTo first) later precedes, ls.rise);
+  rise = (all_where (RisesTo first) later precedes, ls.rise);
   held = held;
 }
   where
@@ -169,7 +170,7 @@ is_first matches low high first later is ls ends = record {
         ]
 
 ends_later : (n : ℕ) (l : Span) (later : List Span) → n < l.stop → AllByRecursion (RisesTo l) later → AllByRecursion (λ (m : Span). n < m.stop) (l ∷ later)
-ends_later n l later h all = (h, each_member (λ (m : Span). n < m.stop) later (λ m at. omega (arith, h, (member_of (RisesTo l) m later all at).stop)))
+ends_later n l later h all = (h, all_where (λ (m : Span). n < m.stop) later (λ m at. omega (arith, h, (member_of (RisesTo l) m later all at).stop)))
 
 narrow : (matches : ℕ → ℕ → Bool) (low high : ℕ) (o : Option Span) (later : List Span) → ShortestOf matches low low high o → Leasts matches (low + 1) high later → Leasts matches low high (narrowed o later)
 unfolding narrowed
@@ -218,5 +219,5 @@ least_rise matches n = (Leasts-least_from matches 0 n n (omega arith)).rise
 pub least_ordered : (matches : ℕ → ℕ → Bool) (n : ℕ) → AllByRecursion (λ (m : Span). m.start ≤ m.stop) (least_from matches 0 n)
 least_ordered matches n =
     let spans = least_from matches 0 n in
-    each_member (λ (m : Span). m.start ≤ m.stop) spans
+    all_where (λ (m : Span). m.start ≤ m.stop) spans
     (λ m at. (member_of (IsLeastWithin matches 0 n) m spans (Leasts-least_from matches 0 n n (omega arith)).each at).is_match.ordered)

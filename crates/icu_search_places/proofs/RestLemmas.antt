@@ -7,6 +7,7 @@ use Rattle.std.proofs.lemmas.Bool.{or_cases, or_left, true≢false, false_from_n
 use Rattle.std.proofs.lemmas.Bool.Decides.{same_from_decides}
 use Rattle.std.proofs.lemmas.List.{append_cancel_right}
 use Rattle.std.proofs.lemmas.Slice.Eq.{bytes_eq-Decides}
+use Rattle.icu_element_reading.proofs.boundaries.LeftContextLemmas.{context_along-enough}
 use Rattle.unicode_normalization.specs.Order.{is_starter}
 use Rattle.icu_table_entries.specs.Elements.{Element}
 use Rattle.icu_element_reading.specs.TextElements.{Reading, Step, step, consumed, last_two, elements_after}
@@ -58,16 +59,6 @@ rests_along-enough reading (_ ∷ along) (_ ∷ others) before (c ∷ text) fits
     let s = step reading before c text in
     let shorter = (Rests-step reading before c text).fits in
     ap (λ (l : List (List ℕ)). (c ∷ text) ∷ l) (rests_along-enough reading along others (last_two before (consumed c s)) s.rest (omega (arith, shorter)) (omega (arith, shorter)))
-
-context_along-enough : (reading : Reading) (along others before text : List ℕ) → length text ≤ length along → length text ≤ length others → context_along along reading before text ≡ context_along others reading before text
-unfolding context_along
-context_along-enough reading along others before [] fits fit = refl
-context_along-enough reading [] others before (c ∷ text) fits fit = absurd (omega arith)
-context_along-enough reading (_ ∷ along) [] before (c ∷ text) fits fit = absurd (omega arith)
-context_along-enough reading (_ ∷ along) (_ ∷ others) before (c ∷ text) fits fit =
-    let s = step reading before c text in
-    let shorter = (Rests-step reading before c text).fits in
-    context_along-enough reading along others (last_two before (consumed c s)) s.rest (omega (arith, shorter)) (omega (arith, shorter))
 
 context_left-nil : (reading : Reading) (before : List ℕ) → context_left reading before [] ≡ before
 unfolding context_left context_along

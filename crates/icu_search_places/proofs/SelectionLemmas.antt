@@ -4,11 +4,12 @@ use Rattle.std.specs.Prelude.{IfSome, option_to_list}
 use Rattle.std.specs.List.{AllByRecursion, Contains}
 use Rattle.std.proofs.lemmas.Bool.{cases_Bool, cases_lt, le-leb, lt-leb, lt-ltb, le-ltb, ltb-true, ltb-false, or_cases, false≢true, true≢false}
 use Rattle.std.proofs.lemmas.Option.{same_Some}
+use Rattle.icu_table_data.proofs.ListLemmas.{all_where, nothing_in}
 use Rattle.icu_search_places.specs.LeastMatches.{Span, span, HoldsNoOther, TellsLeastStop, shortest_from, narrowed, least_from, apart_from, HoldsSpan, RisesTo}
 use Rattle.icu_search_places.specs.LeastMatchLaws.{IsMatchWithin, IsLeastWithin}
 use Rattle.icu_search_places.specs.inner.HeldSpans.{IsSure, PassedTo, TellsLeastSpan, joined_to_held, stops_before, last_to_try, from_behind, found_behind}
 use Rattle.icu_search_places.specs.Selections.{first_span, found_from}
-use Rattle.icu_search_places.proofs.SpanListLemmas.{not_in_nil, head_or_tail, member_of, each_member, the_member, InPairs}
+use Rattle.icu_search_places.proofs.SpanListLemmas.{head_or_tail, member_of, the_member, InPairs}
 use Rattle.icu_search_places.proofs.LeastLemmas.{ShortestOf, ShortestOf-shortest_from, Leasts-least_from}
 use Rattle.icu_search_places.proofs.ApartLemmas.{apart_from-nil, apart_from-taken, apart_from-passed}
 
@@ -97,7 +98,7 @@ module _ (matches : ℕ → ℕ → Bool) (n : ℕ) where
 
   -- a match that begins behind a start holds a least one that does, and the first of those ends first
   ends_first : (spans : List Span) (stop : ℕ) → InPairs RisesTo spans → (l : Span) → Contains spans l → l.stop ≤ stop → IfFirst (λ m. m.stop ≤ stop) spans
-  ends_first [] stop rising l at before = absurd (not_in_nil l at)
+  ends_first [] stop rising l at before = absurd (nothing_in l at)
   ends_first (m ∷ later) stop rising l at before =
       elim (head_or_tail l m later at) as (λ _. m.stop ≤ stop) [
         | inl same ↦ omega (arith, before, ap (λ (s : Span). s.stop) same)
@@ -209,7 +210,7 @@ module _ (matches : ℕ → ℕ → Bool) (n : ℕ) where
             let e : n ≡ start + (n - start) = omega (arith, inside) in
             let ls = Leasts-least_from matches start (n - start) n e in
             subst (AllByRecursion (IsMatchWithin matches start n)) (sym (least_to-at start (n - start) e))
-            (each_member (IsMatchWithin matches start n) spans (λ m at. (member_of (IsLeastWithin matches start n) m spans ls.each at).is_match))
+            (all_where (IsMatchWithin matches start n) spans (λ m at. (member_of (IsLeastWithin matches start n) m spans ls.each at).is_match))
       ]
 
   rise : (start : ℕ) → InPairs RisesTo (least_to matches n start)
@@ -319,7 +320,7 @@ module _ (matches : ℕ → ℕ → Bool) (n : ℕ) where
   one_and_others offset [] all rising is m e = cc
   one_and_others offset (x ∷ later) all rising is m e =
       let past = goes_behind x in
-      let later_ones : AllByRecursion (λ (m : Span). x.start < m.start) later = each_member (λ (m : Span). x.start < m.start) later (λ m at. (member_of (RisesTo x) m later rising.0 at).start) in
+      let later_ones : AllByRecursion (λ (m : Span). x.start < m.start) later = all_where (λ (m : Span). x.start < m.start) later (λ m at. (member_of (RisesTo x) m later rising.0 at).start) in
       let first = is offset (omega arith) ∙ apart_from-taken offset x later (le-leb offset x.start all.0.from_low) in
       let others : found_from matches n (from_behind x) ≡ apart_from x.stop later =
       is (from_behind x) (omega (arith, past, all.0.from_low)) ∙ apart_from-passed (from_behind x) x later (lt-leb (from_behind x) x.start past) ∙ same_taken x.start x.stop later later_ones in

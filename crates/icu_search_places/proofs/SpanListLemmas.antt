@@ -1,10 +1,8 @@
 -- Members of lists.
-use Rattle.std.proofs.Common.{◌≡◌, ℕ, zero, suc, ◌<◌, List, [], ◌∷◌, length, get_or, refl, arith, inl, inr, subst, ◌⊎◌}
+use Rattle.std.proofs.Common.{◌≡◌, ℕ, zero, suc, ◌<◌, List, [], ◌∷◌, length, get_or, arith, inl, inr, subst, ◌⊎◌}
+use Rattle.icu_table_data.proofs.ListLemmas.{all_where, nothing_in}
 use Rattle.std.specs.List.{AllByRecursion, AllPairs, Any, Contains}
 use Rattle.std.specs.Prelude.{⊤}
-
-pub not_in_nil : {X : Type 0} (x : X) → Contains [] x → ⊥
-not_in_nil x (k, l, e) = omega arith
 
 pub at_head : {X : Type 0} (x y : X) (xs : List X) → y ≡ x → Contains (y ∷ xs) x
 at_head x y xs e = (0, omega arith, e)
@@ -18,16 +16,12 @@ head_or_tail x y xs (suc k, l, e) = inr (k, omega arith, e)
 
 -- what holds of each member holds of this one
 pub member_of : {X : Type 0} (P : X → Type 0) (x : X) (xs : List X) → AllByRecursion P xs → Contains xs x → P x
-member_of P x [] all at = absurd (not_in_nil x at)
+member_of P x [] all at = absurd (nothing_in x at)
 member_of P x (y ∷ xs) all at =
     elim (head_or_tail x y xs at) as (λ _. P x) [
       | inl e ↦ subst P e all.0
       | inr later ↦ member_of P x xs all.1 later
     ]
-
-pub each_member : {X : Type 0} (P : X → Type 0) (xs : List X) → ((x : X) → Contains xs x → P x) → AllByRecursion P xs
-each_member P [] each = tt
-each_member P (x ∷ xs) each = (each x (at_head x x xs refl), each_member P xs (λ y at. each y (in_tail y x xs at)))
 
 -- a member of which P holds
 pub some_member : {X : Type 0} (P : X → Type 0) (x : X) (xs : List X) → Contains xs x → P x → Any P xs

@@ -1,8 +1,9 @@
 -- A step that leaves a starter and all that follows it is that of the characters before the starter alone.
 use Rattle.std.proofs.Common.{◌≡◌, ℕ, suc, ◌≤◌, Bool, true, false, not, ◌&&◌, ◌==◌, List, [], ◌∷◌, ◌++◌, length, drop, map, take_while, Option, Some, None, if◌then◌else◌, refl, sym, ap, ◌∙◌, arith, inl, inr, subst, length-append, length-drop}
-use Rattle.std.proofs.lemmas.Bool.{cases_Bool, or_from, eqb-true, true≢false}
+use Rattle.std.proofs.lemmas.Bool.{cases_Bool, or_from}
 use Rattle.std.proofs.lemmas.List.{drop-append-le, nil_from_length}
 use Rattle.std.proofs.lemmas.List.Sums.{take_while-cons}
+use Rattle.icu_element_reading.proofs.boundaries.StepCuts.{not_accent}
 use Rattle.unicode_normalization.specs.Order.{is_starter}
 use Rattle.icu_table_entries.specs.declared.entry.EntryKind.{EntryKind}
 use Rattle.icu_table_entries.specs.declared.entry.EntryKind.TheVariants.{Digit}
@@ -15,8 +16,8 @@ use Rattle.icu_element_matches.specs.MatchesAhead.{and_then}
 use Rattle.icu_element_reading.specs.TextElements.{Reading, Step, is_diacritic_above, is_silent_dot, continues_number, digit_of_char, begins_with_mark, number_elements, number_step, entry_step, step, matched_step}
 use Rattle.icu_element_reading.specs.ReadAhead.{and_more}
 use Rattle.icu_element_reading.proofs.Computing.{icu_elements}
-use Rattle.icu_element_reading.proofs.StepLemmas.{Rests}
-use Rattle.icu_element_matches.proofs.ChoiceLemmas.{either, either_by, maybe_any, at_nil}
+use Rattle.icu_element_reading.proofs.StepLemmas.{Rests-entry_step}
+use Rattle.icu_element_matches.proofs.ChoiceLemmas.{either_by}
 use Rattle.icu_search_places.proofs.FoundEndLemmas.{Keeps, match_of-front}
 
 -- a step leaves at least this many characters
@@ -110,13 +111,6 @@ entry_step-front reading home c m x back starter keeps =
 
 -- ---- the step
 
-not_accent : (x n : ℕ) → is_starter x ≡ true → is_starter n ≡ false → (x == n) ≡ false
-not_accent x n starter mark =
-    elim (cases_Bool (x == n)) [
-      | inl is ↦ absurd (true≢false (sym starter ∙ ap is_starter (eqb-true x n is) ∙ mark))
-      | inr differs ↦ differs
-    ]
-
 grave_is_mark : is_starter 0x300 ≡ false
 unfolding icu_elements
 grave_is_mark = refl
@@ -134,26 +128,9 @@ is_diacritic_above-front [] x back h =
     or_from _ _ (or_from _ _ (not_accent x 0x300 h grave_is_mark) (not_accent x 0x301 h acute_is_mark)) (not_accent x 0x303 h tilde_is_mark)
 is_diacritic_above-front (c ∷ cs) x back h = refl
 
-at_digit : (P : Step → Type 0) (k : EntryKind) (x y : Step) → P x → P y → P (elim k as (λ _. Step) [ Digit ↦ x | _ ↦ y ])
-at_digit P Digit x y p q = p
-at_digit P _ x y p q = q
-
--- an entry's step leaves no more than its match
-entry_step-rests : (reading : Reading) (home : Data) (c : ℕ) (m : Match) → Rests (length m.rest) (entry_step reading home c m)
-unfolding entry_step number_step
-entry_step-rests reading home c m =
-    let R = Rests (length m.rest) in
-    let digits = take_while (continues_number reading.tables) m.rest in
-    let dropped = length-drop (length digits) m.rest in
-    at_digit R (kind_of m.entry) _ _
-    (maybe_any R reading.numeric _ _
-    (λ lead. at_nil R m.suffix _ _ (either R (begins_with_mark m.rest) _ _ (record { fits = omega arith }) (record { fits = omega (arith, dropped) })) (record { fits = omega arith }))
-    (record { fits = omega arith }))
-    (record { fits = omega arith })
-
 -- what a match leaves at least, where the step that it makes leaves it
 letter_keeps : (reading : Reading) (home : Data) (c n : ℕ) (m : Match) → KeepsAt n (entry_step reading home c m) → Keeps n m
-letter_keeps reading home c n m keeps = record { kept = omega (arith, keeps.kept, (entry_step-rests reading home c m).fits) }
+letter_keeps reading home c n m keeps = record { kept = omega (arith, keeps.kept, (Rests-entry_step reading home c m).fits) }
 
 -- where a step leaves x and all that follows it, it is that of what stands before x
 pub step-front : (reading : Reading) (before : List ℕ) (c : ℕ) (front : List ℕ) (x : ℕ) (back : List ℕ) → is_starter x ≡ true → KeepsAt (suc (length back)) (step reading before c (front ++ x ∷ back))

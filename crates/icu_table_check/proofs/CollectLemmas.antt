@@ -20,7 +20,7 @@ use Rattle.icu_table_check.specs.declared.check.weights.WeightList.{WeightList}
 use Rattle.icu_table_provider.specs.CollatorTables.{CollatorTables}
 use Rattle.icu_table_provider.specs.TableSets.{tables_in}
 use Rattle.icu_table_check.specs.inner.ComparedWeights.{compared_weight, IsWeightBy, Adds, IsBelow, IsJamoWeight, IsDiacriticWeight}
-use Rattle.icu_table_check.proofs.LoadedViolationLemmas.{last_or_before}
+use Rattle.icu_table_weights.proofs.PageLemmas.{below_last}
 
 -- ---- what is added
 
@@ -64,7 +64,7 @@ below_step P start old new n before now w = (
   ],
   λ s. elim s [
     | inl oldest ↦ (now w).1 (inl ((before w).1 (inl oldest)))
-    | inr is ↦ elim (last_or_before is.place n is.below) [
+    | inr is ↦ elim (below_last is.place n is.below) [
       | inl earlier ↦ (now w).1 (inl ((before w).1 (inr (record { place = is.place; below = earlier; is = is.is }))))
       | inr same ↦ (now w).1 (inr (subst (λ i. P i w) same is.is))
     ]

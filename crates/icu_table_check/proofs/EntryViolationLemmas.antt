@@ -1,5 +1,6 @@
 -- The violations of entries and elements are true, and where there is none every condition is met.
 use Rattle.std.proofs.Common.{◌≡◌, ℕ, Bool, true, false, not, List, [], ◌∷◌, Option, Some, None, IfSome, IsTrue, if◌then◌else◌, fold, option_map, length, refl, sym, ap, ◌∙◌}
+use Rattle.std.proofs.lemmas.Bool.{not-false, not-true}
 use Rattle.std.specs.List.{AllByRecursion, Contains}
 use Rattle.icu_table_entries.specs.declared.error.DataTable.{DataTable}
 use Rattle.icu_table_entries.specs.declared.error.DataTable.TheVariants.{Root, Jamo, SpecialPrimaries, Metadata, Tailoring, Reordering, Diacritics}
@@ -14,7 +15,7 @@ use Rattle.icu_table_data.specs.DataConditions.{avoids_diacritics, is_readable}
 use Rattle.icu_table_data.specs.Violations.{earlier}
 use Rattle.icu_table_data.specs.Reachable.{goes_by_character, names_context, SameContext, AreAlike}
 use Rattle.icu_table_data.specs.ReachableConditions.{meets, first_failing}
-use Rattle.icu_table_data.proofs.ViolationLemmas.{find_passes, find_none, not_false, not_true, weaker_some, passes_meets, meets_readable, failing_fails, earlier-none, earlier-keeps}
+use Rattle.icu_table_data.proofs.ViolationLemmas.{find_passes, find_none, weaker_some, passes_meets, meets_readable, failing_fails, earlier-none, earlier-keeps}
 use Rattle.icu_table_data.proofs.SameEntryLemmas.{failing_alike, readable_alike, elements_alike, failing_context, readable_context, elements_context, by_alike}
 use Rattle.icu_table_data.proofs.ListLemmas.{weaker, all_members}
 use Rattle.icu_table_provider.specs.declared.well_formed.condition.Condition.TheVariants as conditions
@@ -54,14 +55,14 @@ module _ (all : CollatorTables) where
   MeetsAll x = (condition : ReachableElementCondition) → IsTrue (reachable_element_meets condition all x)
 
   listed : (x : Element) → AllByRecursion (λ condition. not (reachable_element_meets condition all x) ≡ false) element_conditions → (condition : ReachableElementCondition) → IsTrue (reachable_element_meets condition all x)
-  listed x each Width = not_false _ each.0
-  listed x each BackwardLead = not_false _ each.1.0
-  listed x each TertiaryElement = not_false _ each.1.1.0
-  listed x each MiddleLead = not_false _ each.1.1.1.0
-  listed x each ImplicitLength = not_false _ each.1.1.1.1.0
-  listed x each NumericLead = not_false _ each.1.1.1.1.1.0
-  listed x each SharedLead = not_false _ each.1.1.1.1.1.1.0
-  listed x each SecondByte = not_false _ each.1.1.1.1.1.1.1.0
+  listed x each Width = not-false _ each.0
+  listed x each BackwardLead = not-false _ each.1.0
+  listed x each TertiaryElement = not-false _ each.1.1.0
+  listed x each MiddleLead = not-false _ each.1.1.1.0
+  listed x each ImplicitLength = not-false _ each.1.1.1.1.0
+  listed x each NumericLead = not-false _ each.1.1.1.1.1.0
+  listed x each SharedLead = not-false _ each.1.1.1.1.1.1.0
+  listed x each SecondByte = not-false _ each.1.1.1.1.1.1.1.0
 
   pub passes_element : (x : Element) → first_condition_failed all x ≡ None → (condition : ReachableElementCondition) → IsTrue (reachable_element_meets condition all x)
   unfolding first_condition_failed
@@ -70,7 +71,7 @@ module _ (all : CollatorTables) where
   fails_element : (x : Element) → IfSome (first_condition_failed all x) (λ condition. reachable_element_meets condition all x ≡ false)
   unfolding first_condition_failed
   fails_element x =
-      weaker_some _ (λ condition. reachable_element_meets condition all x ≡ false) (λ condition h. not_true (reachable_element_meets condition all x) h) _
+      weaker_some _ (λ condition. reachable_element_meets condition all x ≡ false) (λ condition h. not-true (reachable_element_meets condition all x) h) _
       (find_passes (λ condition. not (reachable_element_meets condition all x)) element_conditions)
 
   pub element_true : (table : DataTable) (x : Element) → IsElementBy table all.tables x → IfSome (element_violation all table x) (IsTrueViolation all)

@@ -1,7 +1,7 @@
 -- The violations of all that is reachable by one table, as tables are returned.
 use Rattle.std.proofs.Common.{◌≡◌, ◌⊎◌, ℕ, ◌+◌, ◌-◌, ◌<◌, false, true, Option, Some, None, Result, Ok, Err, IfOk, IfSome, IsTrue, slice_index, length, refl, sym, ap, ◌∙◌, subst, arith, inl, inr, option_map}
-use Rattle.std.proofs.lemmas.Bool.{cases_eq}
 use Rattle.std.proofs.lemmas.Bool.Decides.{nat_tests}
+use Rattle.icu_table_weights.proofs.PageLemmas.{below_last}
 use Rattle.std.specs.List.{AllByRecursion}
 use Rattle.icu_table_data.specs.declared.data.CollationData.{CollationData}
 use Rattle.icu_table_entries.specs.declared.error.DataTable.TheVariants.{Root, Jamo, Tailoring, Diacritics}
@@ -127,13 +127,10 @@ module _ (s : TableSet) where
 
 -- ---- one more place
 
-pub last_or_before : (i n : ℕ) → i < n + 1 → (i < n) ⊎ (i ≡ n)
-last_or_before i n h = elim (cases_eq i n) [ inl same ↦ inr same | inr other ↦ inl (omega arith) ]
-
 pub none_step : (P : ℕ → Type 0) (a b found : Option Violation) (n : ℕ) → found ≡ earlier violation_rank a b → (a ≡ None → (i : ℕ) → i < n → P i) → (b ≡ None → P n) → found ≡ None → (i : ℕ) → i < n + 1 → P i
 none_step P a b found n is before now none i inside =
     let both = earlier-none violation_rank a b (sym is ∙ none) in
-    elim (last_or_before i n inside) [
+    elim (below_last i n inside) [
       | inl earlier_place ↦ before both.0 i earlier_place
       | inr last ↦ subst P (sym last) (now both.1)
     ]

@@ -1,9 +1,10 @@
 -- Lead bytes with which no primary weight fails a condition on elements, and what they say of entries.
-use Rattle.std.proofs.Common.{◌≡◌, ℕ, zero, suc, ◌+◌, ◌*◌, ◌/◌, ◌%◌, ◌≤◌, ◌<◌, Bool, true, false, not, ◌==◌, nat_le, List, [], ◌∷◌, inl, inr, get_or, set, replicate, length, Option, Some, None, IsTrue, refl, sym, ap, ◌∙◌, subst, arith}
+use Rattle.std.proofs.Common.{◌≡◌, ℕ, ◌+◌, ◌*◌, ◌/◌, ◌%◌, ◌≤◌, ◌<◌, Bool, true, false, not, ◌==◌, nat_le, List, [], ◌∷◌, inl, inr, set, replicate, length, Option, Some, None, IsTrue, refl, sym, ap, ◌∙◌, subst, arith}
 use Rattle.std.specs.Prelude.{◌||◌, slice_index_or}
 use Rattle.std.proofs.lemmas.Bool.{and_parts, cases_eq, false≢true}
 use Rattle.std.proofs.lemmas.Bool.Decides.{nat_tests}
 use Rattle.std.proofs.lemmas.List.{get_or-set_same, get_or-set_other}
+use Rattle.icu_table_weights.proofs.AlikeLemmas.{unmarked}
 use Rattle.icu_table_entries.specs.declared.entry.EntryKind.{EntryKind}
 use Rattle.icu_table_entries.specs.declared.entry.EntryKind.TheVariants.{Simple, LongPrimary, LongSecondary}
 use Rattle.icu_table_entries.specs.declared.error.DataTable.{DataTable}
@@ -26,11 +27,6 @@ use Rattle.icu_table_check.specs.inner.EntryViolations.{first_condition_failed, 
 use Rattle.icu_table_check.proofs.EntryViolationLemmas.{passes_element, without_own}
 
 -- ---- which lead bytes are marked
-
-unmarked : (n l : ℕ) → get_or (replicate n false) l false ≡ false
-unmarked zero l = refl
-unmarked (suc n) zero = refl
-unmarked (suc n) (suc l) = unmarked n l
 
 -- at first none is
 pub no_leads : (all : CollatorTables) → AreLeadsPassing all (replicate 256 false)

@@ -1,5 +1,6 @@
 -- Lists of weights, and the violations that they show.
 use Rattle.std.proofs.Common.{◌≡◌, ◌↔◌, ℕ, Bool, true, false, List, [], Some, None, refl, sym, ap, ◌∙◌, subst, inl, inr, arith, option_map}
+use Rattle.icu_table_weights.proofs.WeightSetLemmas.{no_member}
 use Rattle.std.specs.List.{Contains}
 use Rattle.icu_table_entries.specs.declared.error.DataTable.{DataTable}
 use Rattle.icu_table_entries.specs.declared.error.DataTable.TheVariants.{Root, Jamo, SpecialPrimaries, Metadata, Tailoring, Reordering, Diacritics}
@@ -123,12 +124,9 @@ clashing level all ws v w listed overlaps = record {
   begins = overlaps.begins;
 }
 
-nothing_in : (w : ℕ) → Contains [] w → ⊥
-nothing_in w c = omega (arith, c.1)
-
 -- a list without weights, and one to which those of a table are added
 pub none_listed : (list : WeightList) (all : CollatorTables) (ws : List ℕ) → ws ≡ [] → AreListed list all.tables ws
-none_listed list all ws is w c = absurd (nothing_in w (subst (λ ws. Contains ws w) is c))
+none_listed list all ws is w c = absurd (no_member w (subst (λ ws. Contains ws w) is c))
 
 -- weights that are added to those of other tables
 pub more_listed : (own list : WeightList) (all : CollatorTables) (table : DataTable) (old new : List ℕ) → own ≡ list → AreListed list all.tables old → Adds (IsWeightBy own table all.tables) old new → AreListed list all.tables new
@@ -142,7 +140,7 @@ more_listed own list all table old new is listed adds w c =
 pub is_weight_by : (list : WeightList) (table : DataTable) (all : CollatorTables) (ws : List ℕ) (w : ℕ) (b : Type 0) → (old : List ℕ) → old ≡ [] → Adds (IsWeightBy list table all.tables) old ws
     → (b ↔ Contains ws w) → b ↔ IsWeightBy list table all.tables w
 is_weight_by list table all ws w b old none adds same = (
-  λ h. elim ((adds w).0 (same.0 h)) [ inl older ↦ absurd (nothing_in w (subst (λ ws. Contains ws w) none older)) | inr is ↦ is ],
+  λ h. elim ((adds w).0 (same.0 h)) [ inl older ↦ absurd (no_member w (subst (λ ws. Contains ws w) none older)) | inr is ↦ is ],
   λ is. same.1 ((adds w).1 (inr is)),
 )
 

@@ -47,6 +47,23 @@ pub fn checked_set(alloc: Global, tables: TableSet<'_>) -> Result<CheckedTables,
     checked_owned(alloc, OwnedTables::copy(alloc, tables)?)
 }
 
+/// Keeps tables that meet the conditions.
+fn kept(alloc: Global, tables: OwnedTables) -> Result<CheckedTables, DataError>
+    requires { IsWellFormedTables (owned_tables tables) }
+    ensures error { IfErr result (IsTrueError (owned_tables tables)) }
+    ensures exact { IfErr result (λ e.
+        (e.kind ≡ DataErrorKind.NoMemory → ⊥) → IsWellFormedTables (owned_tables tables) → ⊥) }
+    ensures keeps { IfOk result (λ t. checked_tables t ≡ owned_tables tables) }
+{
+    match CheckedTables::from_well_formed(alloc, tables) {
+        Ok(checked) => Ok(checked),
+        Err(AllocError) => Err(DataError {
+            table: DataTable::Root,
+            kind: DataErrorKind::NoMemory,
+        }),
+    }
+}
+
 /// Checks the tables of a collator together, and keeps them: nothing is copied. Allocates, while the check runs,
 /// the weights that are compared with one another.
 ///
@@ -60,7 +77,7 @@ pub fn checked_owned(alloc: Global, tables: OwnedTables) -> Result<CheckedTables
     ensures keeps { IfOk result (λ t. checked_tables t ≡ owned_tables tables) }
 {
     match check(alloc, tables.as_set()) {
-        Ok(()) => Ok(CheckedTables::from_well_formed(alloc, tables)),
+        Ok(()) => kept(alloc, tables),
         Err(error) => Err(error),
     }
 }

@@ -16,12 +16,8 @@ use Rattle.icu_table_data.specs.inner.BlockWalks.{is_wanted, leads_to, sought_co
 use Rattle.icu_table_data.proofs.ListLemmas.{all_append, all_members, all_where, of_member, in_map, nothing_in, in_first}
 use Rattle.icu_table_data.proofs.SameEntryLemmas.{none_passes}
 use Rattle.icu_table_data.proofs.CollectedWeightLemmas.{held-contained}
-use Rattle.icu_table_data.proofs.ReachLemmas.{refer_leads, at_is, at_within}
+use Rattle.icu_table_data.proofs.ReachLemmas.{refer_leads, at_is, at_within, clash}
 use Rattle.icu_table_data.proofs.SpentLemmas.{visits_add, both_add, led_reach}
-
-clash : (b : Bool) → b ≡ true → b ≡ false → ⊥
-clash true p q = cc
-clash false p q = cc
 
 -- ---- entries that lead to none of the part
 

@@ -1,9 +1,9 @@
 -- Entries that lead to none of a part: by all that they lead to, and of a prefix by its default and its mappings.
-use Rattle.std.proofs.Common.{◌≡◌, ℕ, ◌+◌, ◌<◌, Bool, true, false, List, [], ◌∷◌, ◌++◌, ◌⊎◌, inl, inr, refl, sym, ap, ◌∙◌, subst, length, take, get_or}
-use Rattle.std.specs.Prelude.{◌||◌}
+use Rattle.std.proofs.Common.{◌≡◌, ℕ, ◌+◌, ◌<◌, false, List, [], ◌∷◌, ◌++◌, ◌⊎◌, inl, inr, refl, sym, ap, ◌∙◌, subst, length, take, get_or}
 use Rattle.std.specs.List.{Contains, list_any}
 use Rattle.std.proofs.lemmas.List.{take_more}
 use Rattle.std.proofs.lemmas.List.Elements.{Contains-append_cases}
+use Rattle.std.proofs.lemmas.Bool.{or_from}
 use Rattle.icu_table_entries.specs.declared.entry.EntryKind.TheVariants.{Prefix}
 use Rattle.icu_table_entries.specs.Entries.{kind_of}
 use Rattle.icu_table_data.specs.declared.character_walk.Part.{Part}
@@ -16,14 +16,10 @@ use Rattle.icu_table_data.proofs.ListLemmas.{of_member, nothing_in, in_first, at
 use Rattle.icu_table_data.proofs.SameEntryLemmas.{none_passes}
 use Rattle.icu_table_data.proofs.ReachLemmas.{context_unwanted, prefix_alone, prefix_all, contraction_within, in_pushed}
 
-neither : (a b : Bool) → a ≡ false → b ≡ false → (a || b) ≡ false
-neither false b p q = q
-neither true b p q = cc
-
 none_any : (part : Part) (es : List ℕ) → AreUnwanted part es → list_any (is_wanted part) es ≡ false
 none_any part [] none = refl
 none_any part (e ∷ es) none =
-    neither (is_wanted part e) (list_any (is_wanted part) es) (none e (at_first e es)) (none_any part es (λ f has. none f (at_rest e f es has)))
+    or_from (is_wanted part e) (list_any (is_wanted part) es) (none e (at_first e es)) (none_any part es (λ f has. none f (at_rest e f es has)))
 
 -- what an entry leads to that leads to none of the part
 pub none_unwanted : (part : Part) (home : Data) (e : ℕ) → leads_to part home e ≡ false → AreUnwanted part (reachable_from home e)

@@ -1,12 +1,11 @@
 -- The weights that a walk collects: those that were there, and those of the elements of the entries that it comes to.
 use Rattle.std.proofs.Common.{◌≡◌, ℕ, ◌-◌, Bool, true, false, ◌==◌, List, [], ◌∷◌, ◌++◌, ◌⊎◌, length, map, fold, Option, Some, None, if◌then◌else◌, refl, sym, ap, ◌∙◌, subst, OnOk, Result, Ok, Err, IsTrue, ◌↔◌, inl, inr, arith}
-use Rattle.std.specs.Prelude.{◌||◌}
 use Rattle.std.specs.List.{AllByRecursion, Contains, slice_get, Any}
 use Rattle.std.proofs.Math.Path.{fun_ext}
 use Rattle.std.proofs.lemmas.List.Folds.{Any-from_list_any, list_any-from_Any}
-use Rattle.std.proofs.lemmas.Bool.Decides.{nat_tests}
 use Rattle.std.proofs.lemmas.Option.{slice_get_within, get_or_from_slice_get}
 use Rattle.std.proofs.lemmas.List.Elements.{Contains-append_left, Contains-push, Contains-push_cases}
+use Rattle.std.proofs.lemmas.Bool.{or_cases, or_left, or_right, eqb-true, eq-eqb}
 use Rattle.icu_table_entries.specs.Elements.{Element, of_primary}
 use Rattle.icu_table_entries.specs.declared.entry.EntryKind.{EntryKind}
 use Rattle.icu_table_entries.specs.declared.entry.EntryKind.TheVariants.{Expansion32, Expansion, Offset, Implicit}
@@ -29,21 +28,15 @@ last_contained ws w is = (length ws - 1, slice_get_within ws (length ws - 1) w i
 
 -- ---- which weights a list holds
 
-same_number : (v w : ℕ) → (v == w) ≡ true → v ≡ w
-same_number v w h = grind (arith, nat_tests)
-
-equal_number : (v w : ℕ) → v ≡ w → (v == w) ≡ true
-equal_number v w h = grind (arith, nat_tests)
-
 pub held-contained : (ws : List ℕ) (w : ℕ) → holds ws w ≡ true → Contains ws w
 unfolding holds
 held-contained ws w h =
     let found : Any (λ v. (v == w) ≡ true) ws = Any-from_list_any (λ v. v == w) ws h in
-    subst (Contains ws) (same_number found.1 w found.4) (found.0, found.2, found.3)
+    subst (Contains ws) (eqb-true found.1 w found.4) (found.0, found.2, found.3)
 
 pub contained-held : (ws : List ℕ) (w : ℕ) → Contains ws w → holds ws w ≡ true
 unfolding holds
-contained-held ws w h = list_any-from_Any (λ v. v == w) ws (h.0, w, h.1, h.2, equal_number w w refl)
+contained-held ws w h = list_any-from_Any (λ v. v == w) ws (h.0, w, h.1, h.2, eq-eqb w w refl)
 
 pub same_bool : (a b : Bool) → (a ≡ true → b ≡ true) → (b ≡ true → a ≡ true) → a ≡ b
 same_bool true b f g = sym (f refl)
@@ -53,18 +46,6 @@ same_bool false false f g = refl
 -- a list holds just these
 held_as : (ws : List ℕ) (has : ℕ → Bool) → ((w : ℕ) → Contains ws w → has w ≡ true) → ((w : ℕ) → has w ≡ true → Contains ws w) → holds ws ≡ has
 held_as ws has f g = fun_ext (λ w. same_bool (holds ws w) (has w) (λ h. f w (held-contained ws w h)) (λ h. contained-held ws w (g w h)))
-
-or_left : (a b : Bool) → a ≡ true → (a || b) ≡ true
-or_left true b h = refl
-or_left false b h = cc
-
-or_right : (a b : Bool) → b ≡ true → (a || b) ≡ true
-or_right true b h = refl
-or_right false b h = h
-
-or_cases : (a b : Bool) → (a || b) ≡ true → (a ≡ true) ⊎ (b ≡ true)
-or_cases true b h = inl refl
-or_cases false b h = inr h
 
 -- the last weight once more, and another one
 pub last_again : (ws : List ℕ) (w : ℕ) → slice_get ws (length ws - 1) ≡ Some w → Adds (λ v. v ≡ w) ws ws
@@ -85,11 +66,11 @@ one_held old new w adds =
     held_as new (and_weight (holds old) w)
     (λ v has. elim ((adds v).0 has) [
       | inl before ↦ or_left (holds old v) (w == v) (contained-held old v before)
-      | inr is ↦ or_right (holds old v) (w == v) (equal_number w v (sym is))
+      | inr is ↦ or_right (holds old v) (w == v) (eq-eqb w v (sym is))
     ])
     (λ v h. elim (or_cases (holds old v) (w == v) h) [
       | inl before ↦ (adds v).1 (inl (held-contained old v before))
-      | inr is ↦ (adds v).1 (inr (sym (same_number w v is)))
+      | inr is ↦ (adds v).1 (inr (sym (eqb-true w v is)))
     ])
 
 found-old : (has : ℕ → Bool) (o : Option ℕ) (x : ℕ) → has x ≡ true → and_found has o x ≡ true
@@ -98,21 +79,21 @@ found-old has (Some w) x h = or_left (has x) (w == x) h
 
 found-new : (has : ℕ → Bool) (o : Option ℕ) (x : ℕ) → o ≡ Some x → and_found has o x ≡ true
 found-new has None x h = cc
-found-new has (Some w) x h = let same : w ≡ x = cc in or_right (has x) (w == x) (equal_number w x same)
+found-new has (Some w) x h = let same : w ≡ x = cc in or_right (has x) (w == x) (eq-eqb w x same)
 
 found-cases : (has : ℕ → Bool) (o : Option ℕ) (x : ℕ) → and_found has o x ≡ true → (has x ≡ true) ⊎ (o ≡ Some x)
 found-cases has None x h = inl h
 found-cases has (Some w) x h =
-    elim (or_cases (has x) (w == x) h) [ inl old ↦ inl old | inr same ↦ inr (ap Some (same_number w x same)) ]
+    elim (or_cases (has x) (w == x) h) [ inl old ↦ inl old | inr same ↦ inr (ap Some (eqb-true w x same)) ]
 
 -- ---- the elements of an entry
 
 -- an element is given exactly where the table states the elements
-given-parts : (b : Bool) (xs : List Element) (x : Element) → Contains (if b then xs else []) x → IsTrue b × Contains xs x
+pub given-parts : (b : Bool) (xs : List Element) (x : Element) → Contains (if b then xs else []) x → IsTrue b × Contains xs x
 given-parts true xs x h = (refl, h)
 given-parts false xs x h = absurd (omega arith)
 
-given-from : (b : Bool) (xs : List Element) (x : Element) → IsTrue b → Contains xs x → Contains (if b then xs else []) x
+pub given-from : (b : Bool) (xs : List Element) (x : Element) → IsTrue b → Contains xs x → Contains (if b then xs else []) x
 given-from true xs x is h = h
 given-from false xs x is h = cc
 

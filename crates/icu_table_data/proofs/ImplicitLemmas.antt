@@ -2,6 +2,7 @@
 use Rattle.std.proofs.Common.{◌≡◌, ℕ, ◌<◌, ◌≤◌, Bool, true, false, not, ◌&&◌, nat_eq, nat_le, [], ◌∷◌, Option, None, refl, ap, arith, IsTrue}
 use Rattle.std.specs.Prelude.{◌||◌}
 use Rattle.std.proofs.lemmas.Bool.Decides.{nat_tests}
+use Rattle.std.proofs.Math.Bool.{or-true}
 use Rattle.std.specs.Int.{byte_at}
 use Rattle.icu_table_data.specs.declared.reachable_condition.ReachableCondition.{ReachableCondition}
 use Rattle.icu_table_data.specs.declared.reachable_condition.ReachableCondition.TheVariants.{Indices, PrefixMappings, Chains, Digits, Bytes, Offsets, Shapes, Leads, Primaries}
@@ -18,10 +19,6 @@ use Rattle.icu_table_data.specs.ReachableConditions.{meets, first_failing}
 use Rattle.icu_table_data.specs.CollectedWeights.{is_stated}
 use Rattle.icu_table_data.specs.inner.Visitors.{given_elements, collected_at}
 use Rattle.icu_table_data.proofs.ViolationLemmas.{meets_passes}
-
-or_true : (b : Bool) → (b || true) ≡ true
-or_true true = refl
-or_true false = refl
 
 or_right : (a b c : Bool) → b ≡ true → (a || b || c) ≡ true
 or_right true b c h = refl
@@ -56,7 +53,7 @@ module _ (b1 b2 b3 b4 : ℕ) (low1 : 3 ≤ b1) (high1 : b1 < 256) (low2 : 1 ≤ 
 
   pub shape : has_shape (of_primary (weight b1 b2 b3 b4)) ≡ true
   unfolding has_shape ends_at_zero
-  shape = rw (four_end, or_true (nat_eq (weight b1 b2 b3 b4) 0)) refl
+  shape = rw (four_end, or-true (nat_eq (weight b1 b2 b3 b4) 0)) refl
 
   is_high : nat_le 0x03000000 (weight b1 b2 b3 b4) ≡ true
   is_high = grind (arith, nat_tests)

@@ -3,6 +3,7 @@ use Rattle.std.proofs.Common.{◌≡◌, ℕ, Bool, true, false, List, [], ◌�
 use Rattle.std.specs.Prelude.{◌||◌, ◌&&◌, ◌==◌, if◌then◌else◌, flat_map}
 use Rattle.std.specs.List.{Contains, list_any}
 use Rattle.std.proofs.lemmas.List.Elements.{Contains-append_cases, Contains-append_left, Contains-append_right}
+use Rattle.std.proofs.Math.Bool.{or-false}
 use Rattle.icu_table_entries.specs.declared.entry.EntryKind.{EntryKind}
 use Rattle.icu_table_entries.specs.declared.entry.EntryKind.TheVariants.{Prefix, Contraction, Digit, Offset, Implicit as ImplicitKind}
 use Rattle.icu_table_entries.specs.Entries.{kind_of, entry_index}
@@ -33,13 +34,9 @@ pub leaf_alone : (home : Data) (e : ℕ) → leads_further (kind_of e) ≡ false
 unfolding reachable_from reachable_contraction reachable_digit
 leaf_alone home e h = not_prefix (kind_of e) _ _ h ∙ not_contraction (kind_of e) _ _ h ∙ not_digit (kind_of e) _ _ h
 
-or_false : (b : Bool) → (b || false) ≡ b
-or_false true = refl
-or_false false = refl
-
 pub leaf_leads : (part : Part) (home : Data) (e : ℕ) → leads_further (kind_of e) ≡ false → leads_to part home e ≡ is_wanted part e
 unfolding leads_to
-leaf_leads part home e h = ap (list_any (is_wanted part)) (leaf_alone home e h) ∙ or_false (is_wanted part e)
+leaf_leads part home e h = ap (list_any (is_wanted part)) (leaf_alone home e h) ∙ or-false (is_wanted part e)
 
 goes_leaf : (k : EntryKind) → (elim k as (λ _. Bool) [ Offset ↦ true | ImplicitKind ↦ true | _ ↦ false ]) ≡ true → leads_further k ≡ false
 goes_leaf Offset h = refl
@@ -68,7 +65,7 @@ found_any part home e s is = ap (λ (s : Part × Bool). s.1) (is ∙ any_after p
 
 -- ---- the classes of entries
 
-clash : (b : Bool) → b ≡ true → b ≡ false → ⊥
+pub clash : (b : Bool) → b ≡ true → b ≡ false → ⊥
 clash true p q = cc
 clash false p q = cc
 

@@ -1,7 +1,8 @@
 -- What an entry gives that doesn't go by its character is the same with each character, and with another entry that
 -- refers to the same context.
 use Rattle.std.proofs.Common.{◌≡◌, ℕ, Bool, true, false, not, ◌&&◌, List, [], ◌∷◌, Some, refl, sym, ap, ◌∙◌, if◌then◌else◌, inl, inr}
-use Rattle.std.specs.Prelude.{find, ◌||◌}
+use Rattle.std.proofs.lemmas.Bool.{or_parts}
+use Rattle.std.specs.Prelude.{find}
 use Rattle.std.specs.List.{AllByRecursion, list_all, list_any}
 use Rattle.icu_table_entries.specs.declared.entry.EntryKind.{EntryKind}
 use Rattle.icu_table_entries.specs.declared.entry.EntryKind.TheVariants.{Expansion32, Expansion, Prefix, Contraction, Offset, Implicit}
@@ -201,10 +202,6 @@ gives_alike home =
 
 -- ---- what is reachable
 
-pub or_none : (a b : Bool) → (a || b) ≡ false → (a ≡ false) × (b ≡ false)
-or_none false b h = (refl, h)
-or_none true b h = cc
-
 pub none_passes : {X : Type 0} (p : X → Bool) (xs : List X) → list_any p xs ≡ false → AllByRecursion (λ x. p x ≡ false) xs
 none_passes p [] h = tt
-none_passes p (x ∷ xs) h = let both = or_none (p x) (list_any p xs) h in (both.0, none_passes p xs both.1)
+none_passes p (x ∷ xs) h = let both = or_parts (p x) (list_any p xs) h in (both.0, none_passes p xs both.1)

@@ -1,7 +1,7 @@
 -- Which violation a walk reports, by any judge, and the judge of a root or a tailoring alone: the first condition that
 -- an entry fails.
 use Rattle.std.proofs.Common.{◌≡◌, ℕ, zero, suc, ◌+◌, ◌<◌, ◌≤◌, Bool, true, false, not, List, [], ◌∷◌, ◌⊎◌, Option, Some, None, if◌then◌else◌, refl, sym, ap, ◌∙◌, subst, IfSome, IsTrue, ◌↔◌, nat_lt, inl, inr, arith, lit≤}
-use Rattle.std.proofs.lemmas.Bool.{and_parts, and_from}
+use Rattle.std.proofs.lemmas.Bool.{and_parts, and_from, not-false, not-true}
 use Rattle.std.proofs.lemmas.Bool.Decides.{nat_tests}
 use Rattle.std.specs.Prelude.{find}
 use Rattle.std.specs.List.{AllByRecursion, Contains}
@@ -70,14 +70,6 @@ pub none_found : {X : Type 0} (p : X → Bool) → ((x : X) → p x ≡ false) �
 none_found p fails [] = refl
 none_found p fails (x ∷ xs) = skipped (p x) x (find p xs) (fails x) ∙ none_found p fails xs
 
-pub not_false : (b : Bool) → not b ≡ false → b ≡ true
-not_false true h = refl
-not_false false h = cc
-
-pub not_true : (b : Bool) → not b ≡ true → b ≡ false
-not_true true h = cc
-not_true false h = refl
-
 pub negated : (b : Bool) → b ≡ true → not b ≡ false
 negated true h = refl
 negated false h = cc
@@ -101,7 +93,7 @@ listed P all Primaries = all.1.1.1.1.1.1.1.1.0
 
 listed_meets : (home : Data) (c e : ℕ) → AllByRecursion (λ condition. not (meets condition home c e) ≡ false) reachable_conditions → (condition : ReachableCondition) → IsTrue (meets condition home c e)
 listed_meets home c e all condition =
-    not_false (meets condition home c e) (listed (λ other. not (meets other home c e) ≡ false) all condition)
+    not-false (meets condition home c e) (listed (λ other. not (meets other home c e) ≡ false) all condition)
 
 pub passes_meets : (home : Data) (c e : ℕ) → first_failing home c e ≡ None → (condition : ReachableCondition) → IsTrue (meets condition home c e)
 unfolding first_failing
@@ -118,7 +110,7 @@ weaker_some P Q f (Some x) h = f x h
 pub failing_fails : (home : Data) (c e : ℕ) → IfSome (first_failing home c e) (Fails home c e)
 unfolding first_failing
 failing_fails home c e =
-    weaker_some _ (Fails home c e) (λ condition h. not_true (meets condition home c e) h) _ (find_passes (λ condition. not (meets condition home c e)) reachable_conditions)
+    weaker_some _ (Fails home c e) (λ condition h. not-true (meets condition home c e) h) _ (find_passes (λ condition. not (meets condition home c e)) reachable_conditions)
 
 -- where no entry fails a condition of a lesser rank, each condition of a lesser rank is met
 conditions_ascend : Ascends condition_rank 0 reachable_conditions
@@ -131,7 +123,7 @@ unfolding first_failing
 meets_before home c e first other less h =
     let all : AllByRecursion (λ x. condition_rank x < condition_rank first → not (meets x home c e) ≡ false) reachable_conditions
     = find_before condition_rank (λ x. not (meets x home c e)) first 0 reachable_conditions conditions_ascend h in
-    not_false (meets other home c e) (listed (λ x. condition_rank x < condition_rank first → not (meets x home c e) ≡ false) all other less)
+    not-false (meets other home c e) (listed (λ x. condition_rank x < condition_rank first → not (meets x home c e) ≡ false) all other less)
 
 -- an entry that meets each condition can be read
 pub meets_readable : (home : Data) (c e : ℕ) → ((condition : ReachableCondition) → IsTrue (meets condition home c e)) → IsTrue (is_readable home c e)

@@ -3,12 +3,13 @@ use Rattle.std.proofs.Common.{◌≡◌, ℕ, ◌+◌, ◌<◌, ◌^◌, List, �
 use Rattle.std.specs.Prelude.{IfSome}
 use Rattle.std.specs.Int.{w64, to_be_bytes}
 use Rattle.std.proofs.lemmas.List.{length-append}
+use Rattle.icu_table_files.proofs.fingerprint.WordForms.{cut}
 use Rattle.sha2.specs.Sha256.{sha256}
 use Rattle.sha2.proofs.Facts256.{length-sha256}
 use Rattle.icu_table_provider.specs.Reorderings.{Reordering}
 use Rattle.icu_table_files.specs.fingerprint.FingerprintForms.{StoredData, StoredTables}
 use Rattle.icu_table_files.specs.parts.Frames.{framed, magic_word}
-use Rattle.icu_table_files.proofs.parts.SpeltNumberLemmas.{number_tells, same_fronts, wide64}
+use Rattle.icu_table_files.proofs.parts.SpeltNumberLemmas.{number_tells, wide64}
 use Rattle.icu_table_files.specs.FileContents.{FileContents, StoredContents, contents_stored}
 use Rattle.icu_table_files.specs.TableFiles.{AreStorable, HasReorderingWidths, HasWidths, IsFileOf, IsStorable, IsStorableData, IsStorableReordering}
 use Rattle.icu_table_files.specs.TableBytes.{content_bytes}
@@ -22,10 +23,10 @@ framed_length body = omega (arith, length-append (sha256 body) body, length-sha2
 -- frames tell their bodies
 pub frames_tell : (a b : List ℕ) → length a < 2 ^ 64 → length b < 2 ^ 64 → framed a ≡ framed b → a ≡ b
 frames_tell a b f g e =
-    let one = same_fronts (to_be_bytes w64 magic_word) (to_be_bytes w64 magic_word) _ _ refl e in
-    let two = same_fronts (to_be_bytes w64 1) (to_be_bytes w64 1) _ _ refl one.1 in
+    let one = cut (to_be_bytes w64 magic_word) (to_be_bytes w64 magic_word) _ _ refl e in
+    let two = cut (to_be_bytes w64 1) (to_be_bytes w64 1) _ _ refl one.1 in
     let three = number_tells w64 (2 ^ 64) wide64 (length a) (length b) (sha256 a ++ a) (sha256 b ++ b) f g two.1 in
-    (same_fronts (sha256 a) (sha256 b) a b (length-sha256 a ∙ sym (length-sha256 b)) three.1).1
+    (cut (sha256 a) (sha256 b) a b (length-sha256 a ∙ sym (length-sha256 b)) three.1).1
 
 -- ---- widths and what can be borrowed
 

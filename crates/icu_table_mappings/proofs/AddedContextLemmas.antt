@@ -59,10 +59,6 @@ mappings_put left next k v e some = ap mappings_by e ∙ here k.items v (mapping
 pub positive : (n : ℕ) → (n == 0) ≡ false → 0 < n
 positive n h = grind (arith, nat_tests)
 
--- a test that it is
-pub nothing_left : (n : ℕ) → (n == 0) ≡ true → n ≡ 0
-nothing_left n h = grind (arith, nat_tests)
-
 -- one mapping more
 pub put_turn : (list new : List (Bor (List ℕ) × ℕ)) (x : Bor (List ℕ) × ℕ) (left next : List (Vec ℕ × ℕ)) (k : Vec ℕ) (v : ℕ) (all : List Mapping)
     → new ≡ list ++ x ∷ [] → x.0.now ≡ k.items → x.1 ≡ v → left ≡ (k, v) ∷ next → 0 < length k.items

@@ -3,6 +3,7 @@
 use Rattle.std.proofs.Common.{◌≡◌, ℕ, ◌+◌, ◌-◌, ◌<◌, ◌≤◌, length, Bool, true, false, List, [], ◌∷◌, Option, Some, None, refl, sym, ap, ◌∙◌, if◌then◌else◌, arith, zero, suc, take}
 use Rattle.std.specs.Prelude.{is_some, ◌&&◌, ◌||◌, nat_eq, option_and_then}
 use Rattle.std.proofs.lemmas.Bool.Decides.{nat_tests}
+use Rattle.std.proofs.Math.Bool.{or-true}
 use Rattle.std.specs.BTreeMap.{insert_entry}
 use Rattle.std.specs.Global.{Vec}
 use Rattle.std.specs.List.{starts_with}
@@ -15,10 +16,6 @@ use Rattle.icu_table_mappings.specs.inner.ContextParts.{last_among}
 use Rattle.icu_table_mappings.proofs.SurroundingLemmas.{inserted_among, key_order, last_end, last_turn, same_from_true}
 
 -- ---- entries that begin characters
-
-pub or_true : (b : Bool) → (b || true) ≡ true
-or_true true = refl
-or_true false = refl
 
 begins_itself : (xs : List ℕ) → starts_with nat_eq xs xs ≡ true
 begins_itself [] = refl
@@ -36,7 +33,7 @@ begun_there (x ∷ es) after e h = by_test (bytes_eq x.0.items after) refl (λ g
   by_test true is more h =
       ap (λ ks. starts_with nat_eq after ks || begins_after es after) (same_from_true x.0.items after is)
       ∙ ap (λ b. b || begins_after es after) (begins_itself after)
-  by_test false is more h = ap (λ b. starts_with nat_eq after x.0.items || b) (more h) ∙ or_true (starts_with nat_eq after x.0.items)
+  by_test false is more h = ap (λ b. starts_with nat_eq after x.0.items || b) (more h) ∙ or-true (starts_with nat_eq after x.0.items)
 
 -- one before nothing begins all
 pub nothing_begins : (es : List (Vec ℕ × ℕ)) (after : List ℕ) → is_some (value_among es []) ≡ true → begins_after es after ≡ true
@@ -46,7 +43,7 @@ nothing_begins (x ∷ es) after h = by_test (bytes_eq x.0.items []) refl (λ g. 
   by_test : (b : Bool) → bytes_eq x.0.items [] ≡ b → (is_some (value_among es []) ≡ true → begins_after es after ≡ true)
       → is_some (if b then Some x.1 else value_among es []) ≡ true → (starts_with nat_eq after x.0.items || begins_after es after) ≡ true
   by_test true is more h = ap (λ ks. starts_with nat_eq after ks || begins_after es after) (same_from_true x.0.items [] is)
-  by_test false is more h = ap (λ b. starts_with nat_eq after x.0.items || b) (more h) ∙ or_true (starts_with nat_eq after x.0.items)
+  by_test false is more h = ap (λ b. starts_with nat_eq after x.0.items || b) (more h) ∙ or-true (starts_with nat_eq after x.0.items)
 
 -- only one before nothing begins nothing
 begun_nothing : (es : List (Vec ℕ × ℕ)) → begins_after es [] ≡ true → is_some (value_among es []) ≡ true
@@ -76,7 +73,7 @@ begun_by (x ∷ es) after k h = by_test (bytes_eq x.0.items (take k after)) refl
   by_test true is more h =
       ap (λ ks. starts_with nat_eq after ks || begins_after es after) (same_from_true x.0.items (take k after) is)
       ∙ ap (λ b. b || begins_after es after) (begins_with_part k after)
-  by_test false is more h = ap (λ b. starts_with nat_eq after x.0.items || b) (more h) ∙ or_true (starts_with nat_eq after x.0.items)
+  by_test false is more h = ap (λ b. starts_with nat_eq after x.0.items || b) (more h) ∙ or-true (starts_with nat_eq after x.0.items)
 
 -- what begins characters is their first ones
 pub is_beginning : (ks xs : List ℕ) → starts_with nat_eq xs ks ≡ true → (k : ℕ) × (k ≤ length xs) × (bytes_eq ks (take k xs) ≡ true)

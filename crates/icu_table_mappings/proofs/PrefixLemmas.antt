@@ -1,5 +1,6 @@
 -- The entries of a character behind each of its prefixes, prefix by prefix.
 use Rattle.std.proofs.Common.{◌≡◌, ℕ, ◌<◌, Bool, true, false, List, [], ◌∷◌, length, Option, Some, None, refl, sym, ap, subst, ◌∙◌, if◌then◌else◌, arith, inl, inr}
+use Rattle.std.proofs.lemmas.List.{nil_from_length}
 use Rattle.std.specs.Prelude.{is_some, ◌||◌, ◌⊎◌}
 use Rattle.std.specs.BTreeMap.{insert_entry}
 use Rattle.std.specs.Global.{Vec}
@@ -48,10 +49,6 @@ covers_turn left next k v old new steps i before h =
 skip_here : (b r : Bool) (o : Option ℕ) → (b ≡ true → is_some o ≡ true) → (is_some o ≡ true) ⊎ ((b || r) ≡ true) → (is_some o ≡ true) ⊎ (r ≡ true)
 skip_here true r o has h = inl (has refl)
 skip_here false r o has h = h
-
-nil_from_length : (xs : List ℕ) → length xs ≡ 0 → xs ≡ []
-nil_from_length [] h = refl
-nil_from_length (x ∷ xs) h = absurd (omega arith)
 
 -- no prefix has its entry from the start
 pub covers_skip : (left next : List (Vec ℕ)) (k : Vec ℕ) (entries : Suffixes) (default : ℕ) → left ≡ k ∷ next → length k.items ≡ 0

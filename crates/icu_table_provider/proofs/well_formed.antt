@@ -1,1 +1,2 @@
 pub mod LeadLemmas
+pub mod NamedLemmas

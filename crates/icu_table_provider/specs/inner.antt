@@ -1,2 +1,3 @@
 -- Words of private contracts and proofs only: no public contract names them.
 pub mod ReachedRanges
+pub mod NamedBlocks

@@ -6,3 +6,5 @@ pub mod LeadConditions
 pub mod WellFormedTables
 pub mod WellFormedProps
 pub mod Checked
+pub mod MappingCharacters
+pub mod Named

@@ -11,7 +11,7 @@ use Rattle.icu_table_provider.specs.SpecialPrimaries.{SpecialPrimaries}
 use Rattle.icu_table_provider.specs.well_formed.Leads.{reordered_lead}
 use Rattle.icu_table_weights.specs.Alike.{compresses, CompressAlike, CompressApart, compressed_at, other_at, mark_of, Marks, HaveCommonMark, HaveNoCommonMark}
 
-unmarked : (n l : ℕ) → get_or (replicate n false) l false ≡ false
+pub unmarked : (n l : ℕ) → get_or (replicate n false) l false ≡ false
 unmarked n l = grind (arith, common_steps)
 
 -- a table without a mark is that of no weights

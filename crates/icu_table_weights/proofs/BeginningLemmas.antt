@@ -11,7 +11,7 @@ abbrev pub Begins : ℕ → ℕ → ℕ → Type 0
 Begins zero v w = Unit {0}
 Begins (suc k) v w = (v ≡ 0) ⊎ ((v / 256 ^ k ≡ w / 256 ^ k) × Begins k (v % 256 ^ k) (w % 256 ^ k))
 
-some_pow : (k : ℕ) → 0 < 256 ^ k
+pub some_pow : (k : ℕ) → 0 < 256 ^ k
 some_pow k = one-le-pow k 256 (lit< tt)
 
 -- ---- zero is written as nothing, and nothing else is

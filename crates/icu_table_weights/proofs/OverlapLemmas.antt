@@ -1,5 +1,5 @@
 -- Overlaps of the members of a list, from those of its indexes.
-use Rattle.std.proofs.Common.{◌≡◌, ◌≢◌, ℕ, ◌*◌, ◌^◌, ◌<◌, ◌≤◌, List, length, get_or, refl, sym, ap, ◌∙◌, subst, inl, inr, ◌⊎◌, arith, Contains, IsPermutation, Option, Some, None, IfSome}
+use Rattle.std.proofs.Common.{◌≡◌, ◌≢◌, ℕ, ◌*◌, ◌^◌, ◌<◌, ◌≤◌, List, length, get_or, refl, sym, ap, ◌∙◌, subst, inl, inr, ◌⊎◌, arith, Contains, IsPermutation, Option, Some, None, IfSome, All}
 use Rattle.std.specs.List.Sorted.{IsStrictlyIncreasing}
 use Rattle.std.proofs.lemmas.Bool.{cases_lt}
 use Rattle.std.proofs.lemmas.List.{get_or_default}
@@ -9,6 +9,8 @@ use Rattle.std.proofs.lemmas.List.Sorted.{IsPermutation-sym, Contains-permutatio
 use Rattle.icu_order_levels.specs.ListOrder.{IsBeginning}
 use Rattle.icu_order_levels.specs.WeightBytes.{weight_bytes}
 use Rattle.icu_order_levels.specs.Premises.{IsPrefixFree}
+use Rattle.icu_table_provider.specs.Reorderings.{Reordering, reordered}
+use Rattle.icu_table_provider.proofs.well_formed.LeadLemmas.{reordered-bound}
 use Rattle.icu_table_weights.specs.Overlaps.{Overlaps}
 use Rattle.icu_table_weights.specs.declared.overlap.Overlap.{Overlap}
 use Rattle.icu_table_weights.proofs.BeginningLemmas.{moved_up_bytes}
@@ -89,3 +91,7 @@ module _ (ws us vs : List ℕ) (moved : IsPermutation ws us) (again : IsPermutat
   pub found_were_there : (spell : ℕ → List ℕ) (found : Option Overlap) → IfSome found (λ o. Overlaps spell vs o.first o.second) → IfSome found (λ o. Overlaps spell ws o.first o.second)
   found_were_there spell None h = h
   found_were_there spell (Some o) h = overlaps_were_there spell o.first o.second h
+
+-- four bytes stay four bytes
+pub reordered_fits : (r : Reordering) → All (λ b. b < 256) r.leads → (p : ℕ) → p < 2 ^ 32 → reordered r p < 2 ^ 32
+reordered_fits r bytes p small = reordered-bound r p bytes small

@@ -3,7 +3,6 @@ use Rattle.std.proofs.Common.{◌≡◌, ◌↔◌, ◌⊎◌, ℕ, ◌+◌, ◌
 use Rattle.std.specs.Int.{bit_at}
 use Rattle.std.specs.Global.{Vec}
 use Rattle.std.proofs.lemmas.Bool.{cases_eq}
-use Rattle.std.proofs.lemmas.Bool.Decides.{nat_tests}
 use Rattle.std.proofs.lemmas.List.{get_or_default}
 use Rattle.std.proofs.lemmas.Nat.Bits.{bit_at-zero}
 use Rattle.std.proofs.lemmas.List.Elements.{Contains-append_left, Contains-get_or, Contains-push, Contains-push_cases}
@@ -11,7 +10,7 @@ use Rattle.icu_table_data.specs.CollectedWeights.{Adds}
 use Rattle.icu_table_weights.specs.declared.weight_set.WeightSet.{WeightSet}
 use Rattle.icu_table_weights.specs.WeightSets.{is_three_bytes, middle_bytes, is_marked, page_of, has_weight_bit, IsOfLead, IsEmptyLead, IsEmptyBlock}
 use Rattle.icu_table_weights.specs.inner.Pages.{IsBelow, IsOther, IsOfWord, IsOfPage}
-use Rattle.icu_table_weights.proofs.WeightSetLemmas.{in_fits, three_in}
+use Rattle.icu_table_weights.proofs.WeightSetLemmas.{in_fits, three_in, no_member, unset, three_parts}
 
 -- ---- what is added
 
@@ -58,9 +57,6 @@ below_step P start old new n before now w = (
 pub below_all : (P : ℕ → ℕ → Type 0) (old new : List ℕ) (n m : ℕ) → n ≡ m → Adds (IsBelow P n) old new → Adds (IsBelow P m) old new
 below_all P old new n m same adds = subst (λ n. Adds (IsBelow P n) old new) same adds
 
-no_member : (w : ℕ) → Contains [] w → ⊥
-no_member w c = omega (arith, c.1)
-
 -- weights of a list, but for those of three bytes
 pub others_listed : (ws : List ℕ) (n : ℕ) (list : List ℕ) → n ≡ length ws → Adds (IsBelow (λ k. IsOther (get_or ws k 0)) n) [] list
     → (w : ℕ) → Contains list w ↔ (Contains ws w × (is_three_bytes w ≡ false))
@@ -73,9 +69,6 @@ others_listed ws n list all adds w = (
 )
 
 -- ---- a word
-
-unset : (b : ℕ) → IsTrue (b == 1) → b ≡ 0 → ⊥
-unset b h is = grind (arith, nat_tests)
 
 -- a word of no bits adds nothing
 pub none_of_zero : (word first w : ℕ) → word ≡ 0 → IsOfWord word first w → ⊥
@@ -98,9 +91,6 @@ lead_is lead place bit w p b is = omega (arith, p, b, is)
 
 made_of : (lead w : ℕ) → w % 256 ≡ 0 → w / 16777216 ≡ lead → w ≡ lead * 16777216 + w / 256 % 65536 / 64 * 16384 + w / 256 % 65536 % 64 * 256
 made_of lead w zero is = omega (arith, zero, is)
-
-low_zero : (p : ℕ) → IsTrue (is_three_bytes p) → p % 256 ≡ 0
-low_zero p h = grind (arith, nat_tests)
 
 -- the weights of the page of a lead byte are those of the set with this lead byte
 module _ (s : WeightSet) (lead : ℕ) (small : lead < 256) where
@@ -133,7 +123,7 @@ module _ (s : WeightSet) (lead : ℕ) (small : lead < 256) where
   has_page w is =
       let place : ℕ = w / 256 % 65536 / 64 in
       let bit : ℕ = w / 256 % 65536 % 64 in
-      let at : w ≡ lead * 16777216 + place * 16384 + bit * 256 = made_of lead w (low_zero w is.three) is.of_lead in
+      let at : w ≡ lead * 16777216 + place * 16384 + bit * 256 = made_of lead w (three_parts w is.three) is.of_lead in
       let p : place < 1024 = omega arith in
       let b : bit < 64 = omega arith in
       record {

@@ -1,9 +1,10 @@
 -- Overlaps among the weights of a set, by where a reordering takes those of three bytes.
 use Rattle.std.proofs.Common.{◌≡◌, ◌≢◌, ◌↔◌, ◌⊎◌, ℕ, zero, suc, ◌+◌, ◌-◌, ◌/◌, ◌%◌, ◌^◌, ◌<◌, Bool, true, false, not, ◌==◌, ◌&&◌, List, [], ◌∷◌, Option, Some, None, refl, sym, ap, ◌∙◌, subst, inl, inr, IsTrue, Contains, arith, length, get_or, Result, Ok, Err, IfOk, IfSome, IsNone}
-use Rattle.std.proofs.lemmas.Bool.{cases_Bool, cases_eq}
+use Rattle.std.proofs.lemmas.Bool.{cases_Bool, cases_eq, eqb-true}
 use Rattle.std.proofs.lemmas.Bool.Decides.{nat_tests}
 use Rattle.std.proofs.lemmas.List.{get_or_default}
 use Rattle.std.proofs.lemmas.List.Elements.{Contains-get_or}
+use Rattle.icu_table_weights.proofs.WeightSetLemmas.{three_parts}
 use Rattle.icu_order_levels.specs.ListOrder.{IsBeginning}
 use Rattle.icu_order_levels.specs.WeightBytes.{weight_bytes}
 use Rattle.icu_order_levels.specs.Premises.{IsPrefixFree}
@@ -41,9 +42,6 @@ three_kept r p =
 
 -- ---- weights of three bytes
 
-low_zero : (p : ℕ) → IsTrue (is_three_bytes p) → p % 256 ≡ 0
-low_zero p h = grind (arith, nat_tests)
-
 third_some : (p : ℕ) → IsTrue (is_three_bytes p) → p / 256 % 256 ≢ 0
 third_some p h e = grind (arith, nat_tests)
 
@@ -59,11 +57,11 @@ equal_numbers v w h = grind (arith, nat_tests)
 -- one of three bytes begins what agrees in these
 three_begins : (q w : ℕ) → q < 2 ^ 32 → w < 2 ^ 32 → IsTrue (is_three_bytes q) → IsBeginning (weight_bytes 4 q) (weight_bytes 4 w) → q / 256 ≡ w / 256
 three_begins q w small fits three begins =
-    equal_thirds q w ((three_bytes_begin q w small fits (low_zero q three) (third_of q (low_zero q three) (third_some q three))).1 begins)
+    equal_thirds q w ((three_bytes_begin q w small fits (three_parts q three) (third_of q (three_parts q three) (third_some q three))).1 begins)
 
 -- of two weights of three bytes one begins the other only if they are one
 pub three_begin : (v w : ℕ) → v < 2 ^ 32 → w < 2 ^ 32 → IsTrue (is_three_bytes v) → IsTrue (is_three_bytes w) → IsBeginning (weight_bytes 4 v) (weight_bytes 4 w) → v ≡ w
-three_begin v w small fits is_v is_w begins = same v w (low_zero v is_v) (low_zero w is_w) (three_begins v w small fits is_v begins)
+three_begin v w small fits is_v is_w begins = same v w (three_parts v is_v) (three_parts w is_w) (three_begins v w small fits is_v begins)
   where
     same : (v w : ℕ) → v % 256 ≡ 0 → w % 256 ≡ 0 → v / 256 ≡ w / 256 → v ≡ w
     same v w a b c = omega (arith, a, b, c)
@@ -78,12 +76,9 @@ isnt_three false c h k = cc
 is_zero : (n : ℕ) → n ≡ 0 → (n == 0) ≡ true
 is_zero n h = grind (arith, nat_tests)
 
-zero_is : (n : ℕ) → (n == 0) ≡ true → n ≡ 0
-zero_is n h = grind (arith, nat_tests)
-
 -- with a zero at its end, it has two
 two_zeros : (w : ℕ) → is_three_bytes w ≡ false → w % 256 ≡ 0 → w % 65536 ≡ 0
-two_zeros w isnt low = both w low (zero_is (w / 256 % 256) (isnt_three (w % 256 == 0) (w / 256 % 256 == 0) (is_zero (w % 256) low) isnt))
+two_zeros w isnt low = both w low (eqb-true (w / 256 % 256) 0 (isnt_three (w % 256 == 0) (w / 256 % 256 == 0) (is_zero (w % 256) low) isnt))
   where
     both : (w : ℕ) → w % 256 ≡ 0 → w / 256 % 256 ≡ 0 → w % 65536 ≡ 0
     both w a b = omega (arith, a, b)
@@ -95,9 +90,9 @@ pub clear_of_four : (targets : List ℕ) (w : ℕ) → ((q : ℕ) → Contains t
     → (Contains targets (w - w % 256) → IsTrue (is_three_bytes (w - w % 256)) → ⊥) → IsClear targets w
 clear_of_four targets w small fits four none q has three = (
   λ begins.
-      let is = shortened q w (low_zero q three) (three_begins q w (small q has) fits three begins) in
+      let is = shortened q w (three_parts q three) (three_begins q w (small q has) fits three begins) in
       none (subst (Contains targets) is has) (subst (λ q. IsTrue (is_three_bytes q)) is three),
-  λ begins. four (ap (λ n. n % 256) (equal_numbers w q ((four_bytes_begin w q fits (small q has) four).1 begins)) ∙ low_zero q three),
+  λ begins. four (ap (λ n. n % 256) (equal_numbers w q ((four_bytes_begin w q fits (small q has) four).1 begins)) ∙ three_parts q three),
 )
   where
     shortened : (q w : ℕ) → q % 256 ≡ 0 → q / 256 ≡ w / 256 → q ≡ w - w % 256

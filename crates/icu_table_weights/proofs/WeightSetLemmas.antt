@@ -94,7 +94,7 @@ other_in s p fits is = (
   λ h. held-contained s.others.items p (sym (other_has s p is) ∙ in_has s p h),
 )
 
-unset : (b : ℕ) → IsTrue (b == 1) → b ≡ 0 → ⊥
+pub unset : (b : ℕ) → IsTrue (b == 1) → b ≡ 0 → ⊥
 unset b h is = grind (arith, nat_tests)
 
 no_bit : (w : ℕ) → has_weight_bit [] w ≡ true → ⊥
@@ -292,7 +292,7 @@ marked_from old filled index word inside same is i =
 
 -- ---- the bit of a weight
 
-three_parts : (p : ℕ) → IsTrue (is_three_bytes p) → p % 256 ≡ 0
+pub three_parts : (p : ℕ) → IsTrue (is_three_bytes p) → p % 256 ≡ 0
 three_parts p h = by (and_parts (p % 256 == 0) (not (p / 256 % 256 == 0)) h).0
   where
     by : IsTrue (p % 256 == 0) → p % 256 ≡ 0

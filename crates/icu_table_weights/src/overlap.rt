@@ -20,7 +20,7 @@ use icu_table_provider::reordering::lead_byte;
 use std::alloc::AllocError;
 
 /// Reordering leaves weights in four bytes.
-#[tactic(auto, using(icu_table_provider::proofs::well_formed::LeadLemmas::reordered_fits))]
+#[tactic(auto, using(crate::proofs::OverlapLemmas::reordered_fits))]
 pub(crate) fn stays_in_range(reordering: Option<CollationReordering<'_>>)
     ensures { (p : ℕ) → p < 2 ^ 32
         → reorder_by (option_map reordering_of reordering.entry) p < 2 ^ 32 }

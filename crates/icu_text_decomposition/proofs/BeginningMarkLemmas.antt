@@ -1,6 +1,6 @@
 -- Marks class by class, and what begins with no lower class.
-use Rattle.std.proofs.Common.{◌≡◌, ◌≢◌, ◌≤◌, ◌<◌, ◌==◌, ◌+◌, ◌-◌, ◌⊎◌, ℕ, zero, suc, List, [], ◌∷◌, ◌++◌, drop, refl, sym, ap, subst, ◌∙◌, arith, inl, inr, append_assoc}
-use Rattle.std.proofs.lemmas.Bool.{cases_Bool, cond-true, cond-false}
+use Rattle.std.proofs.Common.{◌≡◌, ◌≤◌, ◌<◌, ◌==◌, ◌+◌, ◌-◌, ℕ, zero, suc, List, [], ◌∷◌, ◌++◌, drop, refl, sym, ap, subst, ◌∙◌, arith, inl, inr, append_assoc}
+use Rattle.std.proofs.lemmas.Bool.{cases_Bool, cond-true, cond-false, cases_lt}
 use Rattle.std.proofs.lemmas.Bool.Decides.{nat_tests}
 use Rattle.ucd_normal.specs.CanonicalCombiningClass.{canonical_combining_class as class_of}
 use Rattle.unicode_normalization.specs.Order.{canonical_order}
@@ -10,9 +10,6 @@ use Rattle.icu_text_decomposition.specs.inner.BeginningMarks.{BeginsAbove}
 use Rattle.icu_text_decomposition.specs.inner.FrontMarks.{front_marks, past_marks}
 use Rattle.icu_text_decomposition.specs.inner.MarksLeft.{lists_from}
 use Rattle.icu_text_decomposition.proofs.FrontMarkLemmas.{cases_class, past-nil, past-starter, past-mark, order-starter, front_none}
-
-pub cases_lt : (a b : ℕ) → (a < b) ⊎ (b ≤ a)
-cases_lt a b = grind arith
 
 -- all are marks of this class
 abbrev pub AllOf : ℕ → List ℕ → Type 0

@@ -1,6 +1,6 @@
 -- Each class that a character has has a number of its own.
-use Rattle.std.proofs.Common.{◌≡◌, ◌≤◌, ◌<◌, ◌+◌, ◌-◌, ◌⊎◌, ◌||◌, ◌&&◌, ℕ, suc, Bool, true, false, nat_eq, nat_lt, nat_le, List, [], ◌∷◌, get_or, refl, sym, ap, ◌∙◌, arith, inl, inr, ltb-true, leb-true}
-use Rattle.std.proofs.lemmas.Bool.{cond-false, and_parts}
+use Rattle.std.proofs.Common.{◌≡◌, ◌≤◌, ◌<◌, ◌+◌, ◌-◌, ◌||◌, ◌&&◌, ℕ, suc, Bool, true, false, nat_eq, nat_lt, nat_le, List, [], ◌∷◌, get_or, refl, sym, ap, ◌∙◌, arith, inl, inr, ltb-true, leb-true}
+use Rattle.std.proofs.lemmas.Bool.{cond-false, and_parts, or_cases, cases_lt}
 use Rattle.std.proofs.lemmas.Bool.Decides.{nat_tests}
 use Rattle.ucd_table.proofs.Computing.{tables}
 use Rattle.ucd_table.proofs.RangedFacts.{values_ok, Stepped-at_values}
@@ -25,15 +25,11 @@ each_has_number : (c : ℕ) → has_number (class_of c) ≡ true
 unfolding tables values_ok canonical_combining_class_stepped has_number class_number
 each_has_number c = Stepped-at_values class_of canonical_combining_class_stepped has_number refl c
 
-either_true : (a b : Bool) → (a || b) ≡ true → (a ≡ true) ⊎ (b ≡ true)
-either_true true b h = inl refl
-either_true false b h = inr h
-
 -- the class of a mark has a number
 pub mark_class-is_used : (c : ℕ) → 0 < class_of c → IsUsedClass (class_of c)
 unfolding has_number
 mark_class-is_used c mark =
-    elim (either_true (nat_le (class_of c) 0) (nat_lt (class_number (class_of c)) 55) (each_has_number c)) [
+    elim (or_cases (nat_le (class_of c) 0) (nat_lt (class_number (class_of c)) 55) (each_has_number c)) [
       | inl none ↦ absurd (grind (arith, nat_tests))
       | inr some ↦ grind (arith, nat_tests)
     ]
@@ -46,14 +42,11 @@ numbers_end : (k : ℕ) → 256 ≤ k → class_number k ≡ 55
 unfolding class_number
 numbers_end k le = let no : nat_lt k 256 ≡ false = grind (arith, nat_tests) in cond-false _ _ _ no
 
-cases_lt : (a b : ℕ) → (a < b) ⊎ (b ≤ a)
-cases_lt a b = grind arith
-
 numbered : (k : ℕ) → IsUsedClass k → get_or classes (class_number k) 0 ≡ k
 unfolding has_own_number
 numbered k used =
     elim (cases_lt k 256) [
-      | inl small ↦ elim (either_true (nat_le 55 (class_number k)) (nat_eq (get_or classes (class_number k) 0) k) (all_below-at has_own_number 256 k all_own small)) [
+      | inl small ↦ elim (or_cases (nat_le 55 (class_number k)) (nat_eq (get_or classes (class_number k) 0) k) (all_below-at has_own_number 256 k all_own small)) [
         | inl none ↦ absurd (grind (arith, nat_tests))
         | inr own ↦ grind (arith, nat_tests)
       ]

@@ -1,6 +1,6 @@
 -- Places from which the marks of each class go on.
-use Rattle.std.proofs.Common.{◌≡◌, ◌≢◌, ◌≤◌, ◌<◌, ◌==◌, ◌+◌, ◌-◌, ◌⊎◌, ℕ, suc, true, false, nat_lt, List, [], ◌∷◌, ◌++◌, Option, Some, None, is_some, refl, sym, ap, ◌∙◌, arith, inl, inr}
-use Rattle.std.proofs.lemmas.Bool.{cases_Bool, cond-true, cond-false}
+use Rattle.std.proofs.Common.{◌≡◌, ◌≢◌, ◌≤◌, ◌<◌, ◌+◌, ◌-◌, ℕ, suc, true, false, nat_lt, List, [], ◌∷◌, ◌++◌, Option, Some, None, is_some, refl, sym, ap, ◌∙◌, arith, inl, inr}
+use Rattle.std.proofs.lemmas.Bool.{cond-true, cond-false, cases_lt, cases_eq}
 use Rattle.std.proofs.lemmas.Bool.Decides.{nat_tests}
 use Rattle.ucd_normal.specs.CanonicalCombiningClass.{canonical_combining_class as class_of}
 use Rattle.icu_text_decomposition.specs.declared.char_parts.Parts.{Parts}
@@ -10,7 +10,7 @@ use Rattle.icu_text_decomposition.specs.inner.ClassNumbers.{class_number, next_u
 use Rattle.icu_text_decomposition.specs.inner.ClassPlaces.{slots_at, places_of, class_left, found_left, place_left, marks_from}
 use Rattle.icu_text_decomposition.specs.inner.FrontMarks.{front_marks}
 use Rattle.icu_text_decomposition.specs.inner.Parts.{parts_left}
-use Rattle.icu_text_decomposition.proofs.BeginningMarkLemmas.{AllOf, all-of_class, cases_lt, lists-first, lists-none, lists-same}
+use Rattle.icu_text_decomposition.proofs.BeginningMarkLemmas.{AllOf, all-of_class, lists-first, lists-none, lists-same}
 use Rattle.icu_text_decomposition.proofs.ClassNumberLemmas.{same_class, next_above, next_limit, unused_between}
 use Rattle.icu_text_decomposition.proofs.FrontMarkLemmas.{front-nil, front-starter, front_marks-are_marks}
 use Rattle.icu_text_decomposition.proofs.PassLemmas.{given_other, skip_classes}
@@ -22,13 +22,6 @@ none_at_end k at e = ap (λ l. of_class k (front_marks l)) e ∙ ap (of_class k)
 
 pub none_at_starter : (k c : ℕ) (at after : List ℕ) → at ≡ c ∷ after → class_of c ≤ 0 → of_class k (front_marks at) ≡ []
 none_at_starter k c at after e start = ap (λ l. of_class k (front_marks l)) e ∙ ap (of_class k) (front-starter c after start)
-
-pub cases_eq : (a b : ℕ) → (a ≡ b) ⊎ (a ≢ b)
-cases_eq a b =
-    elim (cases_Bool (a == b)) [
-      | inl same ↦ inl (grind (arith, nat_tests))
-      | inr other ↦ inr (grind (arith, nat_tests))
-    ]
 
 -- ---- slots
 

@@ -30,7 +30,7 @@ pub past-mark : (c : ℕ) (cs : List ℕ) → 0 < class_of c → past_marks (c �
 unfolding past_marks
 past-mark c cs lt = cond-false _ _ _ (no_starter c lt)
 
-starter : (c : ℕ) → class_of c ≤ 0 → is_starter c ≡ true
+pub starter : (c : ℕ) → class_of c ≤ 0 → is_starter c ≡ true
 starter c le = grind (arith, nat_tests)
 
 pub front-starter : (c : ℕ) (cs : List ℕ) → class_of c ≤ 0 → front_marks (c ∷ cs) ≡ []

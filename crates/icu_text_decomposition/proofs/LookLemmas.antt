@@ -8,7 +8,7 @@ use Rattle.icu_text_decomposition.specs.inner.Taking.{EndsInList}
 
 -- ---- ends of lists
 
-count_from : (xs init ys : List ℕ) → xs ≡ init ++ ys → length xs - length ys ≡ length init
+pub count_from : (xs init ys : List ℕ) → xs ≡ init ++ ys → length xs - length ys ≡ length init
 count_from xs init ys e = let lengths = ap length e ∙ length-append init ys in omega arith
 
 pub front_from : (xs init ys : List ℕ) → xs ≡ init ++ ys → take (length xs - length ys) xs ≡ init

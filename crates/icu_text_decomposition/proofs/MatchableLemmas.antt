@@ -5,7 +5,7 @@ use Rattle.std.proofs.lemmas.Option.{slice_get_past, slice_get-get_or}
 use Rattle.icu_text_decomposition.specs.declared.taking.Taking.{Taking}
 use Rattle.icu_text_decomposition.specs.UnreadTexts.{IsUnblocked, without_last}
 use Rattle.icu_text_decomposition.specs.inner.Taking.{IsTaking, EndsInList, unread_of, ahead_of, passed_of}
-use Rattle.icu_text_decomposition.proofs.LookLemmas.{one_fewer, without_last-is}
+use Rattle.icu_text_decomposition.proofs.LookLemmas.{one_fewer, without_last-is, count_from}
 use Rattle.icu_text_decomposition.proofs.BeginningMarkLemmas.{drop_one_more}
 
 -- what was not passed over is all that is still to be read, so nothing was
@@ -17,9 +17,6 @@ pub counts_over : {T : Type 0} (text : T → List ℕ) (new : Taking T) (unread 
 counts_over text new unread over same parted =
     let lengths = ap length (same ∙ parted) ∙ length-append over (ahead_of text new) in omega arith
 
-counted_front : (xs init ys : List ℕ) → xs ≡ init ++ ys → length xs - length ys ≡ length init
-counted_front xs init ys e = let lengths = ap length e ∙ length-append init ys in omega arith
-
 -- the character that is passed over
 pub passes_next : (xs ys zs : List ℕ) (r : Option ℕ) → EndsInList xs ys → ys ≡ option_to_list r ++ zs → (r ≡ None → ys ≡ []) → r ≡ slice_get xs (length xs - length ys)
 passes_next xs ys zs None e next end =
@@ -29,7 +26,7 @@ passes_next xs ys zs (Some c) e next end =
     let n = length xs - length ys in
     let front = take n xs in
     let whole : xs ≡ front ++ c ∷ zs = e ∙ ap (λ l. front ++ l) next in
-    let count : n ≡ length front = counted_front xs front ys e in
+    let count : n ≡ length front = count_from xs front ys e in
     let lengths = ap length whole ∙ length-append front (c ∷ zs) in
     let inside : n < length xs = omega arith in
     let same : get_or xs n c ≡ c = ap (λ m. get_or xs m c) count ∙ ap (λ l. get_or l (length front) c) whole ∙ get_or-append_seam front c zs c in

@@ -1,9 +1,8 @@
 -- Places ahead.
 use Rattle.std.proofs.Common.{◌≡◌, ◌≤◌, ◌<◌, ◌+◌, ◌-◌, max, ℕ, suc, true, false, nat_le, List, [], ◌∷◌, ◌++◌, take, length, Option, Some, None, IfSome, refl, sym, ap, subst, ◌∙◌, arith, inl, inr, append_assoc}
-use Rattle.std.proofs.lemmas.Bool.{cond-true, cond-false}
+use Rattle.std.proofs.lemmas.Bool.{cond-true, cond-false, cases_lt}
 use Rattle.std.proofs.lemmas.Bool.Decides.{nat_tests}
 use Rattle.ucd_normal.specs.CanonicalCombiningClass.{canonical_combining_class as class_of}
-use Rattle.unicode_normalization.specs.Order.{is_starter}
 use Rattle.icu_text_decomposition.specs.declared.class_places.ClassPlaces.{ClassPlaces}
 use Rattle.icu_text_decomposition.specs.declared.run_text.RunText.{RunText}
 use Rattle.icu_text_decomposition.specs.declared.taking.Look.{Look}
@@ -16,23 +15,20 @@ use Rattle.icu_text_decomposition.specs.inner.MarksLeft.{lists_from}
 use Rattle.icu_text_decomposition.specs.inner.OrderedParts.{order_left}
 use Rattle.icu_text_decomposition.specs.inner.RunTexts.{run_text_left, EndsRun}
 use Rattle.icu_text_decomposition.specs.inner.Taking.{left_behind, EndsInList, IsLook}
-use Rattle.icu_text_decomposition.proofs.BeginningMarkLemmas.{cases_lt, lists-at, lists-below, lists-above, above-append}
-use Rattle.icu_text_decomposition.proofs.FrontMarkLemmas.{no_starter}
+use Rattle.icu_text_decomposition.proofs.BeginningMarkLemmas.{lists-at, lists-below, lists-above, above-append}
+use Rattle.icu_text_decomposition.proofs.FrontMarkLemmas.{no_starter, starter}
 use Rattle.icu_text_decomposition.proofs.LookLemmas.{end_from}
 use Rattle.icu_text_decomposition.proofs.ClassPlaceLemmas.{class_all}
 use Rattle.icu_text_decomposition.proofs.RunTextLemmas.{rest_above}
 
 -- ---- marks up to a class
 
-starts : (c : ℕ) → class_of c ≤ 0 → is_starter c ≡ true
-starts c le = grind (arith, nat_tests)
-
 pub marks_up_to-front : (k : ℕ) (xs ys : List ℕ) → AreMarks (k + 1) xs → BeginsAbove (k + 1) ys → marks_up_to k (xs ++ ys) ≡ xs
 unfolding marks_up_to BeginsAbove
 marks_up_to-front k [] [] below above = refl
 marks_up_to-front k [] (y ∷ ys) below above =
     elim above [
-      | inl start ↦ cond-true _ _ _ (starts y start)
+      | inl start ↦ cond-true _ _ _ (starter y start)
       | inr high ↦
           let mark : 0 < class_of y = omega arith in
           let no : nat_le (class_of y) k ≡ false = grind (arith, nat_tests) in

@@ -1,10 +1,12 @@
 -- Where a text of an encoding may be cut.
-use Rattle.std.proofs.Common.{◌≡◌, ℕ, zero, suc, ◌^◌, get_or, ◌<◌, ◌≤◌, Bool, true, false, ◌==◌, ◌&&◌, not, eqb, true≢false, List, [], ◌∷◌, ◌++◌, length, take, drop, map, slice_index, slice_index_or, refl, ap, sym, ◌∙◌, arith, take-append-drop, ◌-◌, length-append, append_assoc, take_all}
+use Rattle.std.proofs.Common.{◌≡◌, ℕ, zero, suc, ◌^◌, get_or, ◌<◌, ◌≤◌, Bool, true, false, ◌==◌, ◌&&◌, not, eqb, List, [], ◌∷◌, ◌++◌, length, take, drop, map, slice_index, slice_index_or, refl, ap, sym, ◌∙◌, arith, take-append-drop, ◌-◌, length-append, append_assoc, take_all}
 use Rattle.std.proofs.lemmas.List.{map-append, take-take, take-append-le, drop_at}
 use Rattle.std.specs.Char.{IsScalar}
 use Rattle.std.specs.Char.Utf16.{is_high_surrogate}
 use Rattle.std.proofs.lemmas.Bool.Decides.{nat_tests}
 use Rattle.std.proofs.lemmas.Slice.Eq.{bytes_eq-Decides}
+use Rattle.std.proofs.Math.Bool.{and-false}
+use Rattle.std.proofs.lemmas.Bool.{not-false}
 use Rattle.std.specs.Cmp.Lexicographic.{pointwise}
 use Rattle.bstr.specs.Utf8.{decoded, good, or_replacement, continues, second, code_of_2, code_of_3}
 use Rattle.bstr.proofs.lemmas.PieceLemmas.{StartsClean as StartsPiece, pieces-append, lossy_chars-step, lossy_chars-nil, piece-bounds, value-1, value-6, value-9}
@@ -26,13 +28,9 @@ utf8_parted xs ys clean =
 pub utf8_cut : (at : ℕ) (bs : List ℕ) → StartsClean (drop at bs) → utf8_text bs ≡ utf8_text (take at bs) ++ utf8_text (drop at bs)
 utf8_cut at bs clean = ap utf8_text (sym (take-append-drop at bs)) ∙ utf8_parted (take at bs) (drop at bs) clean
 
-and_false : (b : Bool) → (b && false) ≡ false
-and_false true = refl
-and_false false = refl
-
 apart_from : (u : ℕ) (vs : List ℕ) → StartsNoTrail vs → IsApart u vs
 apart_from u [] h = tt
-apart_from u (v ∷ vs) h = ap (λ b. is_high_surrogate u && b) h ∙ and_false (is_high_surrogate u)
+apart_from u (v ∷ vs) h = ap (λ b. is_high_surrogate u && b) h ∙ and-false (is_high_surrogate u)
 
 cut_before : (us vs : List ℕ) → StartsNoTrail vs → IsCut us vs
 cut_before [] vs h = tt
@@ -74,13 +72,9 @@ same_beginning xs ys xs_left ys_left h =
 pub same_shorter : (n m : ℕ) (xs ys : List ℕ) → n ≤ m → take m xs ≡ take m ys → take n xs ≡ take n ys
 same_shorter n m xs ys le e = sym (take-take n m xs le) ∙ ap (take n) e ∙ take-take n m ys le
 
-not_false : (b : Bool) → not b ≡ false → b ≡ true
-not_false true h = refl
-not_false false h = absurd (true≢false h)
-
 -- words that an `!=` didn't tell apart are the same
 pub same_words : (xs ys : List ℕ) → not (pointwise eqb xs ys) ≡ false → xs ≡ ys
-same_words xs ys h = (bytes_eq-Decides xs ys).0 (not_false (pointwise eqb xs ys) h)
+same_words xs ys h = (bytes_eq-Decides xs ys).0 (not-false (pointwise eqb xs ys) h)
 
 -- where the two lists are the same, so is what is left of them
 pub rest_alike : (xs ys xs_left ys_left : List ℕ) → HaveBeginning xs ys xs_left ys_left → xs ≡ ys → xs_left ≡ ys_left

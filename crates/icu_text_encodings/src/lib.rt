@@ -4,6 +4,7 @@
 //! are left. It does not allocate, decodes every input, and gives U+FFFD for what is no character.
 #![tactic(auto)]
 
+mod chars_text;
 mod common_units;
 mod encoded_text;
 mod latin1;
@@ -11,6 +12,7 @@ pub mod laws;
 mod utf16;
 mod utf8;
 
+pub use chars_text::CharsText;
 pub use common_units::CommonUnits;
 pub use encoded_text::{Characters, EncodedText, Latin1Text, Utf8Text, Utf16Text};
 pub use latin1::{Latin1Chars, Latin1Iter};

@@ -2,15 +2,11 @@
 use Rattle.std.proofs.Common.{◌≡◌, ℕ, zero, suc, ◌+◌, ◌-◌, ◌<◌, ◌≤◌, ◌⊎◌, inl, inr, min, Bool, true, false, ◌&&◌, List, [], ◌∷◌, ◌++◌, drop, get_or, length, length-append, length-drop, Result, Ok, Err, OnErr, is_ok, nat_eq, nat_le, take, if◌then◌else◌, refl, sym, ap, ◌∙◌, arith}
 use Rattle.std.proofs.Math.Seq.{drop-append_seam, drop-cons, take-length}
 use Rattle.std.proofs.lemmas.Bool.Decides.{nat_tests}
-use Rattle.std.proofs.lemmas.Bool.{cases_lt}
+use Rattle.std.proofs.lemmas.Bool.{cases_lt, and_parts}
 use Rattle.std.proofs.lemmas.List.{drop-append-le, take-append-le}
 use Rattle.std.specs.List.{zip}
 use Rattle.line_sorts.specs.KeyBuffers.{keys_cut}
 use Rattle.line_sorts.specs.KeyParts.{ascends_to, key_part}
-
-both : (a b : Bool) → (a && b) ≡ true → (a ≡ true) × (b ≡ true)
-both true b h = (refl, h)
-both false b h = absurd (cc)
 
 le_of : (a b : ℕ) → nat_le a b ≡ true → a ≤ b
 le_of a b h = grind (arith, nat_tests)
@@ -18,10 +14,10 @@ le_of a b h = grind (arith, nat_tests)
 of_le : (a b : ℕ) → a ≤ b → nat_le a b ≡ true
 of_le a b h = grind (arith, nat_tests)
 
-eq_of : (a b : ℕ) → nat_eq a b ≡ true → a ≡ b
+pub eq_of : (a b : ℕ) → nat_eq a b ≡ true → a ≡ b
 eq_of a b h = grind (arith, nat_tests)
 
-of_eq : (a : ℕ) → nat_eq a a ≡ true
+pub of_eq : (a : ℕ) → nat_eq a a ≡ true
 of_eq a = grind (arith, nat_tests)
 
 -- ---- parts
@@ -50,7 +46,7 @@ part_last bytes key =
 reaches : (start : ℕ) (ends : List ℕ) (last : ℕ) → ascends_to start ends last ≡ true → start ≤ last
 reaches start [] last h = let e = eq_of start last h in omega arith
 reaches start (end ∷ ends) last h =
-    let hs = both (nat_le start end) (ascends_to end ends last) h in
+    let hs = and_parts (nat_le start end) (ascends_to end ends last) h in
     let first = le_of start end hs.0 in
     let more = reaches end ends last hs.1 in
     omega arith
@@ -62,7 +58,7 @@ ascends_more start [] last next h low =
     let e = eq_of start last h in
     rw (of_le start next (omega arith)) (of_eq next)
 ascends_more start (end ∷ ends) last next h low =
-    let hs = both (nat_le start end) (ascends_to end ends last) h in
+    let hs = and_parts (nat_le start end) (ascends_to end ends last) h in
     rw hs.0 (ascends_more end ends last next hs.1 low)
 
 -- ---- keys
@@ -73,7 +69,7 @@ pub keys_more : (start : ℕ) (ends bytes key : List ℕ) → ascends_to start e
 keys_more start [] bytes key h =
     ap (λ k. k ∷ []) (ap (λ s. key_part (bytes ++ key) s (length (bytes ++ key))) (eq_of start (length bytes) h) ∙ part_last bytes key)
 keys_more start (end ∷ ends) bytes key h =
-    let hs = both (nat_le start end) (ascends_to end ends (length bytes)) h in
+    let hs = and_parts (nat_le start end) (ascends_to end ends (length bytes)) h in
     ap (λ k. k ∷ keys_cut end (ends ++ length (bytes ++ key) ∷ []) (bytes ++ key))
     (part_more bytes key start end (le_of start end hs.0) (reaches end ends (length bytes) hs.1))
     ∙ ap (λ ks. key_part bytes start end ∷ ks) (keys_more end ends bytes key hs.1)

@@ -1,6 +1,7 @@
 -- Lists that rise, joined, and places that begin alike.
 use Rattle.std.proofs.Common.{◌≡◌, ◌≢◌, ℕ, zero, suc, ◌<◌, ◌≤◌, Bool, true, false, List, [], ◌∷◌, ◌++◌, drop, get_or, length, take, nat_eq, if◌then◌else◌, refl, ap, arith, add-one}
 use Rattle.std.proofs.lemmas.Bool.Decides.{nat_tests}
+use Rattle.line_sorts.proofs.KeyBufferLemmas.{of_eq, eq_of}
 use Rattle.std.specs.Cmp.{IsStrictWeakOrder}
 use Rattle.std.specs.List.{AllByRecursion}
 use Rattle.std.specs.List.Sorted.{IsSortedBy}
@@ -79,12 +80,6 @@ module _ {X : Type 0} (lt : X → X → Bool) where
       ((first, all_weaker (λ z. lt z y ≡ false) (λ z. lt z x ≡ false) (λ z e. weak.chain z y x e first) zs more.0), more)
 
 -- ---- places that begin alike
-
-eq_of : (a b : ℕ) → nat_eq a b ≡ true → a ≡ b
-eq_of a b h = grind (arith, nat_tests)
-
-of_eq : (a : ℕ) → nat_eq a a ≡ true
-of_eq a = grind (arith, nat_tests)
 
 of_other : (a b : ℕ) → nat_eq a b ≡ false → a ≢ b
 of_other a b h = grind (arith, nat_tests)

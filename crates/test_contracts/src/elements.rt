@@ -7,27 +7,22 @@ ghost use Rattle.unicode_normalization.specs.Iter.{Spells};
 ghost use Rattle.icu_table_entries.specs.Elements.{Element};
 ghost use Rattle.icu_element_reading.specs.TextElements.{elements_of};
 ghost use Rattle.icu_element_reading.specs.Reading.{reading_of};
-ghost use Rattle.icu_element_reading.specs.ElementReaders.{elements_to_come};
 ghost use Rattle.icu_element_reading.specs.CollationElements.{StillGives, CanGive, IsRefused, first_of, rest_of};
 
-use icu_element_reading::{
-    CollationElement, CollationElements, ElementReader, TextReading, decomposed_text,
-};
+use icu_element_reading::{CollationElement, CollationElements, TextReading, all_elements};
 use std::alloc::AllocError;
 
-/// A reader of the text that an iterator spells, decomposed: `decomposed_text`, and then `ElementReader::new`.
-pub fn reader<'d, I: Iterator<Item = char> + Drop>(
-    reading: TextReading<'d>,
+/// As `all_elements`.
+pub fn all<I: Iterator<Item = char> + Drop>(
+    reading: TextReading<'_>,
     delegate: I,
-) -> Result<ElementReader<'d>, AllocError>
+) -> Result<Vec<CollationElement>, AllocError>
     requires can { I.can_next delegate }
     requires ends { IsFinite (I.remaining delegate) }
     ensures { (cs : List ℕ) → Spells I.next_gives delegate cs
-        → IfOk result (λ reader. elements_to_come reader
-        ≡ elements_of (reading_of reading.entry) (nfd cs)) }
+        → IfOk result (λ es. es.items ≡ elements_of (reading_of reading.entry) (nfd cs)) }
 {
-    let text = decomposed_text(reading.tables.allocator(), delegate)?;
-    Ok(ElementReader::new(text, reading))
+    all_elements(reading, delegate)
 }
 
 /// As `CollationElements::next`. A wrong body may go on with `again`, another reading.

@@ -28,7 +28,10 @@ pub(crate) fn change(
     let alloc = rt.alloc();
     match question {
         "make" => return make(alloc, state, rest),
-        "root" => return read_text(alloc, state, rest),
+        "root" => {
+            let text = WrittenText::read(alloc, rest)?;
+            return take_root(alloc, state, read_cldr(alloc, bytes_of(&text)?)?);
+        }
         "file" => return read_file(rt, state, rest),
         _ => {}
     }
@@ -95,12 +98,6 @@ fn take_root(alloc: Global, state: &mut State, file: CldrFile) -> Result<String,
         }
         CldrFile::Refused(why) => Ok(why),
     }
-}
-
-/// Reads a file whose bytes are a text.
-fn read_text(alloc: Global, state: &mut State, text: &str) -> Result<String, DriverError> {
-    let text = WrittenText::read(alloc, text)?;
-    take_root(alloc, state, read_cldr(alloc, bytes_of(&text)?)?)
 }
 
 /// Reads the file of a name.

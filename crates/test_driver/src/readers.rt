@@ -3,11 +3,10 @@ ghost use Rattle.std.specs.Prelude.{◌≡◌, IfOk};
 ghost use Rattle.icu_table_provider.specs.well_formed.Checked.{checked_tables};
 ghost use Rattle.icu_element_reading.specs.Reading.{element_tables, reading_of};
 ghost use Rattle.icu_element_facts.specs.FactsTables.{AreFacts};
-ghost use Rattle.icu_element_facts.specs.Named.{NamesAll};
-ghost use Rattle.icu_element_facts.specs.BoundaryTables.{boundary_reading};
+ghost use Rattle.icu_element_reading.specs.boundaries.BoundaryTables.{boundary_reading};
 ghost use Rattle.test_driver.specs.Readers.{reading_with};
 
-use icu_element_cursor::{Boundaries, CursorTables, KeptFacts, NamedCharacters};
+use icu_element_cursor::{Boundaries, CursorTables, KeptFacts};
 use icu_element_reading::{ElementTables, TextReading};
 use icu_table_provider::well_formed::CheckedTables;
 use std::alloc::{AllocError, Global};
@@ -16,12 +15,10 @@ use std::alloc::{AllocError, Global};
 #[derive(Drop)]
 pub(crate) struct Reader {
     tables: CheckedTables,
-    named: NamedCharacters,
     letters: KeptFacts,
     /// The lead byte of numbers, where digits are read as numbers.
     pub(crate) numeric_primary: Option<u8>,
     pub(crate) lithuanian_dot_above: bool,
-    ghost names: { NamesAll named (checked_tables tables).tables },
     ghost known: { AreFacts (reading_with tables numeric_primary lithuanian_dot_above) letters },
 }
 
@@ -43,35 +40,28 @@ fn reading(
 }
 
 /// Before which characters texts may be cut that are read so.
-fn boundaries<'d>(
-    tables: &'d CheckedTables,
-    named: &'d NamedCharacters,
+fn boundaries(
+    tables: &CheckedTables,
     numeric_primary: Option<u8>,
     lithuanian_dot_above: bool,
-) -> Boundaries<'d>
-    requires { NamesAll named.now (checked_tables tables.now).tables }
+) -> Boundaries<'_>
     ensures { boundary_reading result
         ≡ reading_with tables.now numeric_primary lithuanian_dot_above }
 {
-    Boundaries::new(
-        reading(tables, numeric_primary, lithuanian_dot_above),
-        named,
-    )
+    Boundaries::new(reading(tables, numeric_primary, lithuanian_dot_above))
 }
 
 /// What is kept of the letters of texts that are read so.
 fn letters(
     alloc: Global,
     tables: &CheckedTables,
-    named: &NamedCharacters,
     numeric_primary: Option<u8>,
     lithuanian_dot_above: bool,
 ) -> Result<KeptFacts, AllocError>
-    requires { NamesAll named.now (checked_tables tables.now).tables }
     ensures { IfOk result (λ l. AreFacts (reading_with tables.now numeric_primary
         lithuanian_dot_above) l) }
 {
-    let places = boundaries(tables, named, numeric_primary, lithuanian_dot_above);
+    let places = boundaries(tables, numeric_primary, lithuanian_dot_above);
     KeptFacts::new(alloc, tables, places)
 }
 
@@ -88,17 +78,9 @@ impl Reader {
             None
         };
         let lithuanian_dot_above = tables.metadata().lithuanian_dot_above();
-        let named = NamedCharacters::new(alloc, &tables)?;
-        let letters = letters(
-            alloc,
-            &tables,
-            &named,
-            numeric_primary,
-            lithuanian_dot_above,
-        )?;
+        let letters = letters(alloc, &tables, numeric_primary, lithuanian_dot_above)?;
         Ok(Reader {
             tables,
-            named,
             letters,
             numeric_primary,
             lithuanian_dot_above,
@@ -121,7 +103,6 @@ impl Reader {
     {
         boundaries(
             &self.tables,
-            &self.named,
             self.numeric_primary,
             self.lithuanian_dot_above,
         )

@@ -178,11 +178,6 @@ fn print_requests(alloc: Global, asked: &[Asked]) -> Result<String, AllocError> 
     Ok(text)
 }
 
-fn entry_of_alpha(data: CollationData<'_>) -> u32 {
-    let (table, _, _, _) = data.parts();
-    table.get('α')
-}
-
 /// What the tables of a locale come to: `ok` and the tailoring's entry of alpha, or the error.
 fn outcome(
     alloc: Global,
@@ -193,7 +188,7 @@ fn outcome(
     match load_tables(provider, locale, collation_type) {
         Ok(tables) => {
             let entry = match tables.tailoring {
-                Some(tailoring) => entry_of_alpha(tailoring),
+                Some(tailoring) => tailoring.parts().0.get('α'),
                 None => 0,
             };
             Ok(format!(in alloc; "ok {entry:X}")?)

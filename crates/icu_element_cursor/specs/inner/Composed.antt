@@ -10,7 +10,7 @@ use Rattle.icu_table_data.specs.Data.{Mapping, Context, context_of, longest_mapp
 use Rattle.icu_table_provider.specs.Tables.{entry_of, diacritic_of}
 use Rattle.icu_element_reading.specs.TextElements.{Reading}
 use Rattle.icu_element_cursor.specs.inner.MarkRuns.{Rises}
-use Rattle.icu_element_cursor.specs.inner.Places.{BeginsAtBoundary}
+use Rattle.icu_element_reading.specs.boundaries.Places.{BeginsAtBoundary}
 use Rattle.icu_element_cursor.specs.inner.Unjoined.{BeginsNone}
 
 -- a mark of a class below this one, with which no mapping begins

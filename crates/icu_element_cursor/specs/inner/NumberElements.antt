@@ -6,7 +6,7 @@ use Rattle.icu_table_entries.specs.Elements.{Element}
 use Rattle.icu_element_reading.specs.TextElements.{Reading, continues_number, digit_of_char, elements_after}
 use Rattle.icu_element_facts.specs.KeptFacts.{IsNumberDigit}
 use Rattle.icu_element_cursor.specs.declared.few_digits.FewDigits.{FewDigits}
-use Rattle.icu_element_cursor.specs.inner.Places.{BeginsAtBoundary}
+use Rattle.icu_element_reading.specs.boundaries.Places.{BeginsAtBoundary}
 
 -- the digits that are kept
 unfoldable pub few_digits : FewDigits → List ℕ

@@ -3,12 +3,7 @@ use Rattle.std.specs.Prelude.{◌≡◌, ℕ, List, ◌++◌}
 use Rattle.unicode_normalization.specs.Forms.{nfd}
 use Rattle.icu_table_entries.specs.Elements.{Element}
 use Rattle.icu_element_reading.specs.TextElements.{Reading, elements_after}
-use Rattle.icu_element_cursor.specs.inner.Places.{BeginsAtBoundary}
-
--- a text is this piece, and then the rest, which begins at a boundary
-pub record IsPiece (reading : Reading) (text piece rest : List ℕ) : Type 0 where
-  pub parts : text ≡ piece ++ rest
-  pub boundary : BeginsAtBoundary reading rest
+use Rattle.icu_element_reading.specs.boundaries.Places.{IsPiece}
 
 -- some characters were taken off a text and decomposed
 pub record AreDecomposed (text decomposed rest : List ℕ) : Type 0 where

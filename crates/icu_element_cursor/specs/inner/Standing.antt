@@ -11,7 +11,7 @@ use Rattle.icu_element_facts.specs.declared.char_facts.FactsKind.TheVariants.{St
 use Rattle.icu_element_facts.specs.KeptFacts.{char_elements, IsNumberDigit}
 use Rattle.icu_element_facts.specs.declared.char_words.Kept.{Kept}
 use Rattle.icu_element_facts.specs.declared.char_words.Kept.TheVariants.{Own, Facts, Nothing}
-use Rattle.icu_element_cursor.specs.inner.Places.{MayBeCut, BeginsAtBoundary}
+use Rattle.icu_element_reading.specs.boundaries.Places.{MayBeCut, BeginsAtBoundary}
 use Rattle.icu_element_cursor.specs.inner.MarkRuns.{Rises, EndsRuns, IsMarkItself}
 
 -- a character gives these elements before a text, whatever stands before, and the text gives what it gives after it

@@ -12,7 +12,7 @@ use Rattle.icu_table_provider.specs.Tables.{entry_of, diacritic_of}
 use Rattle.icu_element_matches.specs.MatchesAhead.{are_decided}
 use Rattle.icu_element_reading.specs.TextElements.{Reading}
 use Rattle.icu_element_cursor.specs.inner.MarkRuns.{Rises}
-use Rattle.icu_element_cursor.specs.inner.Places.{BeginsAtBoundary, MayBeCut}
+use Rattle.icu_element_reading.specs.boundaries.Places.{BeginsAtBoundary, MayBeCut}
 use Rattle.icu_element_cursor.specs.declared.unjoined.Follower.{Follower}
 use Rattle.icu_element_cursor.specs.declared.unjoined.Follower.TheVariants.{Boundary, Head, Other}
 

@@ -7,7 +7,6 @@ use Rattle.icu_table_entries.specs.Entries.{kind_of}
 use Rattle.icu_table_provider.specs.Tables.{entry_of}
 use Rattle.icu_element_reading.specs.TextElements.{Reading}
 use Rattle.icu_element_reading.specs.boundaries.Alone.{looks_at_nothing}
-use Rattle.icu_element_reading.specs.boundaries.Cuts.{is_named, is_named_by_tailoring}
 use Rattle.icu_element_facts.specs.KeptFacts.{IsOwn}
 
 -- a starter that decomposes to itself, past all marks of the Latin script and past the jamo
@@ -23,17 +22,6 @@ IsPlainBlock index = (k : ℕ) → k < 64 → IsPlain (64 * index + k)
 -- the character's entry gives the same wherever it stands
 abbrev pub HasLoneEntry : Reading → ℕ → Type 0
 HasLoneEntry reading c = looks_at_nothing reading.numeric (kind_of (entry_of reading.tables c).entry) ≡ true
-
--- a starter that no mapping names
-pub record IsUnnamedStarter (reading : Reading) (c : ℕ) : Type 0 where
-  pub starter : is_starter c ≡ true
-  pub root : is_named c reading.tables.root ≡ false
-  pub tailoring : is_named_by_tailoring c reading.tables.tailoring ≡ false
-
--- no mapping names a character of a block
-abbrev pub IsUnnamedBlock : Reading → ℕ → Type 0
-IsUnnamedBlock reading index =
-    (k : ℕ) → k < 64 → (is_named (64 * index + k) reading.tables.root ≡ false) × (is_named_by_tailoring (64 * index + k) reading.tables.tailoring ≡ false)
 
 -- all of its characters are own characters
 abbrev pub IsOwnBlock : Reading → ℕ → Type 0

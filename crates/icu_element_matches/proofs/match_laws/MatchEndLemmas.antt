@@ -1,6 +1,6 @@
 -- What a match leaves of each class.
-use Rattle.std.proofs.Common.{◌≡◌, ◌==◌, ◌⊎◌, ◌||◌, ℕ, suc, Bool, true, false, List, [], ◌∷◌, ◌++◌, drop, Option, Some, None, refl, sym, ap, subst, ◌∙◌, arith, inl, inr, append_assoc, append-nil, nat_le}
-use Rattle.std.proofs.lemmas.Bool.{cases_Bool, cond-true, cond-false}
+use Rattle.std.proofs.Common.{◌≡◌, ◌==◌, ◌⊎◌, ℕ, suc, Bool, true, false, List, [], ◌∷◌, ◌++◌, drop, Option, Some, None, refl, sym, ap, subst, ◌∙◌, arith, inl, inr, append_assoc, append-nil, nat_le}
+use Rattle.std.proofs.lemmas.Bool.{cases_Bool, cond-true, cond-false, or_parts}
 use Rattle.std.proofs.lemmas.Bool.Decides.{nat_tests}
 use Rattle.std.specs.List.{filter, list_any}
 use Rattle.ucd_normal.specs.CanonicalCombiningClass.{canonical_combining_class as class_of}
@@ -52,16 +52,12 @@ filter-append p (x ∷ xs) ys =
       | inr without ↦ cond-false _ _ _ without ∙ filter-append p xs ys ∙ ap (λ l. l ++ filter p ys) (sym (cond-false _ _ _ without))
     ]
 
-or_false : (a b : Bool) → (a || b) ≡ false → (a ≡ false) × (b ≡ false)
-or_false true b e = cc
-or_false false b e = (refl, e)
-
 -- a mark that isn't blocked has a class of which none was passed over
 none_passed : (passed : List ℕ) (m k : ℕ) → is_blocked passed m ≡ false → class_of m == k ≡ true → of_class k passed ≡ []
 unfolding is_blocked
 none_passed [] m k b is = refl
 none_passed (p ∷ ps) m k b is =
-    let both = or_false (nat_le (class_of m) (class_of p)) (list_any (λ x. nat_le (class_of m) (class_of x)) ps) b in
+    let both = or_parts (nat_le (class_of m) (class_of p)) (list_any (λ x. nat_le (class_of m) (class_of x)) ps) b in
     let free : nat_le (class_of m) (class_of p) ≡ false = both.0 in
     let other : class_of p == k ≡ false = grind (arith, nat_tests) in
     cond-false _ _ _ other ∙ none_passed ps m k both.1 is

@@ -26,13 +26,13 @@ cut_order (x ∷ xs) rest (y ∷ ys) =
 
 -- ---- whether they begin a mapping
 
-and_assoc : (a b c : Bool) → (a && (b && c)) ≡ (b && (a && c))
+pub and_assoc : (a b c : Bool) → (a && (b && c)) ≡ (b && (a && c))
 and_assoc true true c = refl
 and_assoc true false c = refl
 and_assoc false true c = refl
 and_assoc false false c = refl
 
-some_same : (a b : ℕ) → Some a ≡ Some b → a ≡ b
+pub some_same : (a b : ℕ) → Some a ≡ Some b → a ≡ b
 some_same a b e = cc
 
 -- a mapping that ends where the one more stands doesn't begin with them

@@ -6,13 +6,13 @@ use Rattle.std.proofs.lemmas.Bool.{and_parts, cases_Bool, false≢true}
 use Rattle.icu_table_data.specs.Data.{Mapping, mapping_entry, better, longest_from, longest_mapping}
 use Rattle.icu_element_matches.specs.MatchesAhead.{is_decided, are_decided}
 
-or_true : (a b : Bool) → (not a || b) ≡ true → a ≡ true → b ≡ true
-or_true true b h e = h
-or_true false b h e = cc
+pub implied : (a b : Bool) → (not a || b) ≡ true → a ≡ true → b ≡ true
+implied true b h e = h
+implied false b h e = cc
 
-and_false : (a b : Bool) → (a && b) ≡ false → a ≡ true → b ≡ false
-and_false true b h e = h
-and_false false b h e = cc
+pub second_false : (a b : Bool) → (a && b) ≡ false → a ≡ true → b ≡ false
+second_false true b h e = h
+second_false false b h e = cc
 
 -- a mapping that neither is these characters and one more, nor goes on after them, begins the text exactly if it begins
 -- these
@@ -28,7 +28,7 @@ same_begins [] c rest (y ∷ (z ∷ zs)) h k = elim (cases_Bool (nat_eq y c)) [
   | inr differs ↦ rw differs refl
 ]
 same_begins (x ∷ xs) c rest (y ∷ ys) h k = elim (cases_Bool (nat_eq y x)) [
-  | inl same ↦ ap (λ b. nat_eq y x && b) (same_begins xs c rest ys (or_true (nat_eq y x) (is_decided ys (xs ++ c ∷ [])) h same) (and_false (nat_eq y x) (bytes_eq ys (xs ++ c ∷ [])) k same))
+  | inl same ↦ ap (λ b. nat_eq y x && b) (same_begins xs c rest ys (implied (nat_eq y x) (is_decided ys (xs ++ c ∷ [])) h same) (second_false (nat_eq y x) (bytes_eq ys (xs ++ c ∷ [])) k same))
   | inr differs ↦ rw differs refl
 ]
 

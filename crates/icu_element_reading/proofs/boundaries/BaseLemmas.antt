@@ -8,7 +8,8 @@ use Rattle.icu_table_data.specs.Data.{HomedEntry, context_of}
 use Rattle.icu_table_provider.specs.Tables.{entry_of}
 use Rattle.icu_element_matches.specs.Matches.{after_prefix, match_from, match_of}
 use Rattle.icu_element_reading.specs.TextElements.{Reading, Step, continues_number, step, consumed, last_two, elements_after}
-use Rattle.icu_element_reading.specs.boundaries.Cuts.{is_named_in, is_prefix_kind, has_prefix}
+use Rattle.icu_table_provider.specs.well_formed.MappingCharacters.{is_named_in}
+use Rattle.icu_element_reading.specs.boundaries.Cuts.{is_prefix_kind, has_prefix}
 use Rattle.icu_element_matches.specs.MatchesAhead.{and_then}
 use Rattle.icu_element_matches.proofs.ChoiceLemmas.{contraction_by}
 use Rattle.icu_element_reading.specs.ReadAhead.{and_more}

@@ -7,7 +7,7 @@ use Rattle.icu_element_reading.proofs.StepLemmas.{Rests-step}
 use Rattle.icu_element_reading.proofs.boundaries.MatchCuts.{same_cut}
 use Rattle.icu_element_reading.proofs.boundaries.StepCuts.{step-append, step-same, step-at, cut-last_two, cut_taken, elements_along-same}
 
-context_along-enough : (reading : Reading) (along others before text : List ℕ) → length text ≤ length along → length text ≤ length others → context_along along reading before text ≡ context_along others reading before text
+pub context_along-enough : (reading : Reading) (along others before text : List ℕ) → length text ≤ length along → length text ≤ length others → context_along along reading before text ≡ context_along others reading before text
 unfolding context_along
 context_along-enough reading along others before [] fits fit = refl
 context_along-enough reading [] others before (c ∷ text) fits fit = absurd (omega arith)

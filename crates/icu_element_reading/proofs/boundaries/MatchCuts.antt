@@ -11,7 +11,8 @@ use Rattle.icu_element_matches.specs.Matches.{Match, after_prefix, is_blocked, w
 use Rattle.icu_element_matches.specs.MatchesAhead.{and_then}
 use Rattle.icu_element_matches.proofs.ChoiceLemmas.{either_by, maybe_by, contraction_by}
 use Rattle.icu_element_matches.proofs.ReadAheadLemmas.{longest_mapping-fits}
-use Rattle.icu_element_reading.specs.boundaries.Cuts.{cut, names, is_named_in, is_named}
+use Rattle.icu_table_provider.specs.well_formed.MappingCharacters.{names, is_named_in, is_named}
+use Rattle.icu_element_reading.specs.boundaries.Cuts.{cut}
 
 -- ---- marks
 

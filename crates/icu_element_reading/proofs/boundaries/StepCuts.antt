@@ -14,7 +14,8 @@ use Rattle.icu_table_provider.specs.Tables.{Tables, is_jamo, tailored_entry, ent
 use Rattle.icu_element_matches.specs.Matches.{Match, after_prefix, match_of, match_from}
 use Rattle.icu_element_reading.specs.TextElements.{Reading, Step, is_diacritic_above, is_silent_dot, continues_number, digit_of_char, begins_with_mark, number_elements, number_step, entry_step, step, consumed, matched_step, last_two, elements_along, elements_after, elements_of}
 use Rattle.icu_element_reading.proofs.Computing.{icu_elements}
-use Rattle.icu_element_reading.specs.boundaries.Cuts.{cut, is_named, is_named_by_tailoring, is_prefix_kind, has_prefix, IsBoundary}
+use Rattle.icu_table_provider.specs.well_formed.MappingCharacters.{is_named, is_named_by_tailoring}
+use Rattle.icu_element_reading.specs.boundaries.Cuts.{cut, is_prefix_kind, has_prefix, IsBoundary}
 use Rattle.icu_element_reading.proofs.boundaries.MatchCuts.{same_cut, cut-append, match_of-append, match_of-same}
 use Rattle.icu_element_matches.specs.MatchesAhead.{and_then}
 use Rattle.icu_element_matches.proofs.ChoiceLemmas.{either as either_of, either_by, maybe_by, nil_by, digit_by}
@@ -63,7 +64,7 @@ entry_step-append reading home c x m more starter stops =
 
 -- ---- the step
 
-not_accent : (x n : ℕ) → is_starter x ≡ true → is_starter n ≡ false → (x == n) ≡ false
+pub not_accent : (x n : ℕ) → is_starter x ≡ true → is_starter n ≡ false → (x == n) ≡ false
 not_accent x n starter mark =
     elim (cases_Bool (x == n)) [
       | inl is ↦ absurd (true≢false (sym starter ∙ ap is_starter (eqb-true x n is) ∙ mark))

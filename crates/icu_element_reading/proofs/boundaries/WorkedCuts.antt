@@ -12,7 +12,8 @@ use Rattle.icu_element_reading.specs.TextElements.{Reading, non_numeric_reading,
 use Rattle.icu_element_reading.proofs.Computing.{icu_elements}
 use Rattle.icu_element_reading.proofs.WorkedReadings.{mini, ring, two_marks, prefixed, numeric}
 use Rattle.icu_element_reading.specs.boundaries.Alone.{is_alone, stays_before, stays_first, run_ascends, all_stay}
-use Rattle.icu_element_reading.specs.boundaries.Cuts.{IsBoundary, cut, is_named_by_tailoring}
+use Rattle.icu_table_provider.specs.well_formed.MappingCharacters.{is_named_by_tailoring}
+use Rattle.icu_element_reading.specs.boundaries.Cuts.{IsBoundary, cut}
 use Rattle.icu_element_reading.specs.boundaries.LeftContexts.{context_along, context_left}
 
 unfoldable cuts : Unit {0}

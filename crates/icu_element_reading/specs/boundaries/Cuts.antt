@@ -1,36 +1,18 @@
 -- Places where a text may be cut: what stands before them changes nothing of the elements after them, nor the other way
 -- round.
-use Rattle.std.specs.Prelude.{◌≡◌, ℕ, Bool, true, false, not, ◌&&◌, ◌==◌, List, [], ◌∷◌, Option, Some, None, if◌then◌else◌, is_some}
-use Rattle.std.specs.List.{list_any}
+use Rattle.std.specs.Prelude.{◌≡◌, ◌<◌, ◌+◌, ◌*◌, ℕ, Bool, true, false, not, ◌&&◌, ◌==◌, List, [], ◌∷◌, if◌then◌else◌, is_some}
 use Rattle.unicode_normalization.specs.Order.{is_starter}
 use Rattle.icu_table_entries.specs.declared.entry.EntryKind.{EntryKind}
 use Rattle.icu_table_entries.specs.declared.entry.EntryKind.TheVariants.{Prefix}
 use Rattle.icu_table_entries.specs.Entries.{kind_of}
-use Rattle.icu_table_data.specs.Data.{Mapping, Context, Data}
 use Rattle.icu_table_provider.specs.Tables.{Tables, entry_of}
+use Rattle.icu_table_provider.specs.well_formed.MappingCharacters.{is_named, is_named_by_tailoring}
 use Rattle.icu_element_reading.specs.TextElements.{Reading, continues_number}
 
 -- what stands before the first x
 unfoldable pub cut : ℕ → List ℕ → List ℕ
 cut x [] = []
 cut x (c ∷ cs) = if c == x then [] else c ∷ cut x cs
-
--- a mapping names the character
-abbrev pub names : ℕ → Mapping → Bool
-names x mapping = list_any (λ c. c == x) mapping.chars
-
--- a mapping of a context does
-abbrev pub is_named_in : ℕ → Context → Bool
-is_named_in x context = list_any (names x) context.mappings
-
--- a mapping of one of its contexts names the character
-abbrev pub is_named : ℕ → Data → Bool
-is_named x home = list_any (is_named_in x) home.contexts
-
--- a mapping of the tailoring does, where there is one
-abbrev pub is_named_by_tailoring : ℕ → Option Data → Bool
-is_named_by_tailoring x None = false
-is_named_by_tailoring x (Some d) = is_named x d
 
 -- the kind of an entry with prefixes
 abbrev pub is_prefix_kind : EntryKind → Bool
@@ -48,6 +30,17 @@ pub record IsBoundary (reading : Reading) (x : ℕ) : Type 0 where
   pub tailoring : is_named_by_tailoring x reading.tables.tailoring ≡ false
   pub no_prefix : has_prefix reading.tables x ≡ false
   pub no_number : (is_some reading.numeric && continues_number reading.tables x) ≡ false
+
+-- a starter that no mapping names
+pub record IsUnnamedStarter (reading : Reading) (c : ℕ) : Type 0 where
+  pub starter : is_starter c ≡ true
+  pub root : is_named c reading.tables.root ≡ false
+  pub tailoring : is_named_by_tailoring c reading.tables.tailoring ≡ false
+
+-- no mapping names a character of a block
+abbrev pub IsUnnamedBlock : Reading → ℕ → Type 0
+IsUnnamedBlock reading index =
+    (k : ℕ) → k < 64 → (is_named (64 * index + k) reading.tables.root ≡ false) × (is_named_by_tailoring (64 * index + k) reading.tables.tailoring ≡ false)
 
 -- the text ends, or its first character doesn't go on a number
 abbrev pub ends_run : Tables → List ℕ → Bool

@@ -14,7 +14,8 @@ use Rattle.icu_table_provider.specs.Tables.{entry_of, jamo_base, jamo_limit}
 use Rattle.icu_element_reading.specs.TextElements.{Reading, continues_number, digit_of_char, begins_with_mark, number_elements, step, consumed, last_two, elements_after, elements_of}
 use Rattle.icu_element_reading.specs.ReadAhead.{IsEnough, HasWholeStep}
 use Rattle.icu_element_reading.specs.boundaries.Alone.{elements_by_char, elements_of_char, is_alone, context_after, stays_first, all_stay}
-use Rattle.icu_element_reading.specs.boundaries.Cuts.{IsBoundary, has_prefix, is_named_in, ends_run}
+use Rattle.icu_table_provider.specs.well_formed.MappingCharacters.{is_named_in}
+use Rattle.icu_element_reading.specs.boundaries.Cuts.{IsBoundary, has_prefix, ends_run}
 use Rattle.icu_element_reading.specs.boundaries.LeftContexts.{context_left}
 
 -- the elements of a text are those of one step, and of what it leaves

@@ -1,5 +1,6 @@
 -- Names under their sort keys are listed by the collation.
-use Rattle.std.proofs.Common.{◌≡◌, ℕ, Bool, true, false, not, ◌&&◌, List, [], ◌∷◌, filter, map, Option, Some, None, Ordering, Less, Equal, Greater, refl, sym, ap, ap₂, ◌∙◌, subst}
+use Rattle.std.proofs.Common.{◌≡◌, ℕ, Bool, not, ◌&&◌, List, [], filter, map, Option, Some, None, Ordering, Less, Equal, Greater, refl, sym, ap, ap₂, ◌∙◌, subst}
+use Rattle.icu_index.proofs.NameLemmas.{and_true}
 use Rattle.std.specs.Cmp.Lexicographic.{slice_cmp}
 use Rattle.std.specs.Ordering.{is_ge, is_lt, nat_cmp}
 use Rattle.sqlite.specs.Held.{Held, state}
@@ -22,10 +23,6 @@ at_least : (o : Ordering) → is_ge o ≡ not (is_lt o)
 at_least Less = refl
 at_least Equal = refl
 at_least Greater = refl
-
-and_true : (b : Bool) → b ≡ (b && true)
-and_true true = refl
-and_true false = refl
 
 -- the database's test of a range is that of bounds
 within : (lower : List ℕ) (upper : Option (List ℕ)) (key : List ℕ) → is_key_within lower upper key ≡ stands_between lower upper key

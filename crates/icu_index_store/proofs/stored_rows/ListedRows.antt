@@ -1,10 +1,10 @@
 -- What a query for names shows.
-use Rattle.std.proofs.Common.{◌≡◌, ◌≢◌, ℕ, pos, ◌+◌, ◌<◌, ◌≤◌, not, ◌&&◌, Bool, true, false, true≢false, cond, List, [], ◌∷◌, ◌++◌, length, map, filter, flat_map, get_or, refl, sym, ap, ◌∙◌, subst, arith, Ordering, Less, Equal, Greater, IsPermutation, IsSorted}
-use Rattle.std.proofs.lemmas.Bool.Decides.{nat_tests}
+use Rattle.std.proofs.Common.{◌≡◌, ◌≢◌, ℕ, pos, ◌+◌, ◌<◌, not, ◌&&◌, Bool, true, false, true≢false, cond, List, [], ◌∷◌, ◌++◌, length, map, filter, flat_map, get_or, refl, sym, ap, ◌∙◌, subst, arith, Ordering, Less, Equal, Greater, IsPermutation, IsSorted}
 use Rattle.std.proofs.lemmas.Cmp.{nat_list_cmp_total}
 use Rattle.std.proofs.lemmas.List.{get_or-map}
 use Rattle.std.proofs.Math.ListN.{length-map}
 use Rattle.std.proofs.lemmas.List.Sorted.{ranks_by, IsPermutation-sym}
+use Rattle.std.proofs.lemmas.Map.Keys.{ge_from_not_lt}
 use Rattle.std.specs.Cmp.{IsStrictWeakOrder}
 use Rattle.std.specs.Cmp.Lexicographic.{slice_cmp}
 use Rattle.std.specs.List.{AllByRecursion, list_all}
@@ -56,9 +56,6 @@ first_decides Greater p h = refl
 not_below : (a b : KeptName) → stands_before a b ≡ false → key_below a b ≡ false
 not_below a b h = first_decides (slice_cmp nat_cmp a.key b.key) (nat_cmp a.number b.number) (rw (by_both a b) at h)
 
-not_less : (m n : ℕ) → is_lt (nat_cmp m n) ≡ false → n ≤ m
-not_less m n h = grind (arith, nat_tests)
-
 -- ---- a listing
 
 turned : (o : Ordering) → is_lt o ≡ false → is_lt (ordering_reverse o) ≡ false → o ≡ Equal
@@ -88,7 +85,7 @@ module _ (x : KeptName) where
   above a b h k order apart =
       let same = one_key a b h k in
       let rest : is_lt (nat_cmp b.number a.number) ≡ false = ap (λ o. is_lt (ordering_then o (nat_cmp b.number a.number))) (sym same) ∙ (ap is_lt (sym (by_both b a)) ∙ order) in
-      let least = not_less b.number a.number rest in
+      let least = ge_from_not_lt b.number a.number rest in
       omega arith
 
   all_above : (a : KeptName) → alike a ≡ true → (bs : List KeptName) → AllByRecursion (λ b. stands_before b a ≡ false) bs

@@ -1,9 +1,10 @@
 -- What the query for the next names shows.
-use Rattle.std.proofs.Common.{◌≡◌, ◌≢◌, ℕ, ℤ, pos, ◌+◌, ◌<◌, ◌≤◌, ◌&&◌, Bool, true, false, cond, List, [], ◌∷◌, length, map, flat_map, get_or, take, refl, sym, ap, ◌∙◌, subst, arith, IsPermutation, IsSorted}
-use Rattle.std.proofs.lemmas.Bool.Decides.{nat_tests}
+use Rattle.std.proofs.Common.{◌≡◌, ◌≢◌, ℕ, ℤ, pos, ◌+◌, ◌<◌, Bool, false, cond, List, [], ◌∷◌, length, map, flat_map, get_or, take, sym, ap, ◌∙◌, subst, arith, IsPermutation, IsSorted}
 use Rattle.std.proofs.lemmas.List.{get_or-map, take-map}
 use Rattle.std.proofs.Math.ListN.{length-map}
 use Rattle.std.proofs.lemmas.List.Sorted.{ranks_by, IsPermutation-sym}
+use Rattle.std.proofs.Math.Bool.{and-true}
+use Rattle.std.proofs.lemmas.Map.Keys.{ge_from_not_lt}
 use Rattle.std.specs.Cmp.{IsStrictWeakOrder}
 use Rattle.std.specs.List.{AllByRecursion, list_all}
 use Rattle.std.specs.List.Sorted.{IsSortedBy}
@@ -40,12 +41,9 @@ weak = ranks_by row_cmp_total sort_row
 by_number : (a b : KeptName) → row_cmp (sort_row a) (sort_row b) ≡ nat_cmp a.number b.number
 by_number a b = rw (value_cmp-Int (pos a.number) (pos b.number), pos_cmp a.number b.number) (then-Equal (nat_cmp a.number b.number))
 
-not_less : (m n : ℕ) → is_lt (nat_cmp m n) ≡ false → n ≤ m
-not_less m n h = grind (arith, nat_tests)
-
 above : (a b : KeptName) → stands_before b a ≡ false → b.number ≢ a.number → a.number < b.number
 above a b order apart =
-    let least = not_less b.number a.number (ap is_lt (sym (by_number b a)) ∙ order) in
+    let least = ge_from_not_lt b.number a.number (ap is_lt (sym (by_number b a)) ∙ order) in
     omega arith
 
 all_above : (a : KeptName) (bs : List KeptName) → AllByRecursion (λ b. stands_before b a ≡ false) bs → AllByRecursion (λ b. b.number ≢ a.number) bs
@@ -67,10 +65,6 @@ in_place kept listed numbered moved sorted =
     (λ z h. has_moved listed kept (IsPermutation-sym _ _ moved) z h)
 
 -- ---- the query
-
-and-true : (b : Bool) → (b && true) ≡ b
-and-true true = refl
-and-true false = refl
 
 module _ (behind : ℤ) (most : ℕ) where
   abbrev params : Row

@@ -1,5 +1,6 @@
 -- The statements of an index, one after another.
 use Rattle.std.proofs.Common.{◌≡◌, ◌⊎◌, inl, inr, ℕ, Bool, true, false, ◌&&◌, List, [], ◌∷◌, map, filter, Option, Some, None, Err, IsTrue, refl, sym, ap, subst, MatchBool}
+use Rattle.std.proofs.Math.Bool.{and-true}
 use Rattle.std.specs.Cmp.Lexicographic.{slice_cmp}
 use Rattle.std.specs.List.{list_all}
 use Rattle.std.specs.Ordering.{is_ge, is_lt, nat_cmp}
@@ -18,7 +19,7 @@ use Rattle.icu_index_store.proofs.stored_rows.InsertedRows.{inserts}
 use Rattle.icu_index_store.proofs.stored_rows.ListedRows.{shows}
 use Rattle.icu_index_store.proofs.stored_rows.PrintedRows.{prints_first, prints_other}
 use Rattle.icu_index_store.proofs.stored_rows.RekeyedRows.{rekeys}
-use Rattle.icu_index_store.proofs.stored_rows.RemovedRows.{removes}
+use Rattle.icu_index_store.proofs.stored_rows.RemovedRows.{removes, filter_all}
 use Rattle.icu_index_store.proofs.stored_rows.StatementMeanings.{all_is, behind_is, between_is, key_is_at_least, key_is_below}
 use Rattle.icu_index_store.proofs.stored_rows.ValueLemmas.{blobs_compared}
 use Rattle.icu_index_store.specs.stored_rows.KeptNames.{KeptName, NameStep, added, first_print, other_print, rekeyed, removed, IsListingOf, Keeps, is_within, left_by, left_by_all, row_of, shown_row}
@@ -43,19 +44,11 @@ module _ {S : Type 0} (g : Ghosts S) where
 
 -- ---- queries
 
-passes_all : (ks : List KeptName) → filter (λ k. true) ks ≡ ks
-passes_all [] = refl
-passes_all (k ∷ ks) = ap (λ l. k ∷ l) (passes_all ks)
-
 pub all_listed : (old new : State) (rows : List Row) (kept : List KeptName) → Keeps old.now kept → Shown all_text [] old new rows
     → (listed : List KeptName) × IsListingOf kept listed × (rows ≡ map shown_row listed)
 all_listed old new rows kept keeps h =
-    subst (λ ks. (listed : List KeptName) × IsListingOf ks listed × (rows ≡ map shown_row listed)) (passes_all kept)
+    subst (λ ks. (listed : List KeptName) × IsListingOf ks listed × (rows ≡ map shown_row listed)) (filter_all kept)
     (shows [] [] (λ k. true) (λ k. refl) all_text all_is old new kept rows keeps h)
-
-and-true : (b : Bool) → (b && true) ≡ b
-and-true true = refl
-and-true false = refl
 
 within : (lower upper : List ℕ) (k : KeptName) → list_all (holds ((Blob lower ∷ Blob upper ∷ []) ∷ row_of k ∷ [])) (key_is_at_least ∷ key_is_below ∷ []) ≡ is_within lower (Some upper) k
 within lower upper k =

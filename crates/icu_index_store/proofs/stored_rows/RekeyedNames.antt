@@ -1,6 +1,7 @@
 -- Where an index is made anew each name gets its new key.
-use Rattle.std.proofs.Common.{◌≡◌, ℕ, ◌<◌, ◌==◌, true, false, cond, List, [], ◌∷◌, ◌++◌, map, refl, sym, ap, ap₂, ◌∙◌, subst, arith}
-use Rattle.std.proofs.lemmas.Bool.Decides.{nat_tests}
+use Rattle.std.proofs.Common.{◌≡◌, ℕ, ◌<◌, ◌==◌, false, cond, List, [], ◌∷◌, ◌++◌, map, refl, sym, ap, ap₂, ◌∙◌, subst}
+use Rattle.std.proofs.lemmas.Bool.{eq-eqb}
+use Rattle.icu_index_store.proofs.stored_rows.RekeyedRows.{apart_test, apart_back}
 use Rattle.std.specs.List.{AllByRecursion}
 use Rattle.sqlite.specs.Held.{state}
 use Rattle.sqlite_trees.proofs.ListLemmas.{map-map}
@@ -13,15 +14,6 @@ use Rattle.icu_index_store.specs.stored_rows.RowLaws.{NamesAreRekeyed}
 left_by_both : (first more : List NameStep) (kept : List KeptName) → left_by_all (first ++ more) kept ≡ left_by_all more (left_by_all first kept)
 left_by_both [] more kept = refl
 left_by_both (step ∷ first) more kept = left_by_both first more (left_by step kept)
-
-same_test : (n : ℕ) → (n == n) ≡ true
-same_test n = grind (arith, nat_tests)
-
-apart_test : (m n : ℕ) → m < n → (m == n) ≡ false
-apart_test m n h = grind (arith, nat_tests)
-
-apart_back : (m n : ℕ) → m < n → (n == m) ≡ false
-apart_back m n h = grind (arith, nat_tests)
 
 map_id : (ks : List KeptName) → map (λ k. k) ks ≡ ks
 map_id [] = refl
@@ -51,7 +43,7 @@ module _ (key : List ℕ → List ℕ) where
 
   own : (k : KeptName) (ks : List KeptName) → AllByRecursion (λ j. k.number < j.number) ks → given_by (k ∷ ks) k ≡ under_key key k
   own k ks up =
-      ap (λ b. given_by ks (cond b (under_key key k) k)) (same_test k.number)
+      ap (λ b. given_by ks (cond b (under_key key k) k)) (eq-eqb k.number k.number refl)
       ∙ passed_over ks (under_key key k) (all_weaker (λ j. k.number < j.number) (λ j. (k.number == j.number) ≡ false) (λ j low. apart_test k.number j.number low) ks up)
 
   later : (k : KeptName) (ks xs : List KeptName) → AllByRecursion (λ j. k.number < j.number) xs → AllByRecursion (λ x. given_by ks x ≡ under_key key x) xs

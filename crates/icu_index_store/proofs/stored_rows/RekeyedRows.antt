@@ -1,7 +1,9 @@
 -- What the statement that gives a name another key makes of a database.
-use Rattle.std.proofs.Common.{◌≡◌, ◌⊎◌, inl, inr, ℕ, pos, ◌<◌, ◌==◌, not, ◌&&◌, Bool, true, false, cond, List, [], ◌∷◌, length, map, filter, flat_map, Ok, None, refl, sym, ap, ap₂, ◌∙◌, subst, arith, IsPermutation}
+use Rattle.std.proofs.Common.{◌≡◌, ◌⊎◌, inl, inr, ℕ, pos, ◌<◌, ◌==◌, not, Bool, true, false, cond, List, [], ◌∷◌, length, map, filter, flat_map, Ok, None, refl, sym, ap, ap₂, ◌∙◌, subst, arith, IsPermutation}
 use Rattle.std.proofs.lemmas.Bool.Decides.{nat_tests}
 use Rattle.std.proofs.lemmas.List.Sorted.{length_permutation}
+use Rattle.std.proofs.Math.Bool.{and-true}
+use Rattle.std.proofs.lemmas.Bool.{eqb-true, eq-eqb}
 use Rattle.std.specs.List.{AllByRecursion, list_all}
 use Rattle.std.specs.Ordering.{match_ordering}
 use Rattle.sqlite.proofs.Callers.{one_permutation, one_step, runs_as, statement_of}
@@ -33,24 +35,14 @@ use Rattle.icu_index_store.proofs.stored_rows.ValueLemmas.{number_above, number_
 use Rattle.icu_index_store.specs.stored_rows.KeptNames.{KeptName, AreNumbered, Keeps, key_given, row_of, with_other_key}
 use Rattle.icu_index_store.specs.stored_rows.StoredSchemas.{names_schema, names_table}
 
-and-true : (b : Bool) → (b && true) ≡ b
-and-true true = refl
-and-true false = refl
-
 cast_number : (n : ℕ) → cast Integer (Int (pos n)) ≡ Int (pos n)
 unfolding unary
 cast_number n = either _ (Int (pos n))
 
-equal_numbers : (m n : ℕ) → (m == n) ≡ true → m ≡ n
-equal_numbers m n e = grind (arith, nat_tests)
-
-same_test : (n : ℕ) → (n == n) ≡ true
-same_test n = grind (arith, nat_tests)
-
-apart_test : (m n : ℕ) → m < n → (m == n) ≡ false
+pub apart_test : (m n : ℕ) → m < n → (m == n) ≡ false
 apart_test m n h = grind (arith, nat_tests)
 
-apart_back : (m n : ℕ) → m < n → (n == m) ≡ false
+pub apart_back : (m n : ℕ) → m < n → (n == m) ≡ false
 apart_back m n h = grind (arith, nat_tests)
 
 all_pass : (p : KeptName → Bool) (ks : List KeptName) → AllByRecursion (λ k. p k ≡ true) ks → filter p ks ≡ ks
@@ -110,11 +102,11 @@ module _ (number : ℕ) (key : List ℕ) where
 
   first_one : (k : KeptName) (ks : List KeptName) → is_number k ≡ true → AllByRecursion (λ j. k.number < j.number) ks → HasOne (k ∷ ks)
   first_one k ks e up =
-      let same : k.number ≡ number = equal_numbers k.number number e in
+      let same : k.number ≡ number = eqb-true k.number number e in
       let others : AllByRecursion (λ j. is_number j ≡ false) ks = all_weaker (λ j. k.number < j.number) (λ j. is_number j ≡ false) (λ j low. ap (λ n. j.number == n) (sym same) ∙ apart_back k.number j.number low) ks up in
       let kept : AllByRecursion (λ j. not (is_numbered_as j k) ≡ true) ks = all_weaker (λ j. k.number < j.number) (λ j. not (is_numbered_as j k) ≡ true) (λ j low. ap not (apart_back k.number j.number low)) ks up in
       let left : filter (λ j. not (is_numbered_as j k)) (k ∷ ks) ≡ ks =
-      ap (λ b. cond (not b) (k ∷ filter (λ j. not (is_numbered_as j k)) ks) (filter (λ j. not (is_numbered_as j k)) ks)) (same_test k.number)
+      ap (λ b. cond (not b) (k ∷ filter (λ j. not (is_numbered_as j k)) ks) (filter (λ j. not (is_numbered_as j k)) ks)) (eq-eqb k.number k.number refl)
       ∙ all_pass (λ j. not (is_numbered_as j k)) ks kept in (
         k,
         ap (λ b. cond b (k ∷ filter is_number ks) (filter is_number ks)) e ∙ ap (λ l. k ∷ l) (pass_none is_number ks others),

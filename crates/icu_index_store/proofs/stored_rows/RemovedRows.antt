@@ -37,7 +37,7 @@ and-true false c = refl
 abbrev pub is_numbered_as : KeptName → KeptName → Bool
 is_numbered_as k g = k.number == g.number
 
-filter_all : (ks : List KeptName) → filter (λ k. true) ks ≡ ks
+pub filter_all : (ks : List KeptName) → filter (λ k. true) ks ≡ ks
 filter_all [] = refl
 filter_all (k ∷ ks) = ap (λ l. k ∷ l) (filter_all ks)
 

@@ -1,10 +1,10 @@
 -- Where the names up to a number are under new keys, and the next one gets its own.
 use Rattle.std.proofs.Common.{◌≡◌, ℕ, ℤ, pos, negsuc, int_lt, ◌<◌, ◌≤◌, ◌==◌, Bool, true, false, cond, List, [], ◌∷◌, map, refl, sym, ap, ap₂, ◌∙◌, subst, arith}
-use Rattle.std.proofs.lemmas.Bool.Decides.{nat_tests}
+use Rattle.std.proofs.lemmas.Bool.{eq-eqb}
 use Rattle.std.proofs.lemmas.Int.{ints}
 use Rattle.std.specs.List.{AllByRecursion}
 use Rattle.icu_index_store.proofs.stored_rows.NumberedListLemmas.{all_weaker}
-use Rattle.icu_index_store.proofs.stored_rows.RekeyedRows.{untouched}
+use Rattle.icu_index_store.proofs.stored_rows.RekeyedRows.{untouched, apart_test, apart_back}
 use Rattle.icu_index_store.specs.stored_rows.KeptNames.{KeptName, AreNumbered, is_above, key_given, names_above, renewed_up_to, under_key, with_other_key}
 
 -- ---- numbers above one another
@@ -32,15 +32,6 @@ is_next m n h = at (int_lt (pos m) (pos n)) refl
 
 stays_below : (b : ℤ) (m n : ℕ) → int_lt b (pos m) ≡ false → int_lt b (pos n) ≡ true → m < n
 stays_below b m n e h = omega (arith, ints)
-
-unequal : (m n : ℕ) → m < n → (m == n) ≡ false
-unequal m n h = grind (arith, nat_tests)
-
-unequal_back : (m n : ℕ) → m < n → (n == m) ≡ false
-unequal_back m n h = grind (arith, nat_tests)
-
-own_number : (n : ℕ) → (n == n) ≡ true
-own_number n = grind (arith, nat_tests)
 
 -- ---- names above a number
 
@@ -96,10 +87,10 @@ module _ (key : List ℕ → List ℕ) where
       let above_k : AllByRecursion (λ j. is_above (pos k.number) j ≡ true) ks =
       all_weaker (λ j. k.number < j.number) (λ j. is_above (pos k.number) j ≡ true) (λ j low. is_next k.number j.number low) ks up in
       let others : AllByRecursion (λ j. (j.number == k.number) ≡ false) ks =
-      all_weaker (λ j. k.number < j.number) (λ j. (j.number == k.number) ≡ false) (λ j low. unequal_back k.number j.number low) ks up in
+      all_weaker (λ j. k.number < j.number) (λ j. (j.number == k.number) ≡ false) (λ j low. apart_back k.number j.number low) ks up in
       let itself : is_above (pos k.number) k ≡ false = not_above k.number k.number (omega arith) in (
         ap₂ (λ j l. key_given k.number (key k.name) j ∷ with_other_key k.number (key k.name) l) (ap (λ t. cond t k (under_key key k)) e) (as_they_are b ks above_b)
-            ∙ (ap₂ (λ t l. cond t (under_key key k) k ∷ l) (own_number k.number) (untouched k.number (key k.name) ks others)
+            ∙ (ap₂ (λ t l. cond t (under_key key k) k ∷ l) (eq-eqb k.number k.number refl) (untouched k.number (key k.name) ks others)
             ∙ sym (ap₂ (λ t l. cond t k (under_key key k) ∷ l) itself (as_they_are (pos k.number) ks above_k))),
         ap (λ t. cond t (k ∷ names_above (pos k.number) ks) (names_above (pos k.number) ks)) itself ∙ all_pass (pos k.number) ks above_k,
       )
@@ -108,7 +99,7 @@ module _ (key : List ℕ → List ℕ) where
   later_next b k next ks rest e low more =
       let passed : is_above (pos next.number) k ≡ false = not_above next.number k.number (omega arith) in (
         ap (λ j. key_given next.number (key next.name) j ∷ with_other_key next.number (key next.name) (renewed_up_to key b ks)) (ap (λ t. cond t k (under_key key k)) e)
-            ∙ (ap₂ (λ t l. cond t (record (under_key key k) { key = key next.name }) (under_key key k) ∷ l) (unequal k.number next.number low) more.0
+            ∙ (ap₂ (λ t l. cond t (record (under_key key k) { key = key next.name }) (under_key key k) ∷ l) (apart_test k.number next.number low) more.0
             ∙ sym (ap (λ t. cond t k (under_key key k) ∷ renewed_up_to key (pos next.number) ks) passed)),
         ap (λ t. cond t (k ∷ names_above (pos next.number) ks) (names_above (pos next.number) ks)) passed ∙ more.1,
       )

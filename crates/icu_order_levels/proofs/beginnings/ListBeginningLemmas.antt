@@ -1,6 +1,6 @@
 -- Lists that begin with others.
-use Rattle.std.proofs.Common.{◌≡◌, ◌≢◌, ◌==◌, ◌&&◌, ℕ, Bool, true, false, List, [], ◌∷◌, ◌++◌, refl, sym, ap, ap₂, ◌∙◌, inl, inr, ◌⊎◌, append_assoc, arith, eqb-true, eq-eqb, ne_eqb}
-use Rattle.std.proofs.lemmas.Bool.{cases_Bool}
+use Rattle.std.proofs.Common.{◌≡◌, ◌≢◌, ◌==◌, ◌&&◌, ℕ, true, false, List, [], ◌∷◌, ◌++◌, refl, sym, ap, ap₂, ◌∙◌, inl, inr, ◌⊎◌, append_assoc, arith, eqb-true, eq-eqb, ne_eqb}
+use Rattle.std.proofs.lemmas.Bool.{cases_Bool, and_parts}
 use Rattle.icu_order_levels.specs.ListOrder.{IsUnder, IsOver, Precedes}
 use Rattle.icu_order_levels.proofs.Order.{same_lists_order}
 use Rattle.icu_order_levels.specs.beginnings.KeyBeginnings.{begins}
@@ -22,15 +22,11 @@ pub record Rest (xs ys : List ℕ) : Type 0 where
   pub rest : List ℕ
   pub is : ys ≡ xs ++ rest
 
-both_true : (a b : Bool) → (a && b) ≡ true → (a ≡ true) × (b ≡ true)
-both_true true b h = (refl, h)
-both_true false b h = absurd (cc)
-
 pub begins_rest : (xs ys : List ℕ) → begins xs ys ≡ true → Rest xs ys
 begins_rest [] ys h = record { rest = ys; is = refl }
 begins_rest (x ∷ xs) [] h = absurd (cc)
 begins_rest (x ∷ xs) (y ∷ ys) h =
-    let parts = both_true (x == y) (begins xs ys) h in
+    let parts = and_parts (x == y) (begins xs ys) h in
     let more = begins_rest xs ys parts.1 in
     record { rest = more.rest; is = ap₂ (λ (z : ℕ) (zs : List ℕ). z ∷ zs) (sym (eqb-true x y parts.0)) more.is }
 

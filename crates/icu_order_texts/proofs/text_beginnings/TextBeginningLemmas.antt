@@ -10,7 +10,7 @@ use Rattle.icu_order_levels.specs.beginnings.BeginningLaws.{PrimariesAreKept}
 use Rattle.icu_order_levels.specs.beginnings.KeyBeginnings.{AreBytes}
 use Rattle.icu_order_levels.proofs.beginnings.AboveLemmas.{beginnings_between}
 use Rattle.icu_order_levels.proofs.beginnings.ListBeginningLemmas.{begins_front}
-use Rattle.icu_order_levels.proofs.beginnings.PrimaryPlaces.{primaries_kept}
+use Rattle.icu_order_levels.proofs.PrimaryOrder.{primaries_kept}
 use Rattle.icu_element_reading.proofs.boundaries.CutLemmas.{boundary_cut}
 use Rattle.icu_table_provider.specs.well_formed.WellFormedTables.{IsWellFormedTables}
 use Rattle.icu_element_reading.specs.TextElementLaws.{IsText}

@@ -1,8 +1,9 @@
 -- The longest of some lists of characters that begins a text is the one that a look-up of each beginning would find.
 use Rattle.std.proofs.Common.{◌≡◌, ℕ, suc, ◌<◌, ◌≤◌, ◌⊎◌, inl, inr, Bool, true, false, ◌&&◌, nat_eq, nat_lt, bytes_eq, List, [], ◌∷◌, length, Option, Some, None, if◌then◌else◌, refl, ap, sym, subst, ◌∙◌, arith}
 use Rattle.std.specs.List.{starts_with}
-use Rattle.std.proofs.lemmas.Bool.{cases_Bool, ltb-true}
+use Rattle.std.proofs.lemmas.Bool.{cases_Bool, ltb-true, and_parts}
 use Rattle.std.proofs.lemmas.Bool.Decides.{nat_tests}
+use Rattle.icu_element_matches.proofs.steady_matches.LongestLemmas.{second_false}
 use Rattle.icu_element_matches.proofs.CharacterOrderLemmas.{same_lists}
 
 -- the first that has these characters
@@ -71,14 +72,6 @@ no_longer_is key (Some best) x e = no_less (length (key best)) (length (key x)) 
   where
     no_less : (m n : ℕ) → nat_lt m n ≡ false → n < suc m
     no_less m n e = grind (arith, nat_tests)
-
-both_true : (a b : Bool) → (a && b) ≡ true → (a ≡ true) × (b ≡ true)
-both_true true b e = (refl, e)
-both_true false b e = cc
-
-second_false : (a b : Bool) → (a && b) ≡ false → a ≡ true → b ≡ false
-second_false true b e f = e
-second_false false b e f = cc
 
 better_true : {X : Type 0} (key : X → List ℕ) (best : Option X) (x : X) (text : List ℕ)
     → (starts_with nat_eq text (key x) && is_longer_by key best x) ≡ true → better_by key best x text ≡ Some x
@@ -156,7 +149,7 @@ chosen_is key best [] text = record { over = λ chars b long. refl; found = inl 
 chosen_is key best (x ∷ xs) text =
     elim (cases_Bool (starts_with nat_eq text (key x) && is_longer_by key best x)) [
       | inl e ↦
-          let (s, l) = both_true _ _ e in
+          let (s, l) = and_parts _ _ e in
           subst (λ b. IsChosen key (x ∷ xs) text best (longest_by key b xs text)) (sym (better_true key best x text e))
           (chosen_with key x xs text best (longest_by key (Some x) xs text) s l (chosen_is key (Some x) xs text))
       | inr e ↦

@@ -1,9 +1,10 @@
 -- A match by a context is that by mappings which it says.
-use Rattle.std.proofs.Common.{◌≡◌, ℕ, ◌<◌, ◌≤◌, inl, inr, Bool, true, false, ◌&&◌, nat_eq, nat_lt, bytes_eq, List, [], ◌∷◌, ◌++◌, length, map, take, drop, Option, Some, None, if◌then◌else◌, refl, ap, sym, subst, ◌∙◌, arith, append_assoc, append-nil}
+use Rattle.std.proofs.Common.{◌≡◌, ℕ, ◌<◌, ◌≤◌, inl, inr, Bool, true, false, nat_eq, nat_lt, bytes_eq, List, [], ◌∷◌, ◌++◌, length, map, take, drop, Option, Some, None, if◌then◌else◌, refl, ap, sym, subst, ◌∙◌, arith, append_assoc, append-nil}
 use Rattle.std.specs.List.{starts_with}
 use Rattle.std.specs.Option.{option_or, option_map}
 use Rattle.std.proofs.lemmas.Bool.{cases_Bool, cases_order}
 use Rattle.std.proofs.lemmas.Bool.Decides.{nat_tests}
+use Rattle.std.proofs.Math.Bool.{and-true}
 use Rattle.unicode_normalization.specs.Order.{is_starter}
 use Rattle.icu_table_entries.specs.Elements.{Element}
 use Rattle.icu_table_entries.specs.Entries.{kind_of}
@@ -57,13 +58,9 @@ longest_same best (m ∷ mappings) text =
     ap (λ b. longest_from b mappings text) (better_same best m text)
     ∙ longest_same (better_by chars_of best m text) mappings text
 
-and_true : (b : Bool) → (b && true) ≡ b
-and_true true = refl
-and_true false = refl
-
 longer_same : (best : Option SymbolicMapping) (m : SymbolicMapping) (text : List ℕ)
     → longer_mapping text best m ≡ better_by suffix_of best m text
-longer_same None m text = ap (λ b. if b then Some m else None) (sym (and_true (starts_with nat_eq text m.suffix)))
+longer_same None m text = ap (λ b. if b then Some m else None) (sym (and-true (starts_with nat_eq text m.suffix)))
 longer_same (Some best) m text = refl
 
 longest_suffix_same : (best : Option SymbolicMapping) (mappings : List SymbolicMapping) (text : List ℕ)

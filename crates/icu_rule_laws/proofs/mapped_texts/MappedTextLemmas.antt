@@ -1,8 +1,9 @@
 -- Texts are read by tables as by mappings which these say.
-use Rattle.std.proofs.Common.{◌≡◌, ℕ, zero, suc, Bool, true, false, List, [], ◌∷◌, ◌++◌, length, map, drop, take, reverse, Option, Some, None, if◌then◌else◌, refl, ap, ap₂, sym, subst, ◌∙◌, append_assoc, append-nil}
+use Rattle.std.proofs.Common.{◌≡◌, ℕ, Bool, true, false, List, [], ◌∷◌, ◌++◌, map, take, reverse, Option, Some, None, if◌then◌else◌, refl, ap, ap₂, sym, subst, ◌∙◌, append_assoc, append-nil}
 use Rattle.std.specs.List.{AllByRecursion}
 use Rattle.std.proofs.lemmas.List.{map-append}
 use Rattle.std.proofs.lemmas.List.Elements.{filter-append}
+use Rattle.icu_rule_meaning.proofs.KeptRootLemmas.{match_leaves}
 use Rattle.unicode_normalization.specs.Order.{is_starter}
 use Rattle.icu_table_entries.specs.Elements.{Element, of_secondary}
 use Rattle.icu_table_entries.specs.Entries.{kind_of}
@@ -15,7 +16,7 @@ use Rattle.icu_element_matches.specs.Matches.{Match, after_prefix, match_of}
 use Rattle.icu_element_reading.specs.TextElements.{Step, non_numeric_reading, final_step, entry_step, matched_step, step, consumed, last_two, elements_along, elements_after}
 use Rattle.icu_rule_root.specs.RootEntries.{entry_elements}
 use Rattle.icu_rule_meaning.specs.declared.symbolic.SymbolicElement.{SymbolicElement}
-use Rattle.icu_rule_meaning.specs.TailoredMappings.{SymbolicMapping, SymbolicMappings, SymbolicMatch, beginnings, mappings_behind, mapping_with, longest_suffix, is_blocked_by, joined_marks, match_by, symbolic_match, context_behind, symbolic_along}
+use Rattle.icu_rule_meaning.specs.TailoredMappings.{SymbolicMapping, SymbolicMappings, SymbolicMatch, beginnings, mappings_behind, longest_suffix, is_blocked_by, joined_marks, match_by, symbolic_match, context_behind, symbolic_along}
 use Rattle.icu_rule_laws.specs.mapped_texts.MappedTexts.{is_weighted, weighted, context_behind_prefix, SaysMappings, IsMappedAlone, SayMappingsOf, TextsAreReadByMappings, TextsOfSomeAreReadByMappings}
 use Rattle.icu_rule_laws.proofs.mapped_texts.MappedMatchLemmas.{AreSameMatch, match_same, matches_by_context}
 
@@ -122,55 +123,6 @@ diacritic_same number tables mappings before c secondary text e h =
     (subst (λ a. AreSameStep number a (record { elements = h.elements; suffix = []; rest = text })) (sym is) plain)
 
 -- ---- what a match leaves is of the text
-
-all_append : (P : ℕ → Type 0) (xs ys : List ℕ) → AllByRecursion P xs → AllByRecursion P ys → AllByRecursion P (xs ++ ys)
-all_append P [] ys p q = q
-all_append P (x ∷ xs) ys (p, ps) q = (p, all_append P xs ys ps q)
-
-all_drop : (P : ℕ → Type 0) (n : ℕ) (xs : List ℕ) → AllByRecursion P xs → AllByRecursion P (drop n xs)
-all_drop P zero xs p = p
-all_drop P (suc n) [] p = p
-all_drop P (suc n) (x ∷ xs) (p, ps) = all_drop P n xs ps
-
-one_of : (P : ℕ → Type 0) (b : Bool) (m n : SymbolicMatch) → AllByRecursion P m.rest → AllByRecursion P n.rest
-    → AllByRecursion P (if b then m else n).rest
-one_of P true m n p q = p
-one_of P false m n p q = q
-
-found_or : (P : ℕ → Type 0) (o : Option SymbolicMapping) (some : SymbolicMapping → SymbolicMatch) (none : SymbolicMatch)
-    → ((m : SymbolicMapping) → AllByRecursion P (some m).rest) → AllByRecursion P none.rest
-    → AllByRecursion P (elim o as (λ _. SymbolicMatch) [ Some m ↦ some m | None ↦ none ]).rest
-found_or P (Some m) some none p q = p m
-found_or P None some none p q = q
-
-marks_leave : (P : ℕ → Type 0) (mappings : List SymbolicMapping) (found : SymbolicMapping) (passed text : List ℕ)
-    → AllByRecursion P passed → AllByRecursion P text → AllByRecursion P (joined_marks mappings found passed text).rest
-unfolding joined_marks
-marks_leave P mappings found passed [] p q = p
-marks_leave P mappings found passed (m ∷ text) p (q, qs) =
-    let with_m : AllByRecursion P (passed ++ m ∷ []) = all_append P passed (m ∷ []) p (q, tt) in
-    let over = marks_leave P mappings found (passed ++ m ∷ []) text with_m qs in
-    let ended : SymbolicMatch =
-    record { elements = found.elements; suffix = found.suffix; rest = passed ++ m ∷ text } in
-    let passed_over = joined_marks mappings found (passed ++ m ∷ []) text in
-    let tried : SymbolicMatch = elim (mapping_with mappings (found.suffix ++ m ∷ [])) [
-      | Some longer ↦ joined_marks mappings longer passed text
-      | None ↦ passed_over
-    ] in
-    let unblocked : SymbolicMatch = if is_blocked_by passed m then passed_over else tried in
-    one_of P (is_starter m) ended unblocked (all_append P passed (m ∷ text) p (q, qs))
-    (one_of P (is_blocked_by passed m) passed_over tried over
-    (found_or P (mapping_with mappings (found.suffix ++ m ∷ [])) (λ longer. joined_marks mappings longer passed text)
-    passed_over (λ longer. marks_leave P mappings longer passed text p qs) over))
-
-match_leaves : (P : ℕ → Type 0) (mappings : List SymbolicMapping) (text : List ℕ) → AllByRecursion P text
-    → AllByRecursion P (match_by mappings text).rest
-match_leaves P mappings text p =
-    let none : SymbolicMatch = record { elements = []; suffix = []; rest = text } in
-    found_or P (longest_suffix None mappings text)
-    (λ found. joined_marks mappings found [] (drop (length found.suffix) text)) none
-    (λ found. marks_leave P mappings found [] (drop (length found.suffix) text) tt (all_drop P (length found.suffix) text p))
-    p
 
 -- ---- each step, and the text
 

@@ -1,9 +1,10 @@
 -- Each character has a mapping alone, whatever rules there are.
 use Rattle.std.proofs.Common.{◌≡◌, ℕ, Bool, true, false, ◌||◌, ◌&&◌, ◌==◌, not, bytes_eq, List, [], ◌∷◌, ◌++◌, map, filter, reverse, Option, Some, None, if◌then◌else◌, refl, ap, sym, subst, ◌∙◌}
+use Rattle.std.proofs.lemmas.Bool.{and_parts}
+use Rattle.std.proofs.Math.Bool.{or-true}
+use Rattle.icu_rule_meaning.proofs.KeptRootLemmas.{before_keeps, strength_keeps}
 use Rattle.std.specs.List.{list_any}
 use Rattle.unicode_normalization.specs.Forms.{nfd}
-use Rattle.icu_options.specs.declared.settings.Strength.{Strength}
-use Rattle.icu_options.specs.declared.settings.Strength.TheVariants.{Primary, Secondary, Tertiary, Quaternary, Identical}
 use Rattle.icu_table_entries.specs.Entries.{kind_of}
 use Rattle.icu_table_entries.specs.declared.entry.EntryKind.{EntryKind}
 use Rattle.icu_table_entries.specs.declared.entry.EntryKind.TheVariants.{Prefix, Contraction}
@@ -11,28 +12,20 @@ use Rattle.icu_table_data.specs.Data.{Data, homed, context_of}
 use Rattle.icu_element_matches.proofs.CharacterOrderLemmas.{same_lists}
 use Rattle.icu_table_provider.specs.Tables.{diacritic_of}
 use Rattle.icu_rule_root.specs.RootEntries.{entry_mapping, entry_mappings, mappings_of_prefixes, prefixed_mappings, root_entry, root_mappings_of, suffix_mappings}
-use Rattle.icu_rule_meaning.specs.Rules.{ResetPlace, Rule, reset, relation, suppression, setting, have_character}
-use Rattle.icu_rule_meaning.specs.Steps.{TailoringState, case_step, difference_step, first_state, mapping_step, before_step, relation_step, reset_step, rule_step, state_after, strength_step, suppression_step}
+use Rattle.icu_rule_meaning.specs.Rules.{Rule, reset, relation, suppression, setting, have_character}
+use Rattle.icu_rule_meaning.specs.Steps.{TailoringState, case_step, first_state, mapping_step, relation_step, rule_step, state_after, strength_step, suppression_step}
 use Rattle.icu_rule_meaning.specs.TailoredRoots.{RootMapping, Root}
 use Rattle.icu_rule_meaning.specs.TailoredMappings.{SymbolicMapping, SymbolicMappings, has_no_context, is_mapping_of, mapping_of_root, with_mapping}
 use Rattle.icu_rule_meaning.specs.declared.symbolic.SymbolicElement.{SymbolicElement}
 use Rattle.icu_rule_laws.proofs.mapped_texts.RootTextLemmas.{diacritic_mappings, no_diacritic_mappings}
 use Rattle.icu_rule_laws.specs.tailored_texts.SaidMappings.{HasMappingAlone, RootsHaveMappingsAlone, RulesKeepMappingsAlone}
 
-or_true : (b : Bool) → (b || true) ≡ true
-or_true true = refl
-or_true false = refl
-
-both_true : (a b : Bool) → (a && b) ≡ true → (a ≡ true) × (b ≡ true)
-both_true true b h = (refl, h)
-both_true false b h = cc
-
 if_alone : (b : Bool) (xs ys : List SymbolicMapping) → HasMappingAlone xs → HasMappingAlone ys → HasMappingAlone (if b then xs else ys)
 if_alone true xs ys p q = p
 if_alone false xs ys p q = q
 
 further : (m : SymbolicMapping) (ms : List SymbolicMapping) → HasMappingAlone ms → HasMappingAlone (m ∷ ms)
-further m ms h = ap (λ b. has_no_context m || b) h ∙ or_true (has_no_context m)
+further m ms h = ap (λ b. has_no_context m || b) h ∙ or-true (has_no_context m)
 
 -- ---- a mapping in the place of others
 
@@ -44,7 +37,7 @@ nothing_before (x ∷ xs) = refl
 another : (m : SymbolicMapping) (prefix suffix : List ℕ) → has_no_context m ≡ true → (bytes_eq prefix [] && bytes_eq suffix []) ≡ false
     → is_mapping_of prefix suffix m ≡ false
 another m prefix suffix alone not_alone =
-    let sides = both_true (bytes_eq m.prefix []) (bytes_eq m.suffix []) alone in
+    let sides = and_parts (bytes_eq m.prefix []) (bytes_eq m.suffix []) alone in
     ap (λ xs. bytes_eq xs prefix && bytes_eq m.suffix suffix) (same_lists m.prefix [] sides.0)
     ∙ ap (λ xs. bytes_eq [] prefix && bytes_eq xs suffix) (same_lists m.suffix [] sides.1)
     ∙ ap (λ b. b && bytes_eq [] suffix) (nothing_before prefix)
@@ -90,20 +83,6 @@ kept_alone (m ∷ ms) h = here (has_no_context m) refl (λ k. kept_alone ms k) h
 abbrev AllAlone : SymbolicMappings → Type 0
 AllAlone mappings = (c : ℕ) → HasMappingAlone (mappings c)
 
-reset_keeps : (root : Root) (before : Option Strength) (place : ResetPlace) (state : TailoringState)
-    → (reset_step root before place state).mappings ≡ state.mappings
-unfolding reset_step before_step
-reset_keeps root None place state = refl
-reset_keeps root (Some strength) place state = refl
-
-strength_keeps : (strength : Strength) (state : TailoringState) → (strength_step strength state).mappings ≡ state.mappings
-unfolding difference_step
-strength_keeps Primary state = refl
-strength_keeps Secondary state = refl
-strength_keeps Tertiary state = refl
-strength_keeps Quaternary state = refl
-strength_keeps Identical state = refl
-
 mapping_alone : (prefix string : List ℕ) (es : List SymbolicElement) (state : TailoringState) → AllAlone state.mappings
     → AllAlone (mapping_step prefix string es state).mappings
 mapping_alone prefix [] es state h c = h c
@@ -111,7 +90,7 @@ mapping_alone prefix (d ∷ suffix) es state h c = if_alone (c == d) _ (state.ma
 
 rule_alone : (root : Root) (state : TailoringState) (rule : Rule) → AllAlone state.mappings → AllAlone (rule_step root state rule).mappings
 unfolding relation_step suppression_step
-rule_alone root state (reset before place) h = subst AllAlone (sym (reset_keeps root before place state)) h
+rule_alone root state (reset before place) h = subst AllAlone (sym (before_keeps root before place state)) h
 rule_alone root state (relation strength prefix string extension) h =
     mapping_alone (nfd prefix) (nfd string) _ (case_step root (nfd string) (strength_step strength state))
     (subst AllAlone (sym (strength_keeps strength state)) h)

@@ -2,7 +2,7 @@
 use Rattle.std.proofs.Common.{◌≡◌, ℕ, ◌+◌, ◌-◌, ◌<◌, Bool, true, false, ◌&&◌, ◌==◌, List, [], ◌∷◌, map, Option, Some, None, if◌then◌else◌, refl, ap, sym, subst, ◌∙◌, arith, inl, inr, slice_index}
 use Rattle.std.specs.Prelude.{nat_lt}
 use Rattle.std.specs.Bool.{MatchBool}
-use Rattle.std.proofs.lemmas.Bool.{cases_Bool, ltb-true}
+use Rattle.std.proofs.lemmas.Bool.{cases_Bool, ltb-true, eq-eqb}
 use Rattle.std.proofs.lemmas.Bool.Decides.{nat_tests}
 use Rattle.icu_table_entries.specs.Entries.{fallback_entry}
 use Rattle.icu_table_data.specs.CodePointTables.{code_point_count}
@@ -54,9 +54,6 @@ not_same v w n = elim (cases_Bool (v == w)) [
   | inl e ↦ absurd (n (grind (arith, nat_tests)))
   | inr e ↦ e
 ]
-
-same : (v w : ℕ) → v ≡ w → (v == w) ≡ true
-same v w e = grind (arith, nat_tests)
 
 -- ---- the entries of tables
 
@@ -174,7 +171,7 @@ module _ {R : Type 0} (mappings_of : R → ℕ → List RootMapping) (t : Tailor
           (given_says own c (own.value c) ok.ascending char g)
       by_own false is rooted =
           subst (SaysHomed c)
-          (sym (ap (λ b. if b then homed tables.root (tables.root.value c) else homed own (own.value c)) (same (own.value c) fallback_entry rooted)))
+          (sym (ap (λ b. if b then homed tables.root (tables.root.value c) else homed own (own.value c)) (eq-eqb (own.value c) fallback_entry rooted)))
           (subst (Says tables.root c) (other_root over c j ∙ sym (ap (λ (f : ℕ → ℕ). f c) made.jamo.extends.value)) (root_says c char no_diacritic is))
 
   pub tables_say : SayMappingsOf is_scalar_code (numbered_element t) tables (mappings_in mappings_of m)

@@ -119,10 +119,10 @@ heads_alike tree one other i j is js m n a b e rest =
     (siblings_alike tree one other i.above i.own j.own is js m n a
     (subst (λ above. IsAmongWeights j.own (tree above)) (sym e) b) rest)
 
-letter_first : (i : Item) (is : List Item) → is_letter i.above ≡ true → letters (i ∷ is) ≡ i.above ∷ letters is
+pub letter_first : (i : Item) (is : List Item) → is_letter i.above ≡ true → letters (i ∷ is) ≡ i.above ∷ letters is
 letter_first i is e = rw e refl
 
-no_letter_first : (i : Item) (is : List Item) → is_letter i.above ≡ false → letters (i ∷ is) ≡ letters is
+pub no_letter_first : (i : Item) (is : List Item) → is_letter i.above ≡ false → letters (i ∷ is) ≡ letters is
 no_letter_first i is e = rw e refl
 
 abbrev first_of : List (List SymbolicWeight) → List SymbolicWeight

@@ -4,7 +4,7 @@ use Rattle.std.specs.List.{AllByRecursion}
 use Rattle.std.specs.Ordering.{ordering_then}
 use Rattle.std.specs.declared.cmp.Ordering.{Ordering}
 use Rattle.std.specs.declared.cmp.Ordering.TheVariants.{Less, Equal, Greater}
-use Rattle.std.proofs.lemmas.Bool.{cases_Bool}
+use Rattle.std.proofs.lemmas.Bool.{cases_Bool, not-false, not-true}
 use Rattle.std.proofs.lemmas.Bool.Decides.{nat_tests}
 use Rattle.icu_order_levels.specs.ListOrder.{list_order}
 use Rattle.icu_rule_meaning.specs.declared.symbolic.SymbolicWeight.{SymbolicWeight}
@@ -15,7 +15,7 @@ use Rattle.icu_rule_meaning.specs.WeightTrees.{WeightTree}
 use Rattle.icu_rule_meaning.specs.SymbolicOrders.{Numbering, NumbersTree, IsAmongWeights, level_numbers, level_order}
 use Rattle.icu_rule_meaning.proofs.TreeLemmas.{same_weight_is, is_itself}
 use Rattle.icu_rule_meaning.specs.numbering_laws.NumberingLaws.{StandsInTree, StandInTree, OrdersElements, order_up_to, NumberingsOrderAlike}
-use Rattle.icu_rule_meaning.proofs.numbering_laws.ItemLemmas.{Item, joined, number, is_letter, letters, IsItem, Parts, items_alike}
+use Rattle.icu_rule_meaning.proofs.numbering_laws.ItemLemmas.{Item, joined, number, is_letter, letters, IsItem, Parts, items_alike, no_letter_first, letter_first}
 
 -- the first three weights of an element that stands in a tree
 record Three : Type 0 where
@@ -140,12 +140,6 @@ record GoesOn (tree : WeightTree) (at next : Three → Item) : Type 0 where
   mark : (e : SymbolicElement) (s : StandsInTree tree e) → is_zero (at (three_of tree e s)).own ≡ true
       → is_letter (next (three_of tree e s)).above ≡ false
 
-letters_of : (i : Item) (is : List Item) → is_letter i.above ≡ false → letters (i ∷ is) ≡ letters is
-letters_of i is e = rw e refl
-
-letters_with : (i : Item) (is : List Item) → is_letter i.above ≡ true → letters (i ∷ is) ≡ i.above ∷ letters is
-letters_with i is e = rw e refl
-
 letters_are : (tree : WeightTree) (at next : Three → Item) → GoesOn tree at next
     → (es : List SymbolicElement) (all : StandInTree tree es)
     → letters (items next (threes tree es all)) ≡ map joined (items at (threes tree es all))
@@ -159,12 +153,12 @@ letters_are tree at next g (e ∷ es) (s, all) =
           let kept : letters (items next (x ∷ xs)) ≡ letters (items next xs) =
           elim (cases_Bool (is_zero (next x).own)) [
             | inl y ↦ ap letters (zero_first next x xs y)
-            | inr c ↦ ap letters (counts_first next x xs c) ∙ letters_of (next x) (items next xs) (g.mark e s z)
+            | inr c ↦ ap letters (counts_first next x xs c) ∙ no_letter_first (next x) (items next xs) (g.mark e s z)
           ] in
           kept ∙ rest ∙ sym (ap (map joined) (zero_first at x xs z))
       | inr c ↦
           ap letters (counts_first next x xs (g.counts e s c))
-          ∙ letters_with (next x) (items next xs) (g.letter e s c)
+          ∙ letter_first (next x) (items next xs) (g.letter e s c)
           ∙ ap (λ above. above ∷ letters (items next xs)) (g.below e s c)
           ∙ ap (λ more. joined (at x) ∷ more) rest
           ∙ sym (ap (map joined) (counts_first at x xs c))
@@ -194,14 +188,6 @@ third_gives tree = record {
       (s.primary ∷ s.secondary ∷ s.tertiary ∷ []) s.weights refl;
   among = λ e s. s.has_tertiary;
 }
-
-not_false : (b : Bool) → not b ≡ false → b ≡ true
-not_false true e = refl
-not_false false e = cc
-
-not_true : (b : Bool) → not b ≡ true → b ≡ false
-not_true true e = cc
-not_true false e = refl
 
 zero_is : (w : SymbolicWeight) → is_zero w ≡ true → w ≡ Rooted 0
 zero_is w e = same_weight_is w (Rooted 0) e
@@ -235,7 +221,7 @@ first_stand tree = items_stand tree [] 1 first_item (first_gives tree) (λ e s m
 second_stand : (tree : WeightTree) (es : List SymbolicElement) (all : StandInTree tree es)
     → AllByRecursion (IsItem tree (Rooted 0 ∷ [])) (items second_item (threes tree es all))
 second_stand tree = items_stand tree (Rooted 0 ∷ []) 2 second_item (second_gives tree)
-    (λ e s m c. ap (λ p. p ∷ []) (zero_is s.primary (not_false (is_zero s.primary) m))) (λ e s. refl)
+    (λ e s m c. ap (λ p. p ∷ []) (zero_is s.primary (not-false (is_zero s.primary) m))) (λ e s. refl)
 
 both_zero : (p q : SymbolicWeight) → p ≡ Rooted 0 → q ≡ Rooted 0 → (p ∷ q ∷ []) ≡ (Rooted 0 ∷ Rooted 0 ∷ [])
 both_zero p q e f = ap (λ x. x ∷ q ∷ []) e ∙ ap (λ x. Rooted 0 ∷ x ∷ []) f
@@ -243,7 +229,7 @@ both_zero p q e f = ap (λ x. x ∷ q ∷ []) e ∙ ap (λ x. Rooted 0 ∷ x ∷
 third_stand : (tree : WeightTree) (es : List SymbolicElement) (all : StandInTree tree es)
     → AllByRecursion (IsItem tree (Rooted 0 ∷ Rooted 0 ∷ [])) (items third_item (threes tree es all))
 third_stand tree = items_stand tree (Rooted 0 ∷ Rooted 0 ∷ []) 3 third_item (third_gives tree)
-    (λ e s m c. let z = zero_is s.secondary (not_false (is_zero s.secondary) m) in both_zero s.primary s.secondary (s.no_primary z) z)
+    (λ e s m c. let z = zero_is s.secondary (not-false (is_zero s.secondary) m) in both_zero s.primary s.secondary (s.no_primary z) z)
     (λ e s. refl)
 
 -- ---- marks are above letters
@@ -261,7 +247,7 @@ second_part : (tree : WeightTree) (numbering : Numbering) → OrdersElements tre
     → numbering (above ++ w ∷ []) < numbering (Rooted 0 ∷ alone ∷ [])
 second_part tree numbering o [] w alone e l a b h = absurd (omega (arith, e))
 second_part tree numbering o (p ∷ []) w alone e l a b h =
-    o.secondaries p w alone (is_no_zero p (not_true (is_zero p) l)) a b h
+    o.secondaries p w alone (is_no_zero p (not-true (is_zero p) l)) a b h
 second_part tree numbering o (p ∷ q ∷ ws) w alone e l a b h = absurd (omega (arith, e))
 
 second_parts : (tree : WeightTree) (numbering : Numbering) → OrdersElements tree numbering
@@ -279,7 +265,7 @@ third_part : (tree : WeightTree) (numbering : Numbering) → OrdersElements tree
 third_part tree numbering o [] w alone e l a b h = absurd (omega (arith, e))
 third_part tree numbering o (p ∷ []) w alone e l a b h = absurd (omega (arith, e))
 third_part tree numbering o (p ∷ q ∷ []) w alone e l a b h =
-    o.tertiaries p q w alone (is_no_zero q (not_true (is_zero q) l)) a b h
+    o.tertiaries p q w alone (is_no_zero q (not-true (is_zero q) l)) a b h
 third_part tree numbering o (p ∷ q ∷ r ∷ ws) w alone e l a b h = absurd (omega (arith, e))
 
 third_parts : (tree : WeightTree) (numbering : Numbering) → OrdersElements tree numbering

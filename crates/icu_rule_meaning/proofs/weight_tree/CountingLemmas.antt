@@ -5,7 +5,7 @@ use Rattle.std.proofs.lemmas.List.{take_more}
 use Rattle.icu_rule_meaning.specs.declared.symbolic.SymbolicElement.{SymbolicElement}
 use Rattle.icu_rule_meaning.specs.Steps.{counting_at, last_element, front_elements}
 
-sub_one : (n : ℕ) → suc n - 1 ≡ n
+pub sub_one : (n : ℕ) → suc n - 1 ≡ n
 sub_one n = omega arith
 
 pub last_is : (es : List SymbolicElement) (d : SymbolicElement) → 0 < length es → last_element es ≡ get_or es (length es - 1) d

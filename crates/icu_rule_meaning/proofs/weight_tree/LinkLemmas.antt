@@ -1,6 +1,6 @@
 -- Weights that are linked, and another one between them.
 use Rattle.std.proofs.Common.{◌≡◌, ℕ, zero, suc, ◌<◌, ◌≤◌, true, false, ◌==◌, List, [], ◌∷◌, length, take_while, if◌then◌else◌, inl, inr, ◌⊎◌, Option, Some, None, unwrap_or, refl, ap, sym, ◌∙◌, subst, arith}
-use Rattle.std.proofs.lemmas.Bool.{both_ways, cases_Bool, eqb-true}
+use Rattle.std.proofs.lemmas.Bool.{both_ways, cases_Bool, eqb-true, or_parts}
 use Rattle.std.proofs.lemmas.List.Sums.{take_while-cons}
 use Rattle.icu_rule_meaning.specs.declared.symbolic.SymbolicWeight.{SymbolicWeight}
 use Rattle.icu_rule_meaning.specs.declared.symbolic.SymbolicWeight.TheVariants as weights
@@ -13,7 +13,7 @@ use Rattle.icu_rule_meaning.specs.declared.weight_tree.stop.Stop.TheVariants.{En
 use Rattle.icu_rule_meaning.specs.weight_tree.inner.LinkStops.{stop_at, stop_weight, is_stop, stands, in_front, rooted_above}
 use Rattle.icu_rule_meaning.specs.weight_tree.inner.LinkedOrders.{walk, AreLinked, StandOnce, RootedAscend}
 use Rattle.icu_rule_meaning.specs.weight_tree.inner.TailoredSiblings.{first_weight}
-use Rattle.icu_rule_meaning.proofs.weight_tree.LinkStopLemmas.{same_stop, itself, same_from, other_way, weight_is, not_end, end_not, both_false, stands_first, stands_later, stands_rest, end_stands, less_test, most_test, above_met, above_passed}
+use Rattle.icu_rule_meaning.proofs.weight_tree.LinkStopLemmas.{same_stop, itself, same_from, other_way, weight_is, not_end, end_not, stands_first, stands_later, stands_rest, end_stands, less_test, most_test, above_met, above_passed}
 
 -- the walk along links comes by the weights that are linked
 pub walk_is : (next prev : Stop → Stop) (o : Stop) (xs : List SymbolicWeight) (n : ℕ) → AreLinked next prev o xs
@@ -123,8 +123,8 @@ module _ (next prev next' prev' : Stop → Stop) (p s : Stop) (w : SymbolicWeigh
   frame o [] l other fresh past =
       (next_kept o (not_behind o End l.0 past) other ∙ l.0, prev_kept End past (not_end w) ∙ l.1)
   frame o (v ∷ xs) l other fresh past =
-      let news = both_false (is_stop (stop_at w) (stop_at v)) (stands (stop_at w) xs) fresh in
-      let pasts = both_false (is_stop s (stop_at v)) (stands s xs) past in (
+      let news = or_parts (is_stop (stop_at w) (stop_at v)) (stands (stop_at w) xs) fresh in
+      let pasts = or_parts (is_stop s (stop_at v)) (stands s xs) past in (
         next_kept o (not_behind o (stop_at v) l.0 pasts.0) other ∙ l.0,
         prev_kept (stop_at v) pasts.0 news.0 ∙ l.1,
         frame (stop_at v) xs l.2 news.0 news.1 pasts.1,
@@ -139,7 +139,7 @@ module _ (next prev next' prev' : Stop → Stop) (p s : Stop) (w : SymbolicWeigh
       let last : is_stop s (stop_at w) ≡ false = subst (λ q. is_stop q (stop_at w) ≡ false) (sym end) (end_not w) in
       (next_put o first, prev_new last ∙ first, (next_new old ∙ end, prev_put End end))
   linked_in_front o (v ∷ xs) l apart other fresh there before =
-      let news = both_false (is_stop (stop_at w) (stop_at v)) (stands (stop_at w) xs) fresh in
+      let news = or_parts (is_stop (stop_at w) (stop_at v)) (stands (stop_at w) xs) fresh in
       elim (cases_Bool (is_stop s (stop_at v))) [
         | inl e ↦
             let is : s ≡ stop_at v = same_stop s (stop_at v) e in
@@ -176,7 +176,7 @@ head_is_other : (next prev : Stop → Stop) (v : SymbolicWeight) (xs : List Symb
     → stands (stop_at v) xs ≡ false → is_stop (next (stop_at v)) (stop_at v) ≡ false
 head_is_other next prev v [] l apart = rw l.0 (end_not v)
 head_is_other next prev v (u ∷ xs) l apart =
-    let parts = both_false (is_stop (stop_at v) (stop_at u)) (stands (stop_at v) xs) apart in
+    let parts = or_parts (is_stop (stop_at v) (stop_at u)) (stands (stop_at v) xs) apart in
     subst (λ q. is_stop q (stop_at v) ≡ false) (sym l.0) (other_way (stop_at v) (stop_at u) parts.0)
 
 -- directly behind a weight is before the one behind it
@@ -231,7 +231,7 @@ pub before_absent : (last : Option SymbolicWeight) (w : SymbolicWeight) (xs : Li
 unfolding before_from
 before_absent last w [] fresh = refl
 before_absent last w (v ∷ xs) fresh =
-    let parts = both_false (is_stop (stop_at w) (stop_at v)) (stands (stop_at w) xs) fresh in
+    let parts = or_parts (is_stop (stop_at w) (stop_at v)) (stands (stop_at w) xs) fresh in
     rw (sym (weight_is w v) ∙ parts.0) (before_absent (Some v) w xs parts.1)
 
 first_is : (next prev : Stop → Stop) (o : Stop) (xs : List SymbolicWeight) → AreLinked next prev o xs
@@ -254,7 +254,7 @@ pub behind_absent : (w : SymbolicWeight) (xs : List SymbolicWeight) → stands (
 unfolding put_behind
 behind_absent w [] fresh = refl
 behind_absent w (v ∷ xs) fresh =
-    let parts = both_false (is_stop (stop_at w) (stop_at v)) (stands (stop_at w) xs) fresh in
+    let parts = or_parts (is_stop (stop_at w) (stop_at v)) (stands (stop_at w) xs) fresh in
     rw (sym (weight_is w v) ∙ parts.0) (behind_absent w xs parts.1)
 
 -- the last weight

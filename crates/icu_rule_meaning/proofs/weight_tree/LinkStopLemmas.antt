@@ -1,6 +1,6 @@
 -- Places, and weights that are put before them.
-use Rattle.std.proofs.Common.{◌≡◌, ℕ, suc, ◌<◌, ◌≤◌, Bool, true, false, ◌||◌, nat_lt, ◌==◌, List, [], ◌∷◌, ◌++◌, length, inl, inr, ◌⊎◌, refl, ap, sym, ◌∙◌, subst, arith}
-use Rattle.std.proofs.lemmas.Bool.{both_ways, cases_Bool, eqb-true, eq-eqb, ne_eqb}
+use Rattle.std.proofs.Common.{◌≡◌, ℕ, suc, ◌<◌, ◌≤◌, Bool, true, false, ◌||◌, nat_lt, ◌==◌, List, [], ◌∷◌, ◌++◌, length, inl, inr, refl, ap, sym, ◌∙◌, subst, arith}
+use Rattle.std.proofs.lemmas.Bool.{both_ways, cases_Bool, eqb-true, eq-eqb, ne_eqb, or_parts, or_cases, or_right, ltb-true}
 use Rattle.std.proofs.lemmas.Bool.Decides.{nat_tests}
 use Rattle.icu_rule_meaning.specs.declared.symbolic.SymbolicWeight.{SymbolicWeight}
 use Rattle.icu_rule_meaning.specs.declared.symbolic.SymbolicWeight.TheVariants as weights
@@ -57,29 +57,17 @@ end_not (weights.Tailored k) = refl
 
 -- ---- what stands
 
-pub either_true : (a b : Bool) → (a || b) ≡ true → (a ≡ true) ⊎ (b ≡ true)
-either_true true b e = inl refl
-either_true false b e = inr e
-
-pub both_false : (a b : Bool) → (a || b) ≡ false → (a ≡ false) × (b ≡ false)
-both_false true b e = cc
-both_false false b e = (refl, e)
-
 or_swapped : (a b c : Bool) → (a || (b || c)) ≡ (b || (a || c))
 or_swapped true true c = refl
 or_swapped true false c = refl
 or_swapped false true c = refl
 or_swapped false false c = refl
 
-or_later : (a b : Bool) → b ≡ true → (a || b) ≡ true
-or_later true b e = refl
-or_later false b e = e
-
 pub stands_first : (s : Stop) (v : SymbolicWeight) (xs : List SymbolicWeight) → is_stop s (stop_at v) ≡ true → stands s (v ∷ xs) ≡ true
 stands_first s v xs e = rw e refl
 
 pub stands_later : (s : Stop) (v : SymbolicWeight) (xs : List SymbolicWeight) → stands s xs ≡ true → stands s (v ∷ xs) ≡ true
-stands_later s v xs e = or_later (is_stop s (stop_at v)) (stands s xs) e
+stands_later s v xs e = or_right (is_stop s (stop_at v)) (stands s xs) e
 
 -- what stands among weights and isn't the first one stands among the others
 pub stands_rest : (s : Stop) (v : SymbolicWeight) (xs : List SymbolicWeight) → is_stop s (stop_at v) ≡ false
@@ -108,7 +96,7 @@ apart_in_front s w [] a fresh = (not_end w, tt)
 apart_in_front s w (v ∷ xs) a fresh = elim (cases_Bool (is_stop s (stop_at v))) [
   | inl e ↦ rw e (fresh, a)
   | inr e ↦
-      let parts = both_false (is_stop (stop_at w) (stop_at v)) (stands (stop_at w) xs) fresh in
+      let parts = or_parts (is_stop (stop_at w) (stop_at v)) (stands (stop_at w) xs) fresh in
       let other = other_way (stop_at w) (stop_at v) parts.0 in
       rw e (stands_in_front (stop_at v) s w xs ∙ (ap (λ b. b || stands (stop_at v) xs) other ∙ a.0), apart_in_front s w xs a.1 parts.1)
 ]
@@ -135,9 +123,6 @@ in_front_of_end w (v ∷ xs) = rw (end_not v) (ap (λ ys. v ∷ ys) (in_front_of
 
 -- ---- weights of the root
 
-less_from : (n u : ℕ) → nat_lt n u ≡ true → n < u
-less_from n u e = grind (arith, nat_tests)
-
 most_from : (n u : ℕ) → nat_lt n u ≡ false → u ≤ n
 most_from n u e = grind (arith, nat_tests)
 
@@ -159,7 +144,7 @@ above_is_greater n v [] most = refl
 above_is_greater n v (weights.Tailored k ∷ xs) most = above_is_greater n v xs most
 above_is_greater n v (weights.Rooted u ∷ xs) most = elim (cases_Bool (nat_lt n u)) [
   | inl e ↦
-      let less : n < u = less_from n u e in
+      let less : n < u = ltb-true n u e in
       rw e (ne_eqb v u (λ same. omega arith))
   | inr e ↦ rw e (above_is_greater n v xs most)
 ]
@@ -187,7 +172,7 @@ rooted_put n [] fresh = refl
 rooted_put n (weights.Tailored k ∷ xs) fresh =
     rw (above_is_rooted n k xs) (ap (λ ys. weights.Tailored k ∷ ys) (rooted_put n xs fresh))
 rooted_put n (weights.Rooted v ∷ xs) fresh =
-    let parts = both_false (v == n) (stands (Rooted n) xs) fresh in
+    let parts = or_parts (v == n) (stands (Rooted n) xs) fresh in
     let other : (n == v) ≡ false = other_way (Rooted n) (Rooted v) parts.0 in
     elim (cases_Bool (nat_lt n v)) [
       | inl e ↦ rw (other, e, itself (Rooted v)) refl
@@ -216,9 +201,9 @@ pub ascends_rooted : (n : ℕ) (xs : List SymbolicWeight) → stands (Rooted n) 
 ascends_rooted n [] fresh s = (λ u a. absurd (both_ways false refl a), tt)
 ascends_rooted n (weights.Tailored k ∷ xs) fresh s = rw (above_is_rooted n k xs) (ascends_rooted n xs fresh s)
 ascends_rooted n (weights.Rooted v ∷ xs) fresh s =
-    let parts = both_false (v == n) (stands (Rooted n) xs) fresh in
+    let parts = or_parts (v == n) (stands (Rooted n) xs) fresh in
     elim (cases_Bool (nat_lt n v)) [
-      | inl e ↦ rw (e, itself (Rooted v)) (λ u a. above_new (less_from n v e) u a, s)
+      | inl e ↦ rw (e, itself (Rooted v)) (λ u a. above_new (ltb-true n v e) u a, s)
       | inr e ↦
           subst RootedAscend (sym (passed_above n v xs e))
           (λ u a. above_old (less v (most_from n v e) parts.0) u a, ascends_rooted n xs parts.1 s.1)
@@ -228,14 +213,14 @@ ascends_rooted n (weights.Rooted v ∷ xs) fresh s =
     less v most other = grind (arith, nat_tests)
 
     above_new : n < v → (u : ℕ) → stands (Rooted u) (weights.Rooted v ∷ xs) ≡ true → n < u
-    above_new more u a = elim (either_true (v == u) (stands (Rooted u) xs) a) [
+    above_new more u a = elim (or_cases (v == u) (stands (Rooted u) xs) a) [
       | inl same ↦ (let is = eqb-true v u same in omega arith)
       | inr later ↦ (let greater = s.0 u later in omega arith)
     ]
 
     above_old : v < n → (u : ℕ) → stands (Rooted u) (in_front (rooted_above n xs) (weights.Rooted n) xs) ≡ true → v < u
     above_old more u a =
-        elim (either_true (n == u) (stands (Rooted u) xs) (sym (stands_in_front (Rooted u) (rooted_above n xs) (weights.Rooted n) xs) ∙ a)) [
+        elim (or_cases (n == u) (stands (Rooted u) xs) (sym (stands_in_front (Rooted u) (rooted_above n xs) (weights.Rooted n) xs) ∙ a)) [
           | inl same ↦ (let is = eqb-true n u same in omega arith)
           | inr later ↦ s.0 u later
         ]
@@ -264,8 +249,8 @@ above_found n v [] s there more least = cc
 above_found n v (weights.Tailored k ∷ xs) s there more least = above_found n v xs s there more least
 above_found n v (weights.Rooted u ∷ xs) s there more least = elim (cases_Bool (nat_lt n u)) [
   | inl e ↦
-      let most : v ≤ u = least u (stands_first (Rooted u) (weights.Rooted u) xs (itself (Rooted u))) (less_from n u e) in
-      rw e (elim (either_true (u == v) (stands (Rooted v) xs) there) [
+      let most : v ≤ u = least u (stands_first (Rooted u) (weights.Rooted u) xs (itself (Rooted u))) (ltb-true n u e) in
+      rw e (elim (or_cases (u == v) (stands (Rooted v) xs) there) [
         | inl same ↦ ap Rooted (sym (eqb-true u v same))
         | inr later ↦ (let greater = s.0 v later in absurd (omega arith))
       ])
@@ -280,7 +265,7 @@ pub above_none : (n : ℕ) (xs : List SymbolicWeight) → ((u : ℕ) → stands 
 above_none n [] none = refl
 above_none n (weights.Tailored k ∷ xs) none = above_none n xs none
 above_none n (weights.Rooted u ∷ xs) none = elim (cases_Bool (nat_lt n u)) [
-  | inl e ↦ absurd (none u (stands_first (Rooted u) (weights.Rooted u) xs (itself (Rooted u))) (less_from n u e))
+  | inl e ↦ absurd (none u (stands_first (Rooted u) (weights.Rooted u) xs (itself (Rooted u))) (ltb-true n u e))
   | inr e ↦ rw e (above_none n xs (λ t a. none t (stands_later (Rooted t) (weights.Rooted u) xs a)))
 ]
 

@@ -1,6 +1,7 @@
 -- Walks along links.
 use Rattle.std.proofs.Common.{◌≡◌, ℕ, zero, suc, ◌-◌, ◌<◌, ◌≤◌, true, false, List, [], ◌∷◌, ◌++◌, Option, Some, None, refl, ap, sym, ◌∙◌, arith, append_assoc}
 use Rattle.std.proofs.lemmas.List.{append-nil}
+use Rattle.icu_rule_meaning.proofs.weight_tree.CountingLemmas.{sub_one}
 use Rattle.icu_rule_meaning.specs.declared.symbolic.SymbolicWeight.{SymbolicWeight}
 use Rattle.icu_rule_meaning.specs.declared.symbolic.SymbolicWeight.TheVariants as weights
 use Rattle.icu_rule_meaning.specs.SymbolicElements.{has_tailored_weight, is_same_weight}
@@ -19,9 +20,6 @@ inside : {v w : SymbolicWeight} → Some v ≡ Some w → v ≡ w
 unfolding value_or
 inside {v} {w} e = ap (value_or v) e
 
-one_less : (n : ℕ) → suc n - 1 ≡ n
-one_less n = omega arith
-
 walk_on : (n : ℕ) (next : Stop → Stop) (s : Stop) (w : SymbolicWeight) → 0 < n → stop_weight s ≡ Some w
     → walk n next s ≡ w ∷ walk (n - 1) next (next s)
 walk_on zero next s w some e = absurd (omega arith)
@@ -29,11 +27,11 @@ walk_on (suc n) next End w some e = cc
 walk_on (suc n) next (Rooted v) w some e = step e
   where
     step : Some (weights.Rooted v) ≡ Some w → weights.Rooted v ∷ walk n next (next (Rooted v)) ≡ w ∷ walk (suc n - 1) next (next (Rooted v))
-    step f = ap (λ m. weights.Rooted v ∷ walk m next (next (Rooted v))) (sym (one_less n)) ∙ ap (λ u. u ∷ walk (suc n - 1) next (next (Rooted v))) (inside f)
+    step f = ap (λ m. weights.Rooted v ∷ walk m next (next (Rooted v))) (sym (sub_one n)) ∙ ap (λ u. u ∷ walk (suc n - 1) next (next (Rooted v))) (inside f)
 walk_on (suc n) next (Tailored k) w some e = step e
   where
     step : Some (weights.Tailored k) ≡ Some w → weights.Tailored k ∷ walk n next (next (Tailored k)) ≡ w ∷ walk (suc n - 1) next (next (Tailored k))
-    step f = ap (λ m. weights.Tailored k ∷ walk m next (next (Tailored k))) (sym (one_less n)) ∙ ap (λ u. u ∷ walk (suc n - 1) next (next (Tailored k))) (inside f)
+    step f = ap (λ m. weights.Tailored k ∷ walk m next (next (Tailored k))) (sym (sub_one n)) ∙ ap (λ u. u ∷ walk (suc n - 1) next (next (Tailored k))) (inside f)
 
 walk_ended : (n : ℕ) (next : Stop → Stop) (s : Stop) → stop_weight s ≡ None → walk n next s ≡ []
 walk_ended zero next s e = refl

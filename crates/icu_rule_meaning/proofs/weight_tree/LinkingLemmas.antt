@@ -1,6 +1,6 @@
 -- Links in a map.
 use Rattle.std.proofs.Common.{◌≡◌, ℕ, suc, ◌+◌, ◌<◌, ◌≤◌, ◌^◌, Bool, true, false, ◌||◌, List, [], ◌∷◌, length, if◌then◌else◌, inl, inr, take_while, unwrap_or, Option, Some, None, refl, ap, sym, ◌∙◌, subst, arith}
-use Rattle.std.proofs.lemmas.Bool.{cases_Bool, both_ways}
+use Rattle.std.proofs.lemmas.Bool.{cases_Bool, both_ways, or_parts, or_cases}
 use Rattle.std.specs.Cmp.{unsigned_tied}
 use Rattle.std.specs.Ordering.{is_gt, nat_cmp}
 use Rattle.std.specs.declared.cmp.Ordering.{Ordering}
@@ -26,7 +26,7 @@ use Rattle.icu_rule_meaning.specs.declared.weight_tree.stop.Stop.TheVariants.{En
 use Rattle.icu_rule_meaning.specs.declared.weight_tree.links.Links.{Links}
 use Rattle.icu_rule_meaning.specs.weight_tree.inner.LinkStops.{stop_at, stop_weight, standing_weight, rooted_or_end, is_stop, stands, in_front, rooted_above}
 use Rattle.icu_rule_meaning.specs.weight_tree.inner.LinkedOrders.{stop_order, LinkList, links_at, next_or_end, prev_or_end, next_in, prev_in, is_linked, linked_weights, AreLinked, StandOnce, RootedAscend, IsChain, SetsNext, SetsPrev, LinksBetween}
-use Rattle.icu_rule_meaning.proofs.weight_tree.LinkStopLemmas.{same_stop, same_from, other_way, not_end, stands_in_front, apart_in_front, length_in_front, both_false, either_true, weight_is, above_found, above_none, ascends_behind_all}
+use Rattle.icu_rule_meaning.proofs.weight_tree.LinkStopLemmas.{same_stop, same_from, other_way, not_end, stands_in_front, apart_in_front, length_in_front, weight_is, above_found, above_none, ascends_behind_all}
 use Rattle.icu_rule_meaning.proofs.weight_tree.LinkLemmas.{walk_is, next_of_prev, prev_of_next_at, next_stands, prev_stands, linked_in_front, behind_in_front, before_is, before_absent, behind_is, behind_absent, last_is, last_behind_is}
 
 -- ---- places in a map
@@ -49,7 +49,7 @@ at_is (Tailored k) End = refl
 at_is (Tailored k) (Rooted w) = refl
 at_is (Tailored k) (Tailored j) = unsigned_tied k j ∙ both_same (Tailored j) (Tailored k)
 
-if_map : {A B : Type 0} (f : A → B) (b : Bool) (x y : A) → f (if b then x else y) ≡ (if b then f x else f y)
+pub if_map : {A B : Type 0} (f : A → B) (b : Bool) (x y : A) → f (if b then x else y) ≡ (if b then f x else f y)
 if_map f true x y = refl
 if_map f false x y = refl
 
@@ -138,7 +138,7 @@ weight_back (Tailored k) e = refl
 
 new_is_weight : (new : Stop) (xs : List SymbolicWeight) → stands new xs ≡ false → is_stop new End ≡ false
 new_is_weight new [] e = e
-new_is_weight new (v ∷ xs) e = new_is_weight new xs (both_false (is_stop new (stop_at v)) (stands new xs) e).1
+new_is_weight new (v ∷ xs) e = new_is_weight new xs (or_parts (is_stop new (stop_at v)) (stands new xs) e).1
 
 -- one more weight directly before a place
 pub joined_chain : (es fs : LinkList) (new s : Stop) → IsChain es → stands s (linked_weights es) ≡ true
@@ -162,7 +162,7 @@ joined_chain es fs new s c there fresh ascends few j =
     λ q. j.stands q ∙ (ap (λ b. is_stop q new || b) (c.known q) ∙ (ap (λ t. is_stop q t || stands q xs) (sym is)
     ∙ sym (stands_in_front q s w xs))) in
     let small : (v : SymbolicWeight) → stands (stop_at v) (in_front s w xs) ≡ true → number_in v < 2 ^ 32 =
-    λ v a. elim (either_true (is_stop (stop_at v) (stop_at w)) (stands (stop_at v) xs) (sym (stands_in_front (stop_at v) s w xs) ∙ a)) [
+    λ v a. elim (or_cases (is_stop (stop_at v) (stop_at w)) (stands (stop_at v) xs) (sym (stands_in_front (stop_at v) s w xs) ∙ a)) [
       | inl same ↦ subst (λ u. number_in u < 2 ^ 32) (same_weight_is w v (sym (weight_is v w) ∙ same)) few
       | inr old ↦ c.small v old
     ] in

@@ -2,6 +2,7 @@
 use Rattle.std.proofs.Common.{◌≡◌, ℕ, zero, suc, ◌-◌, ◌<◌, Bool, true, false, not, cond, List, [], ◌∷◌, length, take_while, drop, get_or, unwrap_or, inl, inr, refl, ap, sym, ◌∙◌, arith}
 use Rattle.std.proofs.lemmas.Bool.{cases_Bool, lt-ltb, ne_eqb}
 use Rattle.std.proofs.lemmas.List.Sums.{take_while-cons}
+use Rattle.icu_rule_meaning.proofs.weight_tree.CountingLemmas.{sub_one}
 use Rattle.icu_rule_meaning.specs.declared.symbolic.SymbolicWeight.{SymbolicWeight}
 use Rattle.icu_rule_meaning.specs.declared.symbolic.SymbolicWeight.TheVariants.{Rooted, Tailored}
 use Rattle.icu_rule_meaning.specs.SymbolicElements.{has_tailored_weight, is_same_weight, common_below}
@@ -56,9 +57,6 @@ first_met common w xs tailored = elim (cases_Bool (is_same_weight w common)) [
   | inl e ↦ common_met common w xs e
   | inr e ↦ rw (front common w xs false e, tailored) refl
 ]
-
-sub_one : (n : ℕ) → suc n - 1 ≡ n
-sub_one n = omega arith
 
 pub last_weight_is : (found : SymbolicWeight) (xs : List SymbolicWeight) (d : SymbolicWeight) → 0 < length xs
     → get_or xs (length xs - 1) d ≡ last_weight found xs

@@ -3,6 +3,7 @@ use Rattle.std.proofs.Common.{◌≡◌, ℕ, zero, suc, ◌+◌, ◌<◌, ◌�
 use Rattle.std.proofs.lemmas.Bool.{both_ways, cases_Bool, cases_order, eqb-true, eq-eqb, ne_eqb, lt-ltb, le-ltb, le-leb, lt-leb}
 use Rattle.std.proofs.lemmas.List.Recursion.{is_position_or_len}
 use Rattle.std.proofs.lemmas.List.Sums.{position_or_len_is}
+use Rattle.icu_rule_meaning.proofs.weight_tree.LinkingLemmas.{if_map}
 use Rattle.std.specs.List.{insert}
 use Rattle.icu_rule_meaning.specs.declared.symbolic.SymbolicWeight.{SymbolicWeight}
 use Rattle.icu_rule_meaning.specs.declared.symbolic.SymbolicWeight.TheVariants.{Rooted, Tailored}
@@ -77,10 +78,6 @@ first_at_place w (v ∷ xs) d small e = elim (cases_Bool (ends_search w v)) [
 
 -- ---- a weight of the root
 
-if_both : {A B : Type 0} (f : A → B) (b : Bool) (x y : A) → f (if b then x else y) ≡ (if b then f x else f y)
-if_both f true x y = refl
-if_both f false x y = refl
-
 -- siblings with a weight of the root have it at its place
 pub with_rooted_is : (n : ℕ) (xs : List SymbolicWeight) → with_rooted n xs
     ≡ (if is_same_weight (get_or xs (place_among (Rooted n) xs) (Tailored 0)) (Rooted n) then xs
@@ -89,7 +86,7 @@ unfolding with_rooted
 with_rooted_is n [] = refl
 with_rooted_is n (Tailored k ∷ xs) =
     ap (λ ys. Tailored k ∷ ys) (with_rooted_is n xs)
-    ∙ if_both (λ ys. Tailored k ∷ ys)
+    ∙ if_map (λ ys. Tailored k ∷ ys)
     (is_same_weight (get_or xs (place_among (Rooted n) xs) (Tailored 0)) (Rooted n)) xs
     (insert xs (place_among (Rooted n) xs) (Rooted n))
 with_rooted_is n (Rooted v ∷ xs) = elim (cases_order n v) [
@@ -98,7 +95,7 @@ with_rooted_is n (Rooted v ∷ xs) = elim (cases_order n v) [
   | inr (inr more) ↦
       rw (ne_eqb n v (λ e. omega arith), le-ltb n v (omega arith), lt-leb n v more)
       (ap (λ ys. Rooted v ∷ ys) (with_rooted_is n xs)
-      ∙ if_both (λ ys. Rooted v ∷ ys)
+      ∙ if_map (λ ys. Rooted v ∷ ys)
       (is_same_weight (get_or xs (place_among (Rooted n) xs) (Tailored 0)) (Rooted n)) xs
       (insert xs (place_among (Rooted n) xs) (Rooted n)))
 ]

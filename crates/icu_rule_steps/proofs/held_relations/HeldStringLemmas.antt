@@ -1,12 +1,9 @@
 -- What is held of a relation's strings.
-use Rattle.std.proofs.Common.{◌≡◌, ℕ, ◌+◌, Bool, true, false, ◌&&◌, List, Option, Some, None, refl, sym, ap, ap₂, subst, ◌∙◌}
+use Rattle.std.proofs.Common.{◌≡◌, ℕ, ◌+◌, Bool, true, false, ◌&&◌, List, Option, Some, None, sym, ap, ap₂, subst, ◌∙◌}
+use Rattle.std.proofs.lemmas.Bool.{and_parts}
 use Rattle.icu_rule_parser.specs.declared.rules.PlacedStatement.{PlacedStatement}
 use Rattle.icu_rule_meaning.specs.TailoredRoots.{Root}
 use Rattle.icu_rule_steps.specs.held_relations.HeldRelations.{IsHeld, RelatedStrings, elements_by_all, elements_of_first, related_at}
-
-both_true : (a b : Bool) → (a && b) ≡ true → (a ≡ true) × (b ≡ true)
-both_true true b h = (refl, h)
-both_true false b h = cc
 
 abbrev strings_or : RelatedStrings → Option RelatedStrings → RelatedStrings
 strings_or d None = d
@@ -21,7 +18,7 @@ pub held_is : (root : Root) (placed : List PlacedStatement) (index : ℕ) (s : R
     × (elements_by_all root placed s.string ≡ elements_of_first root placed (index + 1) → b ≡ true))
     → ((a && b) ≡ true → IsHeld root placed index) × (IsHeld root placed index → (a && b) ≡ true)
 held_is root placed index s related a b one two = (
-  λ h. let parts = both_true a b h in
+  λ h. let parts = and_parts a b h in
       record { strings = s; related = related; other = one.0 parts.0; string = two.0 parts.1 },
   λ held.
       let same : held.strings ≡ s = ap (strings_or s) (sym held.related ∙ related) in

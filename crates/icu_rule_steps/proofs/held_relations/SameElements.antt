@@ -1,6 +1,6 @@
 -- Elements are compared weight by weight.
-use Rattle.std.proofs.Common.{◌≡◌, Bool, true, false, ◌&&◌, List, refl, ap, ap₂, subst, ◌∙◌}
-use Rattle.std.proofs.lemmas.Bool.{eq-eqb, eqb-true}
+use Rattle.std.proofs.Common.{◌≡◌, Bool, true, ◌&&◌, List, refl, ap, ap₂, subst, ◌∙◌}
+use Rattle.std.proofs.lemmas.Bool.{eq-eqb, eqb-true, and_parts}
 use lib.Pointwise.{pointwise, pointwise_decides}
 use Rattle.icu_rule_meaning.specs.declared.symbolic.SymbolicElement.{SymbolicElement}
 use Rattle.icu_rule_meaning.specs.declared.symbolic.SymbolicWeight.{SymbolicWeight}
@@ -13,10 +13,6 @@ same_element = (element_eq.eq-value).it
 
 abbrev same_weight : SymbolicWeight → SymbolicWeight → Bool
 same_weight = (weight_eq.eq-value).it
-
-both_true : (a b : Bool) → (a && b) ≡ true → (a ≡ true) × (b ≡ true)
-both_true true b h = (refl, h)
-both_true false b h = cc
 
 own_weight : (w : SymbolicWeight) → same_weight w w ≡ true
 own_weight (Rooted w) = eq-eqb w w refl
@@ -38,8 +34,8 @@ own_element x =
 
 tied_elements : (x y : SymbolicElement) → same_element x y ≡ true → x ≡ y
 tied_elements x y h =
-    let parts = both_true (pointwise same_weight x.weights y.weights) _ h in
-    let rest = both_true _ _ parts.1 in
+    let parts = and_parts (pointwise same_weight x.weights y.weights) _ h in
+    let rest = and_parts _ _ parts.1 in
     ap (λ (ws : List SymbolicWeight). let z : SymbolicElement = record { weights = ws; strength = x.strength; case_bits = x.case_bits } in z)
     ((pointwise_decides weight_decides x.weights y.weights).0 parts.0)
     ∙ ap (λ s. let z : SymbolicElement = record { weights = y.weights; strength = s; case_bits = x.case_bits } in z) (eqb-true x.strength y.strength rest.0)

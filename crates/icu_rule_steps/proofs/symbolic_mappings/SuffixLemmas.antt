@@ -1,15 +1,7 @@
 -- A suffix with one more mark.
-use Rattle.std.proofs.Common.{◌≡◌, ℕ, Bool, true, false, ◌&&◌, ◌==◌, List, [], ◌∷◌, ◌++◌, bytes_eq, refl, sym, ap, ◌∙◌}
-
-never : (a : Bool) → (a && false) ≡ false
-never true = refl
-never false = refl
-
-in_turn : (a b c : Bool) → (a && (b && c)) ≡ (b && (a && c))
-in_turn true true c = refl
-in_turn true false c = refl
-in_turn false true c = refl
-in_turn false false c = refl
+use Rattle.std.proofs.Common.{◌≡◌, ℕ, false, ◌&&◌, ◌==◌, List, [], ◌∷◌, ◌++◌, bytes_eq, refl, sym, ap, ◌∙◌}
+use Rattle.std.proofs.Math.Bool.{and-false}
+use Rattle.icu_element_matches.proofs.steady_matches.BegunLemmas.{and_assoc}
 
 none_equal : (ys : List ℕ) (b : ℕ) → bytes_eq [] (ys ++ b ∷ []) ≡ false
 none_equal [] b = refl
@@ -22,9 +14,9 @@ all_equal (x ∷ xs) a = refl
 -- lists with one more member each are equal where the members and the lists are
 pub equal_pushed : (xs ys : List ℕ) (a b : ℕ) → bytes_eq (xs ++ a ∷ []) (ys ++ b ∷ []) ≡ ((a == b) && bytes_eq xs ys)
 equal_pushed [] [] a b = refl
-equal_pushed [] (y ∷ ys) a b = ap (λ e. (a == y) && e) (none_equal ys b) ∙ never (a == y) ∙ sym (never (a == b))
-equal_pushed (x ∷ xs) [] a b = ap (λ e. (x == b) && e) (all_equal xs a) ∙ never (x == b) ∙ sym (never (a == b))
-equal_pushed (x ∷ xs) (y ∷ ys) a b = ap (λ e. (x == y) && e) (equal_pushed xs ys a b) ∙ in_turn (x == y) (a == b) (bytes_eq xs ys)
+equal_pushed [] (y ∷ ys) a b = ap (λ e. (a == y) && e) (none_equal ys b) ∙ and-false (a == y) ∙ sym (and-false (a == b))
+equal_pushed (x ∷ xs) [] a b = ap (λ e. (x == b) && e) (all_equal xs a) ∙ and-false (x == b) ∙ sym (and-false (a == b))
+equal_pushed (x ∷ xs) (y ∷ ys) a b = ap (λ e. (x == y) && e) (equal_pushed xs ys a b) ∙ and_assoc (x == y) (a == b) (bytes_eq xs ys)
 
 -- a list that ends so
 pub equal_behind : (longer front suffix : List ℕ) (last mark : ℕ) → longer ≡ front ++ last ∷ [] → bytes_eq longer (suffix ++ mark ∷ []) ≡ ((last == mark) && bytes_eq front suffix)

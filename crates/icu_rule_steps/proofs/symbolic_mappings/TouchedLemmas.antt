@@ -10,6 +10,7 @@ use Rattle.std.specs.BTreeMap.{get, is_at}
 use Rattle.std.proofs.lemmas.Bool.{true≢false}
 use Rattle.std.proofs.lemmas.Map.Made.{is_some-lookup}
 use Rattle.std.proofs.lemmas.List.Folds.{list_any-append}
+use Rattle.std.proofs.Math.Bool.{or-false}
 use Rattle.icu_rule_parser.specs.declared.statement.CharacterRange.{CharacterRange}
 use Rattle.icu_rule_steps.specs.declared.symbolic_mappings.character_mapping.TouchedCharacter.{TouchedCharacter}
 use Rattle.icu_rule_steps.specs.declared.symbolic_mappings.kept_mappings.Mappings.{Mappings}
@@ -17,10 +18,6 @@ use Rattle.icu_rule_meaning.specs.TailoredRoots.{RootMapping}
 use Rattle.icu_rule_steps.specs.symbolic_mappings.KeptMappings.{mappings_in, untouched_mappings}
 use Rattle.icu_rule_steps.specs.symbolic_mappings.TouchedCharacters.{have_touched, touched_in}
 use Rattle.icu_rule_steps.proofs.symbolic_mappings.KeptMappingLemmas.{Own, IsSuppressed, own_absent, same_key, turned}
-
-pub or_false : (b : Bool) → (b || false) ≡ b
-or_false true = refl
-or_false false = refl
 
 put_there : (b : Bool) (own : Own) (o : Option Own) → is_some (cond b (Some own) (cond b None o)) ≡ (is_some o || b)
 put_there true own None = refl

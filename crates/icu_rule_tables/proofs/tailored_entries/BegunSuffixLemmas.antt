@@ -3,8 +3,9 @@ use Rattle.std.proofs.Common.{◌≡◌, ◌⊎◌, inl, inr, ℕ, Bool, true, f
 use Rattle.std.specs.Prelude.{◌||◌, not, nat_eq, filter, bytes_eq}
 use Rattle.std.specs.List.{list_any, starts_with}
 use Rattle.std.proofs.lemmas.Slice.Eq.{bytes_eq-Decides}
+use Rattle.std.proofs.Math.Bool.{or-true}
 use Rattle.icu_table_mappings.proofs.SurroundingLemmas.{same_from_true}
-use Rattle.icu_table_mappings.proofs.NearestLemmas.{begins_with_part, is_beginning, or_true}
+use Rattle.icu_table_mappings.proofs.NearestLemmas.{begins_with_part, is_beginning}
 use Rattle.icu_rule_meaning.specs.TailoredMappings.{SymbolicMapping, begin_suffix, mapping_with}
 
 -- one of the mappings has a suffix that begins the characters
@@ -68,7 +69,7 @@ with_begins (x ∷ own) after k m h = here (found_here (bytes_eq x.suffix (take 
   here (inl (same, is)) more =
       ap (λ ks. starts_with nat_eq after ks || begin_chars own after) (same_from_true x.suffix (take k after) same)
       ∙ ap (λ b. b || begin_chars own after) (begins_with_part k after)
-  here (inr (other, later)) more = ap (λ b. starts_with nat_eq after x.suffix || b) (more later) ∙ or_true (starts_with nat_eq after x.suffix)
+  here (inr (other, later)) more = ap (λ b. starts_with nat_eq after x.suffix || b) (more later) ∙ or-true (starts_with nat_eq after x.suffix)
 
 -- and one that begins them is the first of them
 pub begun_with : (own : List SymbolicMapping) (after : List ℕ) → begin_chars own after ≡ true → (k : ℕ) × (m : SymbolicMapping) × (mapping_with own (take k after) ≡ Some m)
@@ -98,7 +99,7 @@ plain_begins (x ∷ own) after h = here (bytes_eq x.suffix []) refl (λ g. plain
       → (b || list_any (λ (m : SymbolicMapping). bytes_eq m.suffix []) own) ≡ true
       → (starts_with nat_eq after x.suffix || begin_chars own after) ≡ true
   here true is more h = ap (λ ks. starts_with nat_eq after ks || begin_chars own after) (same_from_true x.suffix [] is)
-  here false is more h = ap (λ b. starts_with nat_eq after x.suffix || b) (more h) ∙ or_true (starts_with nat_eq after x.suffix)
+  here false is more h = ap (λ b. starts_with nat_eq after x.suffix || b) (more h) ∙ or-true (starts_with nat_eq after x.suffix)
 
 -- ---- the mappings of shorter prefixes
 

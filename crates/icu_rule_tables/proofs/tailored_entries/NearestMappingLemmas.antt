@@ -1,9 +1,10 @@
 -- The entries of mappings behind a prefix are those of the mappings that count there.
 use Rattle.std.proofs.Common.{◌≡◌, ℕ, zero, suc, ◌+◌, ◌≤◌, Bool, true, false, List, [], ◌∷◌, ◌++◌, length, take, Option, Some, None, refl, sym, ap, subst, ◌∙◌, if◌then◌else◌, arith, inl, inr}
-use Rattle.std.specs.Prelude.{◌&&◌, ◌||◌, is_some, not, filter, bytes_eq, option_and_then}
+use Rattle.std.specs.Prelude.{◌||◌, is_some, not, filter, bytes_eq, option_and_then}
 use Rattle.std.specs.List.{list_any}
 use Rattle.std.specs.Option.{option_or}
 use Rattle.std.proofs.lemmas.List.{take_all}
+use Rattle.std.proofs.lemmas.Bool.{and_parts}
 use Rattle.icu_table_data.specs.Data.{Data}
 use Rattle.icu_table_mappings.specs.Given.{GivesJust}
 use Rattle.icu_table_mappings.specs.GrownLists.{HasMoreLists}
@@ -198,10 +199,6 @@ module _ (t : TailoringNumbers) (d : Data) (c : ℕ) where
 
 -- ---- a character without contexts
 
-both_true : (a b : Bool) → (a && b) ≡ true → (a ≡ true) × (b ≡ true)
-both_true true b h = (refl, h)
-both_true false b h = cc
-
 lone_tier : (m : SymbolicMapping) → bytes_eq m.prefix [] ≡ true → bytes_eq m.suffix [] ≡ true → mappings_behind (m ∷ []) (beginnings []) ≡ m ∷ []
 lone_tier m prefix suffix =
     first_tier (m ∷ [])
@@ -231,7 +228,7 @@ pub lone_given : (t : TailoringNumbers) (d : Data) (c : ℕ) (m : SymbolicMappin
 lone_given t d c m e mappings lone alone is =
     subst (λ (ms : List SymbolicMapping). GivesMappings t d c ms e) (sym lone) given where
       sides : (bytes_eq m.prefix [] ≡ true) × (bytes_eq m.suffix [] ≡ true)
-      sides = both_true (bytes_eq m.prefix []) (bytes_eq m.suffix []) alone
+      sides = and_parts (bytes_eq m.prefix []) (bytes_eq m.suffix []) alone
 
       no_prefix_is : m.prefix ≡ []
       no_prefix_is = same_from_true m.prefix [] sides.0

@@ -6,6 +6,8 @@ use Rattle.std.proofs.lemmas.Bool.{cases_Bool, true≢false}
 use Rattle.std.proofs.lemmas.List.Folds.{list_any-append}
 use Rattle.std.proofs.lemmas.Bool.Decides.{nat_tests}
 use Rattle.std.proofs.lemmas.List.{append-nil}
+use Rattle.std.proofs.Math.Bool.{and-false, and-true, or-false}
+use Rattle.icu_rule_steps.proofs.TouchedRuleLemmas.{or_assoc}
 use Rattle.icu_table_entries.specs.Entries.{fallback_entry}
 use Rattle.icu_table_data.specs.Data.{Data}
 use Rattle.icu_table_data.specs.CodePointTables.{code_point_count}
@@ -52,14 +54,6 @@ same_lists d new says = record {
   entries = says.entries ∙ sym (append-nil d.entries);
   contexts = says.contexts ∙ sym (append-nil d.contexts);
 }
-
-pub or_none : (b : Bool) → (b || false) ≡ b
-or_none true = refl
-or_none false = refl
-
-or_assoc : (a b c : Bool) → ((a || b) || c) ≡ (a || (b || c))
-or_assoc true b c = refl
-or_assoc false b c = refl
 
 given_now : (given more : Bool) (P Q : Type 0) → more ≡ true → P → MatchBool (given || more) P Q
 given_now true more P Q e p = p
@@ -180,7 +174,7 @@ pub next_range : (ranges more : List CharacterRange) (range : CharacterRange) (f
     → end ≡ range.last + 1 → ((have_character ranges x && l) || ((nat_le first x && nat_lt x end) && l)) ≡ (have_character more x && l)
 next_range ranges more range first end x l is begins ends =
     both_lose (have_character ranges x) (nat_le first x && nat_lt x end) l
-    ∙ ap (λ b. (have_character ranges x || b) && l) (ap (λ n. nat_le n x && nat_lt x end) begins ∙ ap (λ n. nat_le range.first x && nat_lt x n) ends ∙ range_codes range.first range.last x ∙ sym (or_none (is_in_range range x)))
+    ∙ ap (λ b. (have_character ranges x || b) && l) (ap (λ n. nat_le n x && nat_lt x end) begins ∙ ap (λ n. nat_le range.first x && nat_lt x n) ends ∙ range_codes range.first range.last x ∙ sym (or-false (is_in_range range x)))
     ∙ ap (λ b. b && l) (sym (list_any-append (λ (r : CharacterRange). is_in_range r x) ranges (range ∷ [])))
     ∙ ap (λ (rs : List CharacterRange). have_character rs x && l) (sym is)
 
@@ -188,19 +182,11 @@ next_range ranges more range first end x l is begins ends =
 pub next_listed : (listed more : List TouchedCharacter) (one : TouchedCharacter) (x : ℕ) → more ≡ listed ++ one ∷ []
     → (have_touched listed x || (one.character == x)) ≡ have_touched more x
 next_listed listed more one x is =
-    ap (λ b. have_touched listed x || b) (sym (or_none (one.character == x)))
+    ap (λ b. have_touched listed x || b) (sym (or-false (one.character == x)))
     ∙ sym (list_any-append (λ (s : TouchedCharacter). s.character == x) listed (one ∷ []))
     ∙ ap (λ (ts : List TouchedCharacter). have_touched ts x) (sym is)
 
 -- ---- the character of a code
-
-and_false : (b : Bool) → (b && false) ≡ false
-and_false true = refl
-and_false false = refl
-
-and_true : (b : Bool) → (b && true) ≡ b
-and_true true = refl
-and_true false = refl
 
 is_same : (code x : ℕ) → (code == x) ≡ true → code ≡ x
 is_same code x h = grind (arith, nat_tests)
@@ -219,18 +205,18 @@ module _ (may : ℕ → Bool) (code x : ℕ) where
   pub no_character : x < code_point_count → (code < code_point_count → is_scalar code ≡ false) → ((code == x) && loses x) ≡ false
   no_character small none =
       at_code loses code x false (λ e. ap (λ s. s && may x) (subst (λ y. is_scalar y ≡ false) e (none (subst (λ y. y < code_point_count) (sym e) small))))
-      ∙ and_false (code == x)
+      ∙ and-false (code == x)
 
   -- the character loses nothing
   pub loses_nothing : (c : ℕ) → c ≡ code → may c ≡ false → ((code == x) && loses x) ≡ false
   loses_nothing c is none =
-      at_code loses code x false (λ e. ap (λ b. is_scalar x && b) (subst (λ y. may y ≡ false) (is ∙ e) none) ∙ and_false (is_scalar x))
-      ∙ and_false (code == x)
+      at_code loses code x false (λ e. ap (λ b. is_scalar x && b) (subst (λ y. may y ≡ false) (is ∙ e) none) ∙ and-false (is_scalar x))
+      ∙ and-false (code == x)
 
   -- the character loses contexts
   pub loses_alone : (c : ℕ) → c ≡ code → is_scalar code ≡ true → may c ≡ true → (c == x) ≡ ((code == x) && loses x)
   loses_alone c is scalar has =
-      ap (λ y. y == x) is ∙ sym (and_true (code == x))
+      ap (λ y. y == x) is ∙ sym (and-true (code == x))
       ∙ sym (at_code loses code x true (λ e. ap (λ s. s && may x) (subst (λ y. is_scalar y ≡ true) e scalar) ∙ subst (λ y. may y ≡ true) (is ∙ e) has))
 
 touched_not : (touched has : Bool) → (not touched && has) ≡ true → touched ≡ false

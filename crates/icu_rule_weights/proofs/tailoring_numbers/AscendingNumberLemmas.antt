@@ -1,6 +1,6 @@
 -- Numbers that ascend from one of the siblings to the next ascend among all of them.
-use Rattle.std.proofs.Common.{◌≡◌, ℕ, Bool, true, false, ◌+◌, ◌<◌, ◌&&◌, nat_lt, inl, inr, List, [], ◌∷◌, ◌++◌, Option, refl, sym, ap, ◌∙◌, subst, arith}
-use Rattle.std.proofs.lemmas.Bool.Decides.{nat_tests}
+use Rattle.std.proofs.Common.{◌≡◌, ℕ, Bool, true, false, ◌+◌, ◌<◌, ◌&&◌, nat_lt, inl, inr, List, [], ◌∷◌, ◌++◌, Option, refl, sym, ap, subst, arith}
+use Rattle.std.proofs.lemmas.Bool.{and_parts, ltb-true}
 use Rattle.icu_rule_meaning.specs.declared.symbolic.SymbolicWeight.{SymbolicWeight}
 use Rattle.icu_rule_meaning.specs.declared.symbolic.SymbolicWeight.TheVariants.{Rooted, Tailored}
 use Rattle.icu_rule_meaning.specs.TailoredRoots.{Root}
@@ -12,13 +12,6 @@ use Rattle.icu_rule_weights.specs.declared.tailoring_numbers.tailoring_numbers.T
 use Rattle.icu_rule_weights.specs.tailoring_numbers.Numberings.{number_of, AscendAmong}
 use Rattle.icu_rule_weights.specs.tailoring_numbers.RootNeighbours.{next_of_root}
 use Rattle.icu_rule_weights.specs.tailoring_numbers.inner.AscendingTests.{stands_below, next_behind, ascend_above, ascend_all, AscendBelow}
-
-both : (a b : Bool) → (a && b) ≡ true → (a ≡ true) × (b ≡ true)
-both true b e = (refl, e)
-both false b e = cc
-
-pub less_from : (n u : ℕ) → nat_lt n u ≡ true → n < u
-less_from n u e = grind (arith, nat_tests)
 
 module _ (root : Root) (above : List SymbolicWeight) (t : TailoringNumbers) where
   -- ---- turns of the loop
@@ -51,9 +44,9 @@ module _ (root : Root) (above : List SymbolicWeight) (t : TailoringNumbers) wher
   unfolding ascend_above
   parts last next w ws e =
       let tests : Bool = nat_lt last (number_of t w) && stands_below w next (number_of t w) in
-      let (first, rest) = both tests (ascend_above root above t (number_of t w) (next_behind root above w next) ws) e in
-      let (less, below) = both (nat_lt last (number_of t w)) (stands_below w next (number_of t w)) first in
-      record { less = less_from last (number_of t w) less; below = below; rest = rest }
+      let (first, rest) = and_parts tests (ascend_above root above t (number_of t w) (next_behind root above w next) ws) e in
+      let (less, below) = and_parts (nat_lt last (number_of t w)) (stands_below w next (number_of t w)) first in
+      record { less = ltb-true last (number_of t w) less; below = below; rest = rest }
 
 -- numbers ascend among siblings, all above a number
 pub record Chain (t : TailoringNumbers) (last : ℕ) (ws : List SymbolicWeight) : Type 0 where

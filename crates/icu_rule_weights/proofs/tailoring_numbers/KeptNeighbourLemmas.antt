@@ -1,7 +1,7 @@
 -- Tailored weights stand between the same neighbours in the root as in the tree.
 use Rattle.std.proofs.Common.{◌≡◌, ◌≢◌, ℕ, zero, suc, Bool, true, false, ◌==◌, ◌||◌, ◌+◌, ◌<◌, ◌≤◌, ◌⊎◌, nat_lt, inl, inr, List, [], ◌∷◌, ◌++◌, length, get_or, Option, Some, None, if◌then◌else◌, refl, sym, ap, ◌∙◌, subst, arith}
 use Rattle.std.specs.List.{AllPairs, Contains}
-use Rattle.std.proofs.lemmas.Bool.{cases_Bool}
+use Rattle.std.proofs.lemmas.Bool.{cases_Bool, ltb-true}
 use Rattle.std.proofs.lemmas.Bool.Decides.{nat_tests}
 use Rattle.icu_table_entries.specs.Elements.{common}
 use Rattle.icu_rule_meaning.specs.declared.symbolic.SymbolicWeight.{SymbolicWeight}
@@ -17,7 +17,7 @@ use Rattle.icu_rule_weights.specs.declared.tailoring_numbers.tailoring_numbers.T
 use Rattle.icu_rule_weights.specs.tailoring_numbers.Numberings.{number_of, numbering_of, AscendAmong}
 use Rattle.icu_rule_weights.specs.tailoring_numbers.RootNeighbours.{next_of_root, IsOfRoot, KeepsNeighbours}
 use Rattle.icu_rule_weights.specs.tailoring_numbers.inner.AscendingTests.{stands_below, next_behind, ascend_above, ascend_all, AscendBelow}
-use Rattle.icu_rule_weights.proofs.tailoring_numbers.AscendingNumberLemmas.{less_from, parts, Chain, chain_none, chain_cons, chain_of, ascend_cons}
+use Rattle.icu_rule_weights.proofs.tailoring_numbers.AscendingNumberLemmas.{parts, Chain, chain_none, chain_cons, chain_of, ascend_cons}
 use Rattle.icu_rule_weights.proofs.tailoring_numbers.NumberingLemmas.{numbers_by, among_begun, ascends_everywhere}
 
 -- ---- the next weight of the root
@@ -52,9 +52,9 @@ abbrev Limits : Option ℕ → ℕ → Type 0
 Limits next w = (k n : ℕ) → stands_below (Tailored k) next n ≡ true → n < w
 
 limits_here : (u w : ℕ) (us : List ℕ) → ((x : ℕ) → IsAmong x us → u < x) → (u ≡ w) ⊎ IsAmong w us → Limits (Some u) w
-limits_here u w us above (inl is) k n below = subst (λ x. n < x) is (less_from n u below)
+limits_here u w us above (inl is) k n below = subst (λ x. n < x) is (ltb-true n u below)
 limits_here u w us above (inr among) k n below =
-    let first : n < u = less_from n u below in
+    let first : n < u = ltb-true n u below in
     let second : u < w = above w among in
     omega (arith, first, second)
 
@@ -103,7 +103,7 @@ module _ (root : Root) (above : List SymbolicWeight) (t : TailoringNumbers) (w :
       let later : List SymbolicWeight = if nat_lt w v then Rooted w ∷ Rooted v ∷ xs else Rooted v ∷ with_rooted w xs in
       either (Chain t last) (w == v) (Rooted v ∷ xs) later (λ _. chain_cons t last (Rooted v) xs p.less rest)
       (λ other. either (Chain t last) (nat_lt w v) (Rooted w ∷ Rooted v ∷ xs) (Rooted v ∷ with_rooted w xs)
-      (λ so. chain_cons t last (Rooted w) (Rooted v ∷ xs) less (chain_cons t w (Rooted v) xs (less_from w v so) rest))
+      (λ so. chain_cons t last (Rooted w) (Rooted v ∷ xs) less (chain_cons t w (Rooted v) xs (ltb-true w v so) rest))
       (λ not_so. chain_cons t last (Rooted v) (with_rooted w xs) p.less
       (put_in v (next_of_root root above v) xs (above_from w v other not_so)
       (next_limits root above v w is (above_from w v other not_so)) p.rest)))
@@ -117,7 +117,7 @@ module _ (root : Root) (above : List SymbolicWeight) (t : TailoringNumbers) (w :
       let later : List SymbolicWeight = if nat_lt w v then Rooted w ∷ Rooted v ∷ xs else Rooted v ∷ with_rooted w xs in
       either (AscendAmong t) (w == v) (Rooted v ∷ xs) later (λ _. ascend_cons t (Rooted v) xs rest)
       (λ other. either (AscendAmong t) (nat_lt w v) (Rooted w ∷ Rooted v ∷ xs) (Rooted v ∷ with_rooted w xs)
-      (λ so. ascend_cons t (Rooted w) (Rooted v ∷ xs) (chain_cons t w (Rooted v) xs (less_from w v so) rest))
+      (λ so. ascend_cons t (Rooted w) (Rooted v ∷ xs) (chain_cons t w (Rooted v) xs (ltb-true w v so) rest))
       (λ not_so. ascend_cons t (Rooted v) (with_rooted w xs)
       (put_in v (next_of_root root above v) xs (above_from w v other not_so)
       (next_limits root above v w is (above_from w v other not_so)) e)))
@@ -128,7 +128,7 @@ put_beside t w v =
     let later : List SymbolicWeight = if nat_lt w v then Rooted w ∷ Rooted v ∷ [] else Rooted v ∷ Rooted w ∷ [] in
     either (AscendAmong t) (w == v) (Rooted v ∷ []) later (λ _. ascend_cons t (Rooted v) [] (chain_none t v))
     (λ other. either (AscendAmong t) (nat_lt w v) (Rooted w ∷ Rooted v ∷ []) (Rooted v ∷ Rooted w ∷ [])
-    (λ so. ascend_cons t (Rooted w) (Rooted v ∷ []) (chain_cons t w (Rooted v) [] (less_from w v so) (chain_none t v)))
+    (λ so. ascend_cons t (Rooted w) (Rooted v ∷ []) (chain_cons t w (Rooted v) [] (ltb-true w v so) (chain_none t v)))
     (λ not_so. ascend_cons t (Rooted v) (Rooted w ∷ []) (chain_cons t v (Rooted w) [] (above_from w v other not_so) (chain_none t w))))
 
 put_first : (t : TailoringNumbers) (w : ℕ) (above : List SymbolicWeight) → AscendAmong t (with_rooted w (first_tree above))

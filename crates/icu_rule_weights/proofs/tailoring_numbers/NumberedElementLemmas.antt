@@ -1,9 +1,9 @@
 -- Elements with numbers have the numbers of the symbolic ones.
-use Rattle.std.proofs.Common.{◌≡◌, ℕ, zero, suc, ◌+◌, ◌-◌, ◌<◌, ◌≤◌, ◌^◌, Bool, true, false, ◌==◌, ◌&&◌, not, nat_le, List, [], ◌∷◌, length, take, map, filter, get_or, refl, ap, sym, ◌∙◌, arith}
+use Rattle.std.proofs.Common.{◌≡◌, ℕ, zero, suc, ◌-◌, ◌≤◌, true, ◌==◌, ◌&&◌, not, nat_le, List, [], ◌∷◌, length, take, map, filter, get_or, refl, ap, sym, ◌∙◌, arith}
 use Rattle.std.specs.Prelude.{bit_and}
 use Rattle.std.specs.List.{All}
 use Rattle.std.proofs.lemmas.List.Elements.{All-head, All-tail}
-use Rattle.std.proofs.lemmas.Bool.{eqb-true}
+use Rattle.std.proofs.lemmas.Bool.{eqb-true, and_parts}
 use Rattle.std.proofs.lemmas.Bool.Decides.{nat_tests}
 use Rattle.icu_table_entries.specs.Elements.{Element, tertiary_mask}
 use Rattle.icu_rule_meaning.specs.declared.symbolic.SymbolicWeight.{SymbolicWeight}
@@ -20,10 +20,6 @@ use Rattle.icu_rule_weights.proofs.tailoring_numbers.ElementBits.{whole_half, te
 abbrev weight_in : ℕ → Element → ℕ
 weight_in level x = get_or (weights_of x) (level - 1) 0
 
-both : (a b : Bool) → (a && b) ≡ true → (a ≡ true) × (b ≡ true)
-both true b e = (refl, e)
-both false b e = cc
-
 small_from : (n m : ℕ) → nat_le n m ≡ true → n ≤ m
 small_from n m e = grind (arith, nat_tests)
 
@@ -36,9 +32,9 @@ record Parts (t : TailoringNumbers) (e : SymbolicElement) : Type 0 where
 
 parts_from : (t : TailoringNumbers) (e : SymbolicElement) → fits_element t e ≡ true → Parts t e
 parts_from t e fits =
-    let (half, second) = both (fits_lower t e) (nat_le (number_at t 2 e) 0xFFFF) fits in
-    let (some, case) = both (bit_and (number_at t 3 e) tertiary_mask == number_at t 3 e && nat_le (number_at t 4 e) 3) (nat_le e.case_bits 3) half in
-    let (own, few) = both (bit_and (number_at t 3 e) tertiary_mask == number_at t 3 e) (nat_le (number_at t 4 e) 3) some in
+    let (half, second) = and_parts (fits_lower t e) (nat_le (number_at t 2 e) 0xFFFF) fits in
+    let (some, case) = and_parts (bit_and (number_at t 3 e) tertiary_mask == number_at t 3 e && nat_le (number_at t 4 e) 3) (nat_le e.case_bits 3) half in
+    let (own, few) = and_parts (bit_and (number_at t 3 e) tertiary_mask == number_at t 3 e) (nat_le (number_at t 4 e) 3) some in
     record {
       own = eqb-true (bit_and (number_at t 3 e) tertiary_mask) (number_at t 3 e) own;
       few = small_from (number_at t 4 e) 3 few;

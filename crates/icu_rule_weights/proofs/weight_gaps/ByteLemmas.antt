@@ -2,12 +2,10 @@
 use Rattle.std.proofs.Common.{◌≡◌, ℕ, suc, ◌+◌, ◌*◌, ◌/◌, ◌%◌, ◌^◌, ◌<◌, ◌≤◌, List, [], ◌∷◌, length, Option, Some, None, add-one, sym, ap, subst, inl, inr, ◌⊎◌, arith, lit<}
 use Rattle.std.proofs.lemmas.Bool.{cases_lt}
 use Rattle.std.proofs.lemmas.Nat.{mod_below, le-div, div-add-mod', div-mul-add, mod-mul-add}
-use Rattle.std.proofs.Math.Nat.{one-le-pow, pow-zero, pow-suc, div-mul-le_self, mul-le-mul_right, pow-le-pow_right}
+use Rattle.std.proofs.Math.Nat.{pow-zero, pow-suc, div-mul-le_self, mul-le-mul_right, pow-le-pow_right}
+use Rattle.icu_table_weights.proofs.BeginningLemmas.{some_pow}
 use Rattle.icu_rule_weights.specs.declared.weight_gaps.byte_range.ByteRange.{ByteRange}
 use Rattle.icu_rule_weights.specs.weight_gaps.GapWeights.{HasBytesIn, AreOrderedRanges, IsLeastOf, IsNextAbove, IsLeastAbove}
-
-pub some_place : (k : ℕ) → 0 < 256 ^ k
-some_place k = one-le-pow k 256 (lit< tt)
 
 pub few_places : (k : ℕ) → k ≤ 3 → 256 ^ k ≤ 16777216
 few_places k l = pow-le-pow_right {n = 256} (lit< tt) l
@@ -68,13 +66,13 @@ module _ (r : ByteRange) (rs : List ByteRange) where
       → IsNextAbove (r ∷ rs) x (r.least * place + t)
   next_least x t below l m least =
       over r.least x t (omega arith) l m least
-      (omega (arith, outweighs (x / place) r.least place (x % place) below (mod_below x place (some_place (length rs))), div-add-mod' x place))
+      (omega (arith, outweighs (x / place) r.least place (x % place) below (mod_below x place (some_pow (length rs))), div-add-mod' x place))
       (λ v h n. h.0)
 
   -- the highest byte is above the range
   pub none_over : (x : ℕ) → r.greatest < x / place → IsLeastAbove (r ∷ rs) x None
   none_over x over v h =
-      let less = less_before v x place (some_place (length rs)) (omega (arith, h.1, over)) in omega (arith, less)
+      let less = less_before v x place (some_pow (length rs)) (omega (arith, h.1, over)) in omega (arith, less)
 
   -- a number with the same highest byte is next
   pub next_behind : (x t : ℕ) → r.least ≤ x / place → x / place ≤ r.greatest → x / place * place + t < 256 ^ suc (length rs) → IsNextAbove rs (x % place) t
@@ -90,7 +88,7 @@ module _ (r : ByteRange) (rs : List ByteRange) where
     by v h l (inl more) =
         omega (arith, outweighs (x / place) (v / place) place t more next.fits, div-add-mod' v place)
     by v h l (inr less) =
-        let same : x / place ≡ v / place = omega (arith, quotient_le x v place (some_place (length rs)) (omega arith), less) in
+        let same : x / place ≡ v / place = omega (arith, quotient_le x v place (some_pow (length rs)) (omega arith), less) in
         let product : x / place * place ≡ v / place * place = ap (λ q. q * place) same in
         omega (arith, next.least (v % place) h.2 (greater_behind x v place same l), product, div-add-mod' v place)
 
@@ -101,7 +99,7 @@ module _ (r : ByteRange) (rs : List ByteRange) where
       by : (x / place < v / place) ⊎ (v / place ≤ x / place) → x / place < v / place
       by (inl more) = more
       by (inr less) =
-          let same : x / place ≡ v / place = omega (arith, quotient_le x v place (some_place (length rs)) (omega arith), less) in
+          let same : x / place ≡ v / place = omega (arith, quotient_le x v place (some_pow (length rs)) (omega arith), less) in
           absurd (omega (arith, greater_behind x v place same l, none (v % place) h.2))
 
   -- a number with the next highest byte is next
@@ -109,7 +107,7 @@ module _ (r : ByteRange) (rs : List ByteRange) where
       → IsLeastOf rs t → IsNextAbove (r ∷ rs) x ((x / place + 1) * place + t)
   next_after x t a b m none least =
       over (x / place + 1) x t (omega arith) (omega arith) m least
-      (omega (arith, outweighs (x / place) (x / place + 1) place (x % place) (omega arith) (mod_below x place (some_place (length rs))), div-add-mod' x place))
+      (omega (arith, outweighs (x / place) (x / place + 1) place (x % place) (omega arith) (mod_below x place (some_pow (length rs))), div-add-mod' x place))
       (λ v h l. omega (arith, none_behind x v none h l))
 
   -- the highest byte is the last of the range
@@ -185,4 +183,4 @@ none_after_all ranges r rs p x e f last none =
     (none_after r rs x (subst (λ q. x / q ≡ r.greatest) f last) (subst (λ q. IsLeastAbove rs (x % q) None) f none))
 
 pub divisor : (p k : ℕ) → p ≡ 256 ^ k → 0 < p
-divisor p k e = subst (λ q. 0 < q) (sym e) (some_place k)
+divisor p k e = subst (λ q. 0 < q) (sym e) (some_pow k)

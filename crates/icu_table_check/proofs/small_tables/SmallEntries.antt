@@ -26,7 +26,7 @@ use Rattle.icu_table_provider.specs.ReachableTables.{jamo_entry}
 use Rattle.icu_table_provider.specs.Tables.{is_jamo}
 use Rattle.icu_table_data.proofs.CharLemmas.{scalar_below}
 use Rattle.icu_table_data.proofs.ImplicitLemmas.{implicit_passes}
-use Rattle.icu_table_data.proofs.ListLemmas.{all_members, of_member}
+use Rattle.icu_table_data.proofs.ListLemmas.{all_members, of_member, nothing_in}
 use Rattle.icu_table_data.proofs.ViolationLemmas.{passes_meets}
 use Rattle.icu_table_check.proofs.ComparedLevelLemmas.{implicit_elements, passes}
 use Rattle.icu_table_check.specs.small_tables.SmallTables.{letter_a, letter_b, letter_a_grave, grave, entry_of_a, context_of_a, small_entry, tables_with}
@@ -145,9 +145,6 @@ by_entry P value says each others tables.Diacritics home c e reachable = absurd 
 
 -- ---- their elements
 
-no_member : {X : Type 0} (x : X) → Contains [] x → ⊥
-no_member x h = let few = h.1 in omega arith
-
 gives_nothing : (home : Data) (c : ℕ) → final_elements (homed home entry_of_a) c ≡ []
 unfolding final_elements self_contained kind_of
 gives_nothing home c = refl
@@ -176,7 +173,7 @@ unfolding stated_entries Gives
 stated_give home c e member =
     let all = all_members stated_elements in
     of_member (Gives home c) stated_entries e (
-      (λ x there. absurd (no_member x (subst (λ xs. Contains xs x) (gives_nothing home c) there))),
+      (λ x there. absurd (nothing_in x (subst (λ xs. Contains xs x) (gives_nothing home c) there))),
       (
         gives_one home c letter_a _ (stated all.0) (gives_a home c),
         (

@@ -1,17 +1,11 @@
 -- Numbers as bytes: lists with one more number, how long they are, and that they tell their numbers.
-use Rattle.std.proofs.Common.{◌≡◌, ℕ, zero, suc, ◌+◌, ◌*◌, ◌<◌, ◌^◌, List, [], ◌∷◌, ◌++◌, length, get_or, take, drop, refl, sym, ap, subst, ◌∙◌, append_assoc, append-nil, arith}
+use Rattle.std.proofs.Common.{◌≡◌, ℕ, zero, suc, ◌+◌, ◌*◌, ◌<◌, ◌^◌, List, [], ◌∷◌, ◌++◌, length, get_or, refl, sym, ap, subst, ◌∙◌, append_assoc, append-nil, arith}
 use Rattle.std.proofs.lemmas.Grind.{flat_map-append}
-use Rattle.std.proofs.lemmas.List.{take_at, drop_at, length-append}
+use Rattle.std.proofs.lemmas.List.{length-append}
 use Rattle.std.proofs.lemmas.Nat.{from_be_bytes-to_be_bytes_2, from_be_bytes-to_be_bytes_4, from_be_bytes-to_be_bytes_8}
+use Rattle.icu_table_files.proofs.fingerprint.WordForms.{cut}
 use Rattle.std.specs.Int.{Width, w16, w32, w64, byte_len, from_be_bytes, to_be_bytes}
 use Rattle.icu_table_files.specs.parts.SpeltParts.{AreBelow, bytes_of_numbers}
-
--- lists of one length, each with more behind it
-pub same_fronts : (xs ys r s : List ℕ) → length xs ≡ length ys → xs ++ r ≡ ys ++ s → (xs ≡ ys) × (r ≡ s)
-same_fronts xs ys r s l e = (
-  sym (take_at xs r (length xs) refl) ∙ (ap (take (length xs)) e ∙ take_at ys s (length xs) (sym l)),
-  sym (drop_at xs r (length xs) refl) ∙ (ap (drop (length xs)) e ∙ drop_at ys s (length xs) (sym l)),
-)
 
 one_more : (w : Width) (xs : List ℕ) (x : ℕ) → bytes_of_numbers w (xs ++ x ∷ []) ≡ bytes_of_numbers w xs ++ to_be_bytes w x
 one_more w xs x = flat_map-append (to_be_bytes w) xs (x ∷ []) ∙ ap (λ b. bytes_of_numbers w xs ++ b) (append-nil (to_be_bytes w x))
@@ -61,7 +55,7 @@ wide64 = record { len = λ n. refl; some = omega arith; again = λ n lt. from_be
 -- bytes of one number, with more behind them, tell it
 pub number_tells : (w : Width) (limit : ℕ) → IsWide w limit → (x y : ℕ) (r s : List ℕ) → x < limit → y < limit → to_be_bytes w x ++ r ≡ to_be_bytes w y ++ s → (x ≡ y) × (r ≡ s)
 number_tells w limit wide x y r s f g e =
-    let h = same_fronts (to_be_bytes w x) (to_be_bytes w y) r s (wide.len x ∙ sym (wide.len y)) e in
+    let h = cut (to_be_bytes w x) (to_be_bytes w y) r s (wide.len x ∙ sym (wide.len y)) e in
     (sym (wide.again x f) ∙ (ap (from_be_bytes w) h.0 ∙ wide.again y g), h.1)
 
 pub numbers_tell : (w : Width) (limit : ℕ) → IsWide w limit → (xs ys : List ℕ) → AreBelow limit xs → AreBelow limit ys → bytes_of_numbers w xs ≡ bytes_of_numbers w ys → xs ≡ ys

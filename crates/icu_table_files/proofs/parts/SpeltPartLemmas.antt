@@ -2,10 +2,11 @@
 use Rattle.std.proofs.Common.{◌≡◌, ℕ, ◌+◌, ◌≤◌, ◌<◌, ◌^◌, List, [], ◌∷◌, ◌++◌, length, refl, sym, ap, subst, ◌∙◌, append_assoc, append-nil, arith}
 use Rattle.std.proofs.lemmas.Grind.{flat_map-append}
 use Rattle.std.proofs.lemmas.List.{length-append}
+use Rattle.icu_table_files.proofs.fingerprint.WordForms.{cut}
 use Rattle.std.specs.Int.{w64, to_be_bytes}
 use Rattle.icu_table_files.specs.parts.SpeltParts.{bytes_of_part, bytes_of_parts}
 use Rattle.icu_table_files.specs.parts.Refusals.{BeginsWithNoPart}
-use Rattle.icu_table_files.proofs.parts.SpeltNumberLemmas.{number_tells, same_fronts, wide64}
+use Rattle.icu_table_files.proofs.parts.SpeltNumberLemmas.{number_tells, wide64}
 
 -- a part with more behind it is shorter than both together
 pub shorter : (x r : List ℕ) → length x + 8 + length r ≡ length (bytes_of_part x ++ r)
@@ -18,7 +19,7 @@ part_tells x y r s small e =
     let f : length x < 2 ^ 64 = omega (arith, shorter x r) in
     let g : length y < 2 ^ 64 = omega (arith, shorter y s, ap length e) in
     let h = number_tells w64 (2 ^ 64) wide64 (length x) (length y) (x ++ r) (y ++ s) f g (sym a ∙ (e ∙ b)) in
-    same_fronts x y r s h.0 h.1
+    cut x y r s h.0 h.1
 
 pub parts_tell : (xs ys : List (List ℕ)) → length (bytes_of_parts xs) < 2 ^ 64 → bytes_of_parts xs ≡ bytes_of_parts ys → xs ≡ ys
 parts_tell [] [] small e = refl

@@ -93,10 +93,6 @@ reordered-bound r p bytes small =
     let byte : get_or r.leads (lead_byte p) 0 < 256 = byte_at r.leads (lead_byte p) bytes in
     by_ways (λ w. w < 2 ^ 32) r p (omega arith) small (λ found. moved_by-bound found p small)
 
--- (a name that a function can cite)
-pub reordered_fits : (r : Reordering) (p : ℕ) → All (λ b. b < 256) r.leads → p < 2 ^ 32 → reordered r p < 2 ^ 32
-reordered_fits r p bytes small = reordered-bound r p bytes small
-
 -- so a weight whose lead stays is the same after it
 pub reordered-same : (r : Reordering) (p : ℕ) → reordered_lead r p ≡ lead_byte p → reordered r p ≡ p
 reordered-same r p e = omega (arith, reordered-rest r p)

@@ -1,6 +1,7 @@
 -- Characters are put in canonical order: each run of marks class by class.
 use Rattle.std.proofs.Common.{◌≡◌, ◌≢◌, ◌⊎◌, inl, inr, ℕ, zero, suc, ◌<◌, ◌≤◌, ◌+◌, ◌-◌, min, true, false, List, [], ◌∷◌, ◌++◌, Option, None, Some, length, drop, take, get_or, refl, sym, ap, subst, ◌∙◌, arith, append-nil, append_assoc}
 use Rattle.std.proofs.lemmas.List.{drop_more, drop_all, drop-drop, take_more}
+use Rattle.std.proofs.lemmas.Bool.{cases_eq}
 use Rattle.ucd_normal.specs.CanonicalCombiningClass.{canonical_combining_class as class_of}
 use Rattle.unicode_normalization.specs.Order.{is_reorderable, is_ordered, canonical_order}
 use Rattle.unicode_normalization.proofs.OrderLemmas.{is_ordered-cons, is_ordered-nil, is_ordered-one, canonical_order-nil}
@@ -11,13 +12,6 @@ use Rattle.icu_text_decomposition.proofs.PassLemmas.{pass_same, pass_lower, give
 
 at_most : (a b : ℕ) → (a ≤ b) ⊎ (b < a)
 at_most a b = grind arith
-
-same_or_not : (a b : ℕ) → (a ≡ b) ⊎ (a ≢ b)
-same_or_not a b =
-    elim (at_most a b) [
-      | inl le ↦ elim (at_most b a) [ inl ge ↦ inl (omega arith) | inr lt ↦ inr (λ e. absurd (omega arith)) ]
-      | inr gt ↦ inr (λ e. absurd (omega arith))
-    ]
 
 at_index : (cs : List ℕ) (i d m : ℕ) → i < length cs → m ≡ get_or cs i d → drop i cs ≡ m ∷ drop (i + 1) cs
 at_index cs i d m lt is = drop_more cs i d lt ∙ ap (λ c. c ∷ drop (i + 1) cs) (sym is)
@@ -46,7 +40,7 @@ pass_appends cs old all new i d m class lt is mark same other so_far =
     let at = at_index cs i d m lt is in
     let after = drop (i + 1) cs in
     let left = left_of_pass cs after class in
-    elim (same_or_not (class_of m) class) [
+    elim (cases_eq (class_of m) class) [
       | inl e ↦
           ap (λ l. l ++ left) (same e) ∙ append_assoc old (m ∷ []) left
           ∙ ap (λ l. old ++ l) (sym (given_of_class (m ∷ []) cs (drop i cs) after class (given_first (drop i cs) after m class at mark e)))

@@ -1,7 +1,7 @@
 use Rattle.std.proofs.Common.{◌≡◌, ℕ, List, ◌∷◌, ◌≤◌, ◌<◌, sym, subst, arith, rules}
 use Rattle.icu_table_data.specs.StoredData.{found_context}
 use Rattle.icu_element_cursor.specs.Cursors.{cursor_reading}
-use Rattle.icu_element_cursor.specs.inner.Places.{MayBeCut}
+use Rattle.icu_element_reading.specs.boundaries.Places.{MayBeCut}
 use Rattle.icu_element_cursor.specs.inner.Unjoined.{BeginsNone, IsHead}
 use Rattle.icu_element_cursor.specs.inner.Composed.{AreLowerMarksBefore}
 use Rattle.icu_element_cursor.proofs.ComposedLemmas.{below_ended, below_cut, below_more}

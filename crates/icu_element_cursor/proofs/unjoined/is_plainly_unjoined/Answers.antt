@@ -1,6 +1,6 @@
 use Rattle.std.proofs.Common.{◌≡◌, ◌∷◌, [], List, ℕ, refl, sym, subst, rules}
 use Rattle.icu_element_cursor.specs.Cursors.{cursor_reading}
-use Rattle.icu_element_cursor.specs.inner.Places.{MayBeCut}
+use Rattle.icu_element_reading.specs.boundaries.Places.{MayBeCut}
 use Rattle.icu_element_cursor.specs.inner.Standing.{StandsBefore}
 use Rattle.icu_element_cursor.proofs.StandLemmas.{cut_stands}
 use Rattle.icu_element_cursor.proofs.unjoined.is_plainly_unjoined.Goals as goal

@@ -1,7 +1,7 @@
 use Rattle.std.proofs.Common.{◌≡◌, ℕ, List, ◌∷◌, ◌≤◌, sym, subst, arith, rules}
 use Rattle.icu_table_data.specs.StoredData.{found_context}
 use Rattle.icu_element_cursor.specs.Cursors.{cursor_reading}
-use Rattle.icu_element_cursor.specs.inner.Places.{MayBeCut}
+use Rattle.icu_element_reading.specs.boundaries.Places.{MayBeCut}
 use Rattle.icu_element_cursor.specs.inner.Unjoined.{BeginsNone, IsHead, IsUnjoinedBefore}
 use Rattle.icu_element_cursor.proofs.UnjoinedLemmas.{ended_before, cut_before, starter_before, mark_before}
 use Rattle.icu_element_cursor.proofs.unjoined.joins_none.Goals as goal

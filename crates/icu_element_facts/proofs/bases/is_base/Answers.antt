@@ -1,6 +1,6 @@
 use Rattle.std.proofs.Common.{ap, sym, ◌∙◌, ◌∷◌, []}
 use Rattle.icu_element_reading.proofs.boundaries.CutLemmas.{boundary_start}
-use Rattle.icu_element_facts.specs.BoundaryTables.{boundary_reading}
+use Rattle.icu_element_reading.specs.boundaries.BoundaryTables.{boundary_reading}
 use Rattle.icu_element_facts.proofs.KeptBaseLemmas.{forgets_before, one_item}
 use Rattle.icu_element_facts.proofs.bases.is_base.Goals as goal
 

@@ -2,7 +2,7 @@ use Rattle.std.proofs.Common.{◌≡◌, ◌<◌, ℕ, false, is_some, ap, rules
 use Rattle.icu_table_data.specs.Data.{HomedEntry}
 use Rattle.icu_table_data.proofs.ViolationLemmas.{weaker_some}
 use Rattle.icu_table_provider.specs.Tables.{diacritic_of}
-use Rattle.icu_element_facts.specs.BoundaryTables.{boundary_reading}
+use Rattle.icu_element_reading.specs.boundaries.BoundaryTables.{boundary_reading}
 use Rattle.icu_element_facts.specs.KeptFacts.{IsNumberDigit}
 use Rattle.icu_element_facts.proofs.DigitCharLemmas.{number_digit}
 use Rattle.icu_element_facts.proofs.digit_values.digit_at.Goals as goal

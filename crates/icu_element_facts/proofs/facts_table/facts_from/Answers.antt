@@ -1,6 +1,6 @@
 -- One more character comes after those there are.
 use Rattle.std.proofs.Common.{arith, ◌≡◌, length, length-append, subst, sym, ap, ◌∙◌, [], ◌∷◌, ◌++◌}
-use Rattle.icu_element_facts.specs.BoundaryTables.{boundary_reading}
+use Rattle.icu_element_reading.specs.boundaries.BoundaryTables.{boundary_reading}
 use Rattle.icu_element_facts.specs.KeptChars.{AreFactsFrom}
 use Rattle.icu_element_facts.proofs.TableLemmas.{facts_more}
 use Rattle.icu_element_facts.proofs.facts_table.facts_from.Goals as goal

@@ -1,6 +1,6 @@
 use Rattle.std.proofs.Common.{◌≡◌, ◌+◌, length}
 use Rattle.icu_element_facts.specs.KeptChars.{AreFactsFrom}
-use Rattle.icu_element_facts.specs.BoundaryTables.{boundary_reading}
+use Rattle.icu_element_reading.specs.boundaries.BoundaryTables.{boundary_reading}
 use Rattle.icu_element_facts.proofs.facts_table.facts_from.Given as goal
 
 abbrev pub invariant-loop-code : goal.invariant-loop-code

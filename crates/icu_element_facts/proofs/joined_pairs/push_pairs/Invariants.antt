@@ -1,4 +1,4 @@
-use Rattle.icu_element_facts.specs.BoundaryTables.{boundary_reading}
+use Rattle.icu_element_reading.specs.boundaries.BoundaryTables.{boundary_reading}
 use Rattle.icu_element_facts.specs.KeptPairs.{ArePairs}
 use Rattle.icu_element_facts.proofs.joined_pairs.push_pairs.Given as goal
 

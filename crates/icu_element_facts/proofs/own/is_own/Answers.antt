@@ -1,7 +1,7 @@
 -- A starter that no mapping names and that decomposes to itself, by its entry.
 use Rattle.std.proofs.Common.{sym, ◌∙◌}
 use Rattle.std.proofs.lemmas.Bool.{not-true}
-use Rattle.icu_element_facts.specs.BoundaryTables.{boundary_reading}
+use Rattle.icu_element_reading.specs.boundaries.BoundaryTables.{boundary_reading}
 use Rattle.icu_element_facts.proofs.OwnLemmas.{own_starter}
 use Rattle.icu_element_facts.proofs.own.is_own.Goals as goal
 use Rattle.icu_element_facts.proofs.own.is_own.Goals.{then-is_unnamed_starter, else-is_unnamed_starter, then-not-is_dot, else-not-is_dot}

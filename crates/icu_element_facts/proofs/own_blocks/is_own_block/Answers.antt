@@ -1,7 +1,7 @@
 -- A plain block that no mapping names, by its entries.
 use Rattle.std.proofs.Common.{sym, ◌∙◌}
 use Rattle.std.proofs.lemmas.Bool.{not-true}
-use Rattle.icu_element_facts.specs.BoundaryTables.{boundary_reading}
+use Rattle.icu_element_reading.specs.boundaries.BoundaryTables.{boundary_reading}
 use Rattle.icu_element_facts.proofs.OwnLemmas.{own_block}
 use Rattle.icu_element_facts.proofs.PlainLemmas.{plain_block}
 use Rattle.icu_element_facts.proofs.own_blocks.is_own_block.Goals as goal

@@ -1,5 +1,5 @@
 -- The facts of an own character with one element.
-use Rattle.icu_element_facts.specs.BoundaryTables.{boundary_reading}
+use Rattle.icu_element_reading.specs.boundaries.BoundaryTables.{boundary_reading}
 use Rattle.icu_element_facts.proofs.read_char.own_facts.Goals as goal
 
 pub returns-in-Some : goal.returns-in-Some

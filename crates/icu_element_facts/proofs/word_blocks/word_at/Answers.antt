@@ -1,5 +1,5 @@
 -- A surrogate has no word that says something.
-use Rattle.icu_element_facts.specs.BoundaryTables.{boundary_reading}
+use Rattle.icu_element_reading.specs.boundaries.BoundaryTables.{boundary_reading}
 use Rattle.icu_element_facts.proofs.CharWordLemmas.{no_word, same_facts}
 use Rattle.icu_element_facts.proofs.word_blocks.word_at.Goals as goal
 

@@ -1,5 +1,5 @@
 -- An own character, a syllable, or one with facts.
-use Rattle.icu_element_facts.specs.BoundaryTables.{boundary_reading}
+use Rattle.icu_element_reading.specs.boundaries.BoundaryTables.{boundary_reading}
 use Rattle.icu_element_facts.proofs.CharWordLemmas.{own_word, no_word, same_facts}
 use Rattle.icu_element_facts.proofs.word_blocks.word_of_char.Goals as goal
 

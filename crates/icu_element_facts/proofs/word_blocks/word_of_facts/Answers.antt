@@ -1,6 +1,6 @@
 -- The facts that were added last.
 use Rattle.std.proofs.Common.{◌≡◌, ◌+◌, length, rules, arith}
-use Rattle.icu_element_facts.specs.BoundaryTables.{boundary_reading}
+use Rattle.icu_element_reading.specs.boundaries.BoundaryTables.{boundary_reading}
 use Rattle.icu_element_facts.proofs.CharWordLemmas.{more_facts, no_word, same_facts}
 use Rattle.icu_element_facts.proofs.word_blocks.word_of_facts.Goals as goal
 

@@ -1,6 +1,6 @@
 -- One more word comes after those there are.
 use Rattle.std.proofs.Common.{ℕ, List, ◌∷◌, [], ◌∙◌, ap, length, length-append, sym, subst, arith}
-use Rattle.icu_element_facts.specs.BoundaryTables.{boundary_reading}
+use Rattle.icu_element_reading.specs.boundaries.BoundaryTables.{boundary_reading}
 use Rattle.icu_element_facts.specs.inner.WordBlocks.{AreMoreWords}
 use Rattle.icu_element_facts.proofs.CharWordLemmas.{more_words, none_more}
 use Rattle.icu_element_facts.proofs.word_blocks.words_from.Goals as goal

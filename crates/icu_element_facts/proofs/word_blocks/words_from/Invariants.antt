@@ -1,5 +1,5 @@
 use Rattle.std.proofs.Common.{◌≡◌, ◌+◌, length}
-use Rattle.icu_element_facts.specs.BoundaryTables.{boundary_reading}
+use Rattle.icu_element_reading.specs.boundaries.BoundaryTables.{boundary_reading}
 use Rattle.icu_element_facts.specs.inner.WordBlocks.{AreMoreWords}
 use Rattle.icu_element_facts.proofs.word_blocks.words_from.Given as goal
 

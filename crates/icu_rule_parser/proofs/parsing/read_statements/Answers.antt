@@ -1,7 +1,7 @@
 use Rattle.std.proofs.Common.{◌≡◌, arith, map, ap, ◌∙◌, rules, length, inl, refl, sym, subst}
-use Rattle.std.proofs.lemmas.List.{map-append}
+use Rattle.std.proofs.lemmas.List.{map-append, nil_from_length}
 use Rattle.std.proofs.lemmas.Grind.{common_steps}
-use Rattle.icu_rule_parser.proofs.ParsingLemmas.{told_first, told_step, ordered_first, ordered_step, all_told, nothing_of}
+use Rattle.icu_rule_parser.proofs.ParsingLemmas.{told_first, told_step, ordered_first, ordered_step, all_told}
 use Rattle.icu_rule_parser.specs.declared.unplaced_error.UnplacedError.{UnplacedError}
 use Rattle.icu_rule_parser.specs.declared.unplaced_error.UnplacedError.TheVariants.{Refused}
 use Rattle.icu_rule_parser.specs.declared.rules_error.RulesErrorKind.TheVariants as kinds
@@ -49,7 +49,7 @@ loop-rest-preserved c = record {
 pub returns-clause-says : goal.returns-clause-says
 returns-clause-says c =
     let none : length c.loop-rest.rest.now ≡ 0 = grind (arith, common_steps) in
-    all_told _ (nothing_of _ none) c.loop-rest.invariant.told c.loop-rest.invariant.ordered
+    all_told _ (nil_from_length _ none) c.loop-rest.invariant.told c.loop-rest.invariant.ordered
     (c.is_complete.ensures.complete (search rules))
 
 pub returns-in_err-statement-clause-fault : goal.returns-in_err-statement-clause-fault
@@ -68,4 +68,4 @@ returns-then-not-is_complete-clause-fault c =
     (map (λ p. p.statement) c.loop-rest.statements.items) c.loop-rest.chain
     c.args.text.now c.loop-rest.before.now c.loop-rest.rest.now c.loop-rest.invariant.told c.loop-rest.invariant.line
     c.loop-rest.invariant.chain c.loop-rest.invariant.last c.loop-rest.invariant.visible
-    (refl, c.is_complete.ensures.incomplete (search rules), no_sign_in (nothing_of _ none)))
+    (refl, c.is_complete.ensures.incomplete (search rules), no_sign_in (nil_from_length _ none)))

@@ -4,10 +4,11 @@ use Rattle.icu_rule_parser.specs.declared.unplaced_error.UnplacedError.{Unplaced
 use Rattle.icu_rule_parser.specs.declared.unplaced_error.UnplacedError.TheVariants.{Refused}
 use Rattle.icu_rule_parser.specs.declared.rules_error.RulesErrorKind.TheVariants as kinds
 use Rattle.std.proofs.Common.{◌≡◌, ◌∙◌, true, false, refl, sym, subst, ◌∷◌, []}
+use Rattle.std.proofs.lemmas.Bool.{not-true}
 use Rattle.icu_rule_parser.specs.TakenText.{TakesCharacters}
 use Rattle.icu_rule_parser.specs.TakenFaults.{IsInString}
 use Rattle.icu_rule_parser.proofs.FaultLemmas.{handed_on}
-use Rattle.icu_rule_parser.proofs.FaultPlaceLemmas.{opens_next, not_true, string_fault}
+use Rattle.icu_rule_parser.proofs.FaultPlaceLemmas.{opens_next, string_fault}
 use Rattle.icu_rule_parser.proofs.StringOnce.{not_both}
 use Rattle.icu_rule_parser.proofs.strings.read_characters.Goals.{then-is_within, else-is_within}
 use Rattle.icu_rule_parser.proofs.strings.read_characters.Goals as goal
@@ -16,7 +17,7 @@ pub loop-characters-preserved : goal.loop-characters-preserved
 loop-characters-preserved c =
     let clear : (c.if-is_within.newer ≡ true → c.loop-characters.within ≡ false) =
     elim c.if-is_within.branch [
-      | then-is_within w ↦ λ h. not_true c.loop-characters.within (sym w.newer-is ∙ h)
+      | then-is_within w ↦ λ h. not-true c.loop-characters.within (sym w.newer-is ∙ h)
       | else-is_within w ↦ λ h. absurd (not_both h (w.newer-is ∙ w.if-is_within.false))
     ] in record {
       taken = characters_step _ _ _ c.in_ok-push.ensures.items c.loop-characters.invariant.taken (rw c.in-Some.is at c.in_ok-c.ensures.taken)

@@ -1,9 +1,10 @@
 -- The key of a diacritic is added.
 use Rattle.std.proofs.Common.{sym, ap, ◌∙◌, subst}
+use Rattle.icu_table_data.proofs.WalkLemmas.{on_ok}
 use Rattle.icu_table_entries.specs.Elements.{of_secondary}
 use Rattle.icu_table_data.specs.CollectedWeights.{Adds}
 use Rattle.icu_rule_root.specs.inner.KeyCollections.{IsDiacriticKey}
-use Rattle.icu_rule_root.proofs.KeyCollectionLemmas.{diacritic_added, on_ok}
+use Rattle.icu_rule_root.proofs.KeyCollectionLemmas.{diacritic_added}
 use Rattle.icu_rule_root.proofs.key_collector.collect_one_diacritic.Goals as goal
 
 pub returns : goal.returns

@@ -1,10 +1,11 @@
 -- Each entry that is reachable was visited.
 use Rattle.std.proofs.Common.{false, subst}
+use Rattle.icu_table_data.proofs.WalkLemmas.{on_ok}
 use Rattle.icu_table_data.specs.Data.{Data}
 use Rattle.icu_table_data.specs.Walks.{Walked}
 use Rattle.icu_table_provider.specs.well_formed.Checked.{checked_tables}
 use Rattle.icu_rule_root.specs.inner.KeyCollections.{with_keys}
-use Rattle.icu_rule_root.proofs.KeyCollectionLemmas.{walk_adds, on_ok}
+use Rattle.icu_rule_root.proofs.KeyCollectionLemmas.{walk_adds}
 use Rattle.icu_rule_root.proofs.key_collector.collect_root.Goals as goal
 
 pub returns : goal.returns

@@ -1,7 +1,8 @@
 -- The last characters decide.
 use Rattle.std.proofs.Common.{◌&&◌, ◌-◌, ℕ, List, length, get_or, sym, ◌∙◌, refl}
+use Rattle.std.proofs.lemmas.Bool.{or_left}
 use Rattle.icu_rule_steps.specs.RuleFaults.{is_leading_jamo, is_vowel_jamo}
-use Rattle.icu_rule_steps.proofs.ContractionEnds.{short, by_last, or_left, or_right, and_right, and_left, last_at, before_at}
+use Rattle.icu_rule_steps.proofs.ContractionEnds.{short, by_last, or_right, and_right, and_left, last_at, before_at}
 use Rattle.icu_rule_steps.proofs.faults.ends_in_syllable.Goals as goal
 
 pub returns-then-count-lt2 : goal.returns-then-count-lt2

@@ -1,10 +1,11 @@
 use Rattle.std.proofs.Common.{◌≡◌, ◌<◌, [], ap, sym, subst, ◌∙◌, length, vec_len, arith, inr, refl}
+use Rattle.std.proofs.lemmas.Bool.{eqb-true}
 use Rattle.icu_table_entries.specs.declared.entry.EntryKind.TheVariants.{Prefix}
 use Rattle.icu_table_provider.specs.builder.Building.{built_data}
 use Rattle.icu_table_mappings.specs.Surroundings.{entry_at}
 use Rattle.icu_table_mappings.specs.inner.ContextParts.{AddsContext, LeadsNearest, is_among}
 use Rattle.icu_table_mappings.proofs.GrownListLemmas.{extends_further}
-use Rattle.icu_table_mappings.proofs.AddedContextLemmas.{leads_by, leads_to_default, nothing_left, positive}
+use Rattle.icu_table_mappings.proofs.AddedContextLemmas.{leads_by, leads_to_default, positive}
 use Rattle.icu_table_mappings.proofs.PrefixLemmas.{Inserts, alone_turn, covers_end, covers_skip, covers_turn, gives_just, gives_nearest, leads_first, leads_turn}
 use Rattle.icu_table_mappings.proofs.contexts.entry_in_contexts.Goals as goal
 
@@ -45,7 +46,7 @@ pub loop-before-preserved : goal.loop-before-preserved
 loop-before-preserved c =
     let k = c.in-Some.before.now in
     let same : vec_len k ≡ length k.items = k.ok.0 in
-    let none : vec_len k ≡ 0 = nothing_left (vec_len k) (sym c.is_empty.ensures ∙ c.if-not-is_empty.false) in
+    let none : vec_len k ≡ 0 = eqb-true (vec_len k) 0 (sym c.is_empty.ensures ∙ c.if-not-is_empty.false) in
     record {
       extends = c.loop-before.invariant.extends;
       alone = c.loop-before.invariant.alone;

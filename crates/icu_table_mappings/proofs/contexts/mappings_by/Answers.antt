@@ -1,7 +1,8 @@
 use Rattle.std.proofs.Common.{◌≡◌, ◌<◌, ◌++◌, ap, sym, ◌∙◌, refl, length, vec_len, map, arith}
+use Rattle.std.proofs.lemmas.Bool.{eqb-true}
 use Rattle.icu_table_provider.specs.builder.AddedContexts.{given_mapping}
 use Rattle.icu_table_mappings.specs.inner.ContextParts.{mappings_by}
-use Rattle.icu_table_mappings.proofs.AddedContextLemmas.{put_turn, put_end, mappings_skip, positive, nothing_left}
+use Rattle.icu_table_mappings.proofs.AddedContextLemmas.{put_turn, put_end, mappings_skip, positive}
 use Rattle.icu_table_mappings.proofs.contexts.mappings_by.Goals as goal
 
 pub loop-chars-preserved-in-Continue-1 : goal.loop-chars-preserved-in-Continue-1
@@ -16,7 +17,7 @@ pub loop-chars-preserved : goal.loop-chars-preserved
 loop-chars-preserved c =
     let k = c.in-Some.chars.now in
     let same : vec_len k ≡ length k.items = k.ok.0 in
-    let none : vec_len k ≡ 0 = nothing_left (vec_len k) (sym c.is_empty.ensures ∙ c.if-not-is_empty.false) in
+    let none : vec_len k ≡ 0 = eqb-true (vec_len k) 0 (sym c.is_empty.ensures ∙ c.if-not-is_empty.false) in
     sym (ap (λ ms. map given_mapping c.loop-chars.list.items ++ ms)
     (mappings_skip c.loop-chars.chars-iterator c.next.new.self k c.in-Some.entry.now c.in-Some.ensures.steps (omega arith)))
     ∙ c.loop-chars.invariant

@@ -1,7 +1,8 @@
 -- A character more is passed, and at a place the part before it is asked for its elements.
-use Rattle.std.proofs.Common.{◌≡◌, ◌≤◌, ◌<◌, ◌∙◌, true, false, ap, arith, length, nat_le, rules}
+use Rattle.std.proofs.Common.{◌≡◌, ◌≤◌, ◌<◌, ◌∙◌, ℕ, List, [], true, false, ap, sym, arith, length, nat_le, rules}
 use Rattle.std.proofs.lemmas.Bool.Decides.{nat_tests}
-use Rattle.icu_search_places.specs.place_reader.PlaceReaders.{elements_read, places_reading}
+use Rattle.icu_search_places.specs.place_reader.PlaceReaders.{chars_left, elements_read, places_reading}
+use Rattle.text_reasons.specs.BearingParts.{part_from}
 use Rattle.text_reasons.proofs.BearingPartLemmas.{part_found, parts_go_on, parts_wait}
 use Rattle.text_reasons.proofs.bearing_part.part_read.Goals as goal
 
@@ -48,3 +49,9 @@ characters-preserved g c = record {
       parts_wait g.I.Iterator.next_gives (places_reading c.args.places) c.args.text.now c.args.count c.characters.places c.next.new.self
       c.characters.start c.characters.passed c.in-Some.here m passed c.characters.invariant.reading c.if-here.false;
 }
+
+pub returns : goal.returns
+returns g c = λ h.
+    let m = c.characters.invariant.part h in
+    let none : chars_left c.characters.places ≡ [] = rw c.in_default.is at (c.in_ok-here.ensures.step m.front m.passed) in
+    sym (ap (λ (l : List ℕ). part_from (places_reading c.args.places) c.args.text.now c.args.count c.characters.start c.characters.passed l) none) ∙ m.part

@@ -6,6 +6,5 @@ use Rattle.icu_collator.proofs.collator.Collator.with_options.Goals as goal
 pub invariant_of-result : goal.invariant_of-result
 invariant_of-result c = record {
   backward = search rules;
-  names = c.args.self.names;
   known = facts_stay (checked_tables c.args.self.tables) c.args.self.kept_facts _ _ _ _ c.numeric.ensures c.numeric-2.ensures c.if-numeric.false c.args.self.known;
 }

@@ -10,5 +10,4 @@ invariant_of-result c = record {
   levels = c.key_form.ensures;
   variable = c.last_variable.ensures;
   asked = c.args.self.now.asked;
-  names = c.args.self.now.names;
 }

@@ -1,5 +1,5 @@
 use Rattle.icu_element_cursor.specs.Cursors.{cursor_reading}
-use Rattle.icu_element_cursor.proofs.PieceLemmas.{may_be_cut}
+use Rattle.icu_element_reading.proofs.boundaries.CutPartLemmas.{may_be_cut}
 use Rattle.icu_element_cursor.proofs.cursor_tables.CursorTables.has_boundary_before.Goals as goal
 
 pub returns-in-Nothing : goal.returns-in-Nothing

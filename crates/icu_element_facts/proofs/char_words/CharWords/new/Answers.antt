@@ -1,5 +1,5 @@
 -- No block is made yet.
-use Rattle.icu_element_facts.specs.BoundaryTables.{boundary_reading}
+use Rattle.icu_element_reading.specs.boundaries.BoundaryTables.{boundary_reading}
 use Rattle.icu_element_facts.proofs.char_words.CharWords.new.Goals as goal
 
 pub loop-index-init : goal.loop-index-init

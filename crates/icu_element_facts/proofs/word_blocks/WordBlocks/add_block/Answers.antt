@@ -1,6 +1,6 @@
 -- The next block is one that many share, or its words are made.
 use Rattle.std.proofs.Common.{ℕ, ◌+◌, ◌*◌, ◌<◌, subst}
-use Rattle.icu_element_facts.specs.BoundaryTables.{boundary_reading}
+use Rattle.icu_element_reading.specs.boundaries.BoundaryTables.{boundary_reading}
 use Rattle.icu_element_facts.specs.KeptFacts.{IsOwn}
 use Rattle.icu_element_facts.proofs.word_blocks.WordBlocks.add_block.Goals as goal
 

@@ -1,6 +1,6 @@
 -- Facts were added, and then the words of a block.
 use Rattle.std.proofs.Common.{ℕ, List, ◌*◌, sym, subst}
-use Rattle.icu_element_facts.specs.BoundaryTables.{boundary_reading}
+use Rattle.icu_element_reading.specs.boundaries.BoundaryTables.{boundary_reading}
 use Rattle.icu_element_facts.specs.inner.WordBlocks.{AreBlocks, AreWordsFrom}
 use Rattle.icu_element_facts.specs.declared.char_facts.CharFacts.{CharFacts}
 use Rattle.icu_element_facts.proofs.CharWordLemmas.{facts_added}

@@ -1,4 +1,4 @@
-use Rattle.icu_order_levels.proofs.beginnings.PrimaryPlaces.{primaries_kept}
+use Rattle.icu_order_levels.proofs.PrimaryOrder.{primaries_kept}
 use Rattle.icu_order_levels.proofs.beginnings.laws.bytes_begin_as_primaries.Goals as goal
 
 pub returns : goal.returns

@@ -1,7 +1,8 @@
 -- The keys of an entry's elements come one after another.
 use Rattle.std.proofs.Common.{◌∙◌, sym}
+use Rattle.icu_table_data.proofs.WalkLemmas.{on_ok}
 use Rattle.icu_table_data.specs.StoredData.{data_of}
-use Rattle.icu_rule_root.proofs.KeyCollectionLemmas.{keys_stated, on_ok}
+use Rattle.icu_rule_root.proofs.KeyCollectionLemmas.{keys_stated}
 use Rattle.icu_rule_root.proofs.key_collector.KeyCollectorVisit.visit.Goals as goal
 
 pub returns-then-is_stated : goal.returns-then-is_stated

@@ -4,9 +4,9 @@ use Rattle.std.specs.Prelude.{◌&&◌, nat_le}
 use Rattle.std.specs.List.Sorted.{IsPermutation}
 use Rattle.std.proofs.lemmas.List.{drop_all}
 use Rattle.std.proofs.lemmas.List.Sorted.{list_any-IsPermutation}
+use Rattle.std.proofs.Math.Bool.{or-false}
 use Rattle.icu_rule_parser.specs.declared.statement.CharacterRange.{CharacterRange}
 use Rattle.icu_rule_meaning.specs.Rules.{have_character}
-use Rattle.icu_rule_tables.proofs.tailored_entries.TailoredCharacterLemmas.{or_none}
 use Rattle.icu_rule_tables.proofs.tailored_entries.merged_ranges.merged_ranges.Goals as goal
 
 pub returns : goal.returns
@@ -15,7 +15,7 @@ returns c x =
     let i : ℕ = c.loop-range.range-index in
     let merged : List CharacterRange = c.loop-range.merged.items in
     let moved : IsPermutation c.in_ok-sorted.sorted.items c.sort_by_key.new.self.items = c.in_ok-sort_by_key.ensures.permutation in
-    sym (or_none (have_character merged x))
+    sym (or-false (have_character merged x))
     ∙ ap (λ (rs : List CharacterRange). have_character merged x || have_character rs x) (sym (drop_all i ranges c.loop-range-test.false))
     ∙ c.loop-range.invariant x
     ∙ ap (λ (rs : List CharacterRange). have_character rs x) c.deref-range-items.ensures.value

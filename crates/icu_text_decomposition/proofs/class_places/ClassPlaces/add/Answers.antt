@@ -1,10 +1,11 @@
 use Rattle.std.proofs.Common.{◌≡◌, ◌≢◌, true, false, is_some, subst, sym, ap, ◌∙◌, arith, inl, inr, refl}
+use Rattle.std.proofs.lemmas.Bool.{cases_eq}
 use Rattle.ucd_normal.specs.CanonicalCombiningClass.{canonical_combining_class as class_of}
 use Rattle.icu_text_decomposition.specs.inner.ClassNumbers.{IsUsedClass}
 use Rattle.icu_text_decomposition.specs.inner.ClassPlaces.{places_of, found_left}
 use Rattle.icu_text_decomposition.specs.inner.Parts.{parts_left}
 use Rattle.icu_text_decomposition.proofs.ClassNumberLemmas.{mark_class-is_used}
-use Rattle.icu_text_decomposition.proofs.ClassPlaceLemmas.{cases_eq, found_other, found_before, found_first}
+use Rattle.icu_text_decomposition.proofs.ClassPlaceLemmas.{found_other, found_before, found_first}
 use Rattle.icu_text_decomposition.proofs.class_places.ClassPlaces.add.Goals as goal
 
 pub returns-then-class-above : goal.returns-then-class-above

@@ -1,6 +1,6 @@
 use Rattle.std.proofs.Common.{◌∙◌, inl, inr}
+use Rattle.std.proofs.lemmas.Bool.{cases_lt}
 use Rattle.icu_text_decomposition.specs.inner.ClassNumbers.{class_number}
-use Rattle.icu_text_decomposition.proofs.BeginningMarkLemmas.{cases_lt}
 use Rattle.icu_text_decomposition.proofs.ClassPlaceLemmas.{used_place, unused_place}
 use Rattle.icu_text_decomposition.proofs.class_places.ClassPlaces.new.Goals as goal
 

@@ -1,4 +1,5 @@
 use Rattle.std.proofs.Common.{◌≡◌, ◌++◌, ℕ, List, rules, refl, sym, ap, ◌∙◌}
+use Rattle.std.proofs.Math.Bool.{or-false}
 use mathlib.Core.Path.{fun_ext}
 use Rattle.std.specs.Prelude.{map}
 use Rattle.std.specs.Option.{is_some}
@@ -11,7 +12,7 @@ use Rattle.icu_rule_steps.specs.symbolic_mappings.StoredMappings.{suppressed_at}
 use Rattle.icu_rule_steps.specs.symbolic_mappings.KeptMappings.{mappings_in, own_or, untouched_mappings}
 use Rattle.icu_rule_steps.specs.symbolic_mappings.TouchedCharacters.{touched_in}
 use Rattle.icu_rule_steps.proofs.symbolic_mappings.KeptMappingLemmas.{retained_at, suppressed_more}
-use Rattle.icu_rule_steps.proofs.symbolic_mappings.TouchedLemmas.{or_false, retained_touched}
+use Rattle.icu_rule_steps.proofs.symbolic_mappings.TouchedLemmas.{retained_touched}
 use Rattle.icu_rule_steps.proofs.symbolic_mappings.kept_mappings.Mappings.suppression_step.Goals as goal
 
 pub returns-clause-mappings : goal.returns-clause-mappings
@@ -32,7 +33,7 @@ unfolding touched_in
 returns-clause-touched g c = record {
   touched = λ q.
       retained_touched _ _ c.args.ranges.now (λ k v b w h t. search rules) c.args.self.now.touched.entries c.retain.new.self.entries c.retain.ensures.filtered q
-      ∙ sym (or_false (is_some (get nat_cmp c.args.self.now.touched q)));
+      ∙ sym (or-false (is_some (get nat_cmp c.args.self.now.touched q)));
   suppressed = c.in_ok-extend_from_slice.ensures.items;
   over = refl;
 }

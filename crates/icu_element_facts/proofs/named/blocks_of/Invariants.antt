@@ -1,7 +1,0 @@
-use Rattle.std.proofs.Common.{◌≡◌, length}
-use Rattle.icu_element_facts.specs.inner.NamedBlocks.{AreFirstInBlocks}
-use Rattle.icu_element_facts.proofs.named.blocks_of.Given as goal
-
--- the blocks of the characters passed are marked
-abbrev pub invariant-loop-c : goal.invariant-loop-c
-invariant-loop-c l = (length l.blocks.items ≡ 0x4400) × AreFirstInBlocks l.c-index l.chars l.blocks.items
