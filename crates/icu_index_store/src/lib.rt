@@ -2,6 +2,7 @@
 #![tactic(auto)]
 
 pub mod laws;
+pub mod open_error;
 pub mod opening;
 pub mod printed_collator;
 pub mod rebuilding;
@@ -13,7 +14,8 @@ pub mod stored_names;
 pub mod stored_rows;
 
 pub use crate::stored_names::StoredName;
-pub use opening::{FingerprintDifference, OpenError, open};
+pub use open_error::{FingerprintDifference, OpenError};
+pub use opening::open;
 pub use printed_collator::PrintedCollator;
 pub use rebuilding::rebuild;
 pub use setting_words::written_settings;

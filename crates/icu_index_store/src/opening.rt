@@ -6,58 +6,13 @@ ghost use Rattle.sqlite.specs.Held.{state};
 ghost use Rattle.sqlite.specs.State.{HasCleanDisk, KeepsCommit, Survives};
 ghost use Rattle.icu_index_store.specs.Stores.{printed_collation, store_collation};
 
+use crate::open_error::{FingerprintDifference, OpenError};
 use crate::printed_collator::PrintedCollator;
 use crate::setting_words::written_settings;
 use crate::stored_index::StoredIndex;
 use crate::stored_names::{KeptFingerprint, keep_fingerprint, kept_fingerprint, make_tables};
 use sqlite::{Alter, Connection, Error, ErrorCode, Transaction};
 use std::alloc::{AllocError, Global};
-use std::fmt;
-
-/// What the keys of a database were made by, and what they were to be made by.
-#[derive(Debug, Drop)]
-pub struct FingerprintDifference {
-    /// The settings of the keys that are there.
-    pub stored: String,
-    /// The settings of the collator that the index was to be opened with.
-    pub wanted: String,
-}
-
-impl fmt::Display for FingerprintDifference {
-    fn fmt<W: fmt::Write>(&self, f: &mut fmt::Formatter<W>) -> fmt::Result {
-        let stored = self.stored.as_str();
-        let wanted = self.wanted.as_str();
-        if stored == wanted {
-            return write!(
-                f,
-                "its keys were made by other tables with the same settings ({stored})"
-            );
-        }
-        write!(f, "its keys were made with {stored}, and not with {wanted}")
-    }
-}
-
-/// Why an index isn't opened.
-#[derive(Debug, Drop)]
-pub enum OpenError {
-    /// The database refused a statement, or failed.
-    Database(Error),
-    /// The keys were made by other tables or settings: make them anew by `rebuild`, or take the collator that they
-    /// were made by.
-    Differs(FingerprintDifference),
-}
-
-impl From<Error> for OpenError {
-    fn from(error: Error) -> OpenError {
-        OpenError::Database(error)
-    }
-}
-
-impl From<AllocError> for OpenError {
-    fn from(error: AllocError) -> OpenError {
-        OpenError::Database(Error::from(error))
-    }
-}
 
 /// The index that a collator orders.
 pub(crate) fn index_of(alloc: Global, collator: &PrintedCollator) -> StoredIndex<'_>

@@ -1,6 +1,7 @@
 -- Lists that rise, joined, and places that begin alike.
 use Rattle.std.proofs.Common.{◌≡◌, ◌≢◌, ℕ, zero, suc, ◌<◌, ◌≤◌, Bool, true, false, List, [], ◌∷◌, ◌++◌, drop, get_or, length, take, nat_eq, if◌then◌else◌, refl, ap, arith, add-one}
 use Rattle.std.proofs.lemmas.Bool.Decides.{nat_tests}
+use Rattle.icu_table_data.proofs.ListLemmas.{all_append, all_second, weaker}
 use Rattle.line_sorts.proofs.KeyBufferLemmas.{of_eq, eq_of}
 use Rattle.std.specs.Cmp.{IsStrictWeakOrder}
 use Rattle.std.specs.List.{AllByRecursion}
@@ -15,24 +16,6 @@ use Rattle.line_sorts.specs.inner.SettledPlaces.{first_alike, first_run, front_o
 pub appended : {X T E : Type 0} (r : Result T E) (zs xs ys : List X) → zs ≡ (if is_ok r then xs else ys) → OnOk r (zs ≡ xs)
 appended (Ok x) zs xs ys h = h
 appended (Err e) zs xs ys h = tt
-
--- ---- what holds of each
-
-pub all_weaker : {X : Type 0} (P Q : X → Type 0) → ((x : X) → P x → Q x) → (xs : List X) → AllByRecursion P xs → AllByRecursion Q xs
-all_weaker P Q f [] h = tt
-all_weaker P Q f (x ∷ xs) h = (f x h.0, all_weaker P Q f xs h.1)
-
-pub all_append : {X : Type 0} (P : X → Type 0) (xs ys : List X) → AllByRecursion P xs → AllByRecursion P ys → AllByRecursion P (xs ++ ys)
-all_append P [] ys h g = g
-all_append P (x ∷ xs) ys h g = (h.0, all_append P xs ys h.1 g)
-
-pub all_front : {X : Type 0} (P : X → Type 0) (xs ys : List X) → AllByRecursion P (xs ++ ys) → AllByRecursion P xs
-all_front P [] ys h = tt
-all_front P (x ∷ xs) ys h = (h.0, all_front P xs ys h.1)
-
-pub all_back : {X : Type 0} (P : X → Type 0) (xs ys : List X) → AllByRecursion P (xs ++ ys) → AllByRecursion P ys
-all_back P [] ys h = h
-all_back P (x ∷ xs) ys h = all_back P xs ys h.1
 
 -- ---- lists that rise
 
@@ -56,7 +39,7 @@ module _ {X : Type 0} (lt : X → X → Bool) where
 
   pub rises_across : (xs ys : List X) → Rises lt (xs ++ ys) → Follow xs ys
   rises_across [] ys h = tt
-  rises_across (x ∷ xs) ys h = (all_back (λ y. lt y x ≡ false) xs ys h.0, rises_across xs ys h.1)
+  rises_across (x ∷ xs) ys h = (all_second (λ y. lt y x ≡ false) xs ys h.0, rises_across xs ys h.1)
 
   rises_step : (xs : List X) → Rises lt xs → (k : ℕ) (d : X) → suc k < length xs → lt (get_or xs (suc k) d) (get_or xs k d) ≡ false
   rises_step [] r k d h = absurd (omega (arith, h))
@@ -77,7 +60,7 @@ module _ {X : Type 0} (lt : X → X → Bool) where
   sorted_rises weak (x ∷ y ∷ zs) h =
       let more = sorted_rises weak (y ∷ zs) (sorted_tail x (y ∷ zs) h) in
       let first : lt y x ≡ false = h 0 x (omega arith) (omega arith) in
-      ((first, all_weaker (λ z. lt z y ≡ false) (λ z. lt z x ≡ false) (λ z e. weak.chain z y x e first) zs more.0), more)
+      ((first, weaker (λ z. lt z y ≡ false) (λ z. lt z x ≡ false) (λ z e. weak.chain z y x e first) zs more.0), more)
 
 -- ---- places that begin alike
 

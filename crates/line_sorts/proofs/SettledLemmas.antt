@@ -14,7 +14,8 @@ use Rattle.line_sorts.proofs.FrontOrderLemmas.{apart_behind, front_total, stands
 use Rattle.line_sorts.proofs.LineOrderLemmas.{keyed_total}
 use Rattle.line_sorts.proofs.LinePlaceLemmas.{second_order}
 use Rattle.line_sorts.proofs.MappedOrderLemmas.{all_still, ascends_mapped, stable_mapped}
-use Rattle.line_sorts.proofs.RunLemmas.{Follow, Rises, StartsOtherwise, all_append, all_back, all_front, all_weaker, are_alike, rises_across, rises_append, rises_back, rises_sorted, run_and_rest, run_has_some, run_is_some, sorted_rises, starts_otherwise}
+use Rattle.icu_table_data.proofs.ListLemmas.{all_append, all_first, all_second, weaker}
+use Rattle.line_sorts.proofs.RunLemmas.{Follow, Rises, StartsOtherwise, are_alike, rises_across, rises_append, rises_back, rises_sorted, run_and_rest, run_has_some, run_is_some, sorted_rises, starts_otherwise}
 use Rattle.line_sorts.specs.KeyBuffers.{LineView, place_pair, pairs_at}
 use Rattle.line_sorts.specs.KeyedOrders.{keyed_order}
 use Rattle.line_sorts.specs.declared.line_order.Direction.{Direction}
@@ -49,10 +50,10 @@ rest_apart : (d : Direction) (f : ℕ) (run after : List LinePlace) → AllByRec
 rest_apart d f [] after alike some otherwise rises = absurd (omega (arith, some))
 rest_apart d f (r ∷ rs) [] alike some otherwise rises = tt
 rest_apart d f (r ∷ rs) (a ∷ bs) alike some otherwise rises =
-    let behind : front_less d a r ≡ false = (all_back (λ y. front_less d y r ≡ false) rs (a ∷ bs) rises.0).0 in
+    let behind : front_less d a r ≡ false = (all_second (λ y. front_less d y r ≡ false) rs (a ∷ bs) rises.0).0 in
     let later = (rises_back (front_less d) rs (a ∷ bs) rises.1).0 in
     let apart : a.front ≢ r.front = λ e. otherwise (e ∙ alike.0) in
-    (otherwise, all_weaker (λ y. y.front ≢ r.front) (λ y. y.front ≢ f) (λ y h e. h (e ∙ sym alike.0)) bs (later_apart d r a bs apart behind later))
+    (otherwise, weaker (λ y. y.front ≢ r.front) (λ y. y.front ≢ f) (λ y h e. h (e ∙ sym alike.0)) bs (later_apart d r a bs apart behind later))
 
 module _ (k : LineView) (o : LineOrder) where
   weak_keys : IsStrictWeakOrder (key_less o)
@@ -120,7 +121,7 @@ module _ (k : LineView) (o : LineOrder) where
       let less = key_less o in
       let apart = rest_apart o.direction f run after alike some otherwise h.fronts in
       let follow : Follow less (pairs_at k run) (pairs_at k after) =
-      behind_run f run after (all_front (IsLinePlace k) run after h.right) alike (all_back (IsLinePlace k) run after h.right)
+      behind_run f run after (all_first (IsLinePlace k) run after h.right) alike (all_second (IsLinePlace k) run after h.right)
       (rises_across (front_less o.direction) run after h.fronts) apart in
       let behind : Follow less (pairs_at k settled) (pairs_at k run ++ pairs_at k after) =
       subst (λ (ps : List (List ℕ × List ℕ)). Follow less (pairs_at k settled) ps) (pair run after) h.before in
@@ -132,8 +133,8 @@ module _ (k : LineView) (o : LineOrder) where
             (IsPermutation-append (pairs_at k h.done) (pairs_at k settled) (pairs_at k run) (pairs_at k ys) h.moved s.moved));
         rises = subst (λ (ps : List (List ℕ × List ℕ)). Rises less ps) (sym (pair settled ys))
             (rises_append less (pairs_at k settled) (pairs_at k ys) h.rises (sorted_rises less weak_keys (pairs_at k ys) s.ascends)
-            (all_weaker (λ x. AllByRecursion (λ y. less y x ≡ false) (pairs_at k run ++ pairs_at k after)) (λ x. AllByRecursion (λ y. less y x ≡ false) (pairs_at k ys))
-            (λ x g. all_still (λ y. less y x ≡ false) (pairs_at k run) (pairs_at k ys) s.moved (all_front (λ y. less y x ≡ false) (pairs_at k run) (pairs_at k after) g))
+            (weaker (λ x. AllByRecursion (λ y. less y x ≡ false) (pairs_at k run ++ pairs_at k after)) (λ x. AllByRecursion (λ y. less y x ≡ false) (pairs_at k ys))
+            (λ x g. all_still (λ y. less y x ≡ false) (pairs_at k run) (pairs_at k ys) s.moved (all_first (λ y. less y x ≡ false) (pairs_at k run) (pairs_at k after) g))
             (pairs_at k settled) behind));
         stable = λ z.
             let tie = ties less z in
@@ -145,10 +146,10 @@ module _ (k : LineView) (o : LineOrder) where
             ∙ ap (filter tie) (sym (pair h.done run))))));
         before = subst (λ (ps : List (List ℕ × List ℕ)). Follow less ps (pairs_at k after)) (sym (pair settled ys))
             (all_append (λ x. AllByRecursion (λ y. less y x ≡ false) (pairs_at k after)) (pairs_at k settled) (pairs_at k ys)
-            (all_weaker (λ x. AllByRecursion (λ y. less y x ≡ false) (pairs_at k run ++ pairs_at k after)) (λ x. AllByRecursion (λ y. less y x ≡ false) (pairs_at k after))
-            (λ x g. all_back (λ y. less y x ≡ false) (pairs_at k run) (pairs_at k after) g) (pairs_at k settled) behind)
+            (weaker (λ x. AllByRecursion (λ y. less y x ≡ false) (pairs_at k run ++ pairs_at k after)) (λ x. AllByRecursion (λ y. less y x ≡ false) (pairs_at k after))
+            (λ x g. all_second (λ y. less y x ≡ false) (pairs_at k run) (pairs_at k after) g) (pairs_at k settled) behind)
             (all_still (λ x. AllByRecursion (λ y. less y x ≡ false) (pairs_at k after)) (pairs_at k run) (pairs_at k ys) s.moved follow));
-        right = all_back (IsLinePlace k) run after h.right;
+        right = all_second (IsLinePlace k) run after h.right;
         fronts = rises_back (front_less o.direction) run after h.fronts;
       }
 
@@ -188,7 +189,7 @@ module _ (k : LineView) (o : LineOrder) where
       let right : AllByRecursion (IsLinePlace k) (take n rest ++ drop n rest) =
       subst (λ (ps : List LinePlace). AllByRecursion (IsLinePlace k) ps) (sym (run_and_rest n rest)) h.right in (
         f,
-        both_hold f (take n rest) (all_front (IsLinePlace k) (take n rest) (drop n rest) right)
+        both_hold f (take n rest) (all_first (IsLinePlace k) (take n rest) (drop n rest) right)
             (subst (λ m. AllByRecursion (λ p. p.front ≡ f) (take m rest)) (sym e) (are_alike f rest)),
       )
 

@@ -34,9 +34,6 @@ all_map P Q f (k ∷ ks) h = (f k h.0, all_map P Q f ks h.1)
 same_bytes : (xs ys : List ℕ) → bytes_eq xs ys ≡ true → xs ≡ ys
 same_bytes xs ys h = (bytes_eq-Decides xs ys).0 h
 
-own_bytes : (xs : List ℕ) → bytes_eq xs xs ≡ true
-own_bytes xs = (bytes_eq-Decides xs xs).1 refl
-
 module _ (key : List ℕ → List ℕ) where
   -- the key is that of the name
   abbrev HasKey : KeptName → Type 0
@@ -52,7 +49,7 @@ module _ (key : List ℕ → List ℕ) where
       at : (b : Bool) → bytes_eq k.name name ≡ b → (bytes_eq k.key (key name) && b) ≡ b
       at true e =
           let one : k.key ≡ key name = has ∙ ap key (same_bytes k.name name e) in
-          ap (λ b. b && true) (ap (λ x. bytes_eq x (key name)) one ∙ own_bytes (key name))
+          ap (λ b. b && true) (ap (λ x. bytes_eq x (key name)) one ∙ (bytes_eq-Decides (key name) (key name)).1 refl)
       at false e = both_false (bytes_eq k.key (key name))
         where
           both_false : (b : Bool) → (b && false) ≡ false

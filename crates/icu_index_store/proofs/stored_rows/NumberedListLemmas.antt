@@ -8,6 +8,7 @@ use Rattle.std.proofs.lemmas.List.Sorted.{All-permutation, IsPermutation-keeps, 
 use Rattle.std.specs.Cmp.{IsStrictWeakOrder}
 use Rattle.std.specs.List.{AllByRecursion}
 use Rattle.std.specs.List.Sorted.{IsSortedBy}
+use Rattle.icu_table_data.proofs.ListLemmas.{weaker}
 use Rattle.sqlite_rules.proofs.ListLemmas.{all_from, all_has}
 use Rattle.sqlite_rules.specs.Lists.{Has}
 use Rattle.sqlite_trees.proofs.ListLemmas.{IsPermutation-filter}
@@ -70,10 +71,6 @@ all_filter P p (x ∷ xs) h = at (p x) (all_filter P p xs h.1)
     at true more = (h.0, more)
     at false more = more
 
-pub all_weaker : {X : Type 0} (P Q : X → Type 0) → ((x : X) → P x → Q x) → (xs : List X) → AllByRecursion P xs → AllByRecursion Q xs
-all_weaker P Q f [] h = tt
-all_weaker P Q f (x ∷ xs) h = (f x h.0, all_weaker P Q f xs h.1)
-
 pub ascending_filter : {X : Type 0} (R : X → X → Type 0) (p : X → Bool) (xs : List X) → IsAscending R xs → IsAscending R (filter p xs)
 ascending_filter R p [] h = tt
 ascending_filter R p (x ∷ xs) h = at (p x) (ascending_filter R p xs h.1)
@@ -131,7 +128,7 @@ module _ {X : Type 0} (number : X → ℕ) where
       at : (b : Bool) → (number x == n) ≡ b → length (filter (has_number n) xs) ≤ 1 → length (cond b (x ∷ filter (has_number n) xs) (filter (has_number n) xs)) ≤ 1
       at true e more =
           let same : number x ≡ n = grind (arith, nat_tests) in
-          let none = pass_none (has_number n) xs (all_weaker (λ y. number x < number y) (λ y. has_number n y ≡ false)
+          let none = pass_none (has_number n) xs (weaker (λ y. number x < number y) (λ y. has_number n y ≡ false)
           (λ y up. unequal_test (number y) n (λ e. absurd (omega arith))) xs r.0) in
           omega (arith, ap length none)
       at false e more = more
@@ -139,7 +136,7 @@ module _ {X : Type 0} (number : X → ℕ) where
   apart_by_counts : (xs : List X) → ((n : ℕ) → length (filter (has_number n) xs) ≤ 1) → AreApart xs
   apart_by_counts [] once = tt
   apart_by_counts (x ∷ xs) once = (
-    all_weaker (λ y. has_number (number x) y ≡ false) (λ y. number y ≢ number x) (λ y no same. absurd (true≢false (sym (equal_test (number y) (number x) same) ∙ no))) xs
+    weaker (λ y. has_number (number x) y ≡ false) (λ y. number y ≢ number x) (λ y no same. absurd (true≢false (sym (equal_test (number y) (number x) same) ∙ no))) xs
         (none_pass (has_number (number x)) xs (here (number x == number x) (equal_test (number x) (number x) refl) (once (number x)))),
     apart_by_counts xs (λ n. less (has_number n x) n (once n)),
   )
@@ -173,4 +170,4 @@ module _ {X : Type 0} (lt : X → X → Bool) (weak : IsStrictWeakOrder lt) wher
   none_falls (x ∷ y ∷ zs) h =
       let more = none_falls (y ∷ zs) (sorted_tail x (y ∷ zs) h) in
       let first : lt y x ≡ false = h 0 x (omega arith) (omega arith) in
-      ((first, all_weaker (λ z. lt z y ≡ false) (λ z. lt z x ≡ false) (λ z e. weak.chain z y x e first) zs more.0), more)
+      ((first, weaker (λ z. lt z y ≡ false) (λ z. lt z x ≡ false) (λ z e. weak.chain z y x e first) zs more.0), more)

@@ -6,7 +6,7 @@ use Rattle.std.specs.List.{AllByRecursion}
 use Rattle.sqlite.specs.Held.{state}
 use Rattle.sqlite_trees.proofs.ListLemmas.{map-map}
 use Rattle.sqlite_trees.specs.declared.store.Store.{Ghosts}
-use Rattle.icu_index_store.proofs.stored_rows.NumberedListLemmas.{all_weaker}
+use Rattle.icu_table_data.proofs.ListLemmas.{weaker}
 use Rattle.icu_index_store.proofs.stored_rows.RanStatements.{steps_leave}
 use Rattle.icu_index_store.specs.stored_rows.KeptNames.{KeptName, NameStep, AreNumbered, Keeps, key_given, left_by, left_by_all, other_print, rekeyed, rekeying, under_key}
 use Rattle.icu_index_store.specs.stored_rows.RowLaws.{NamesAreRekeyed}
@@ -44,7 +44,7 @@ module _ (key : List ℕ → List ℕ) where
   own : (k : KeptName) (ks : List KeptName) → AllByRecursion (λ j. k.number < j.number) ks → given_by (k ∷ ks) k ≡ under_key key k
   own k ks up =
       ap (λ b. given_by ks (cond b (under_key key k) k)) (eq-eqb k.number k.number refl)
-      ∙ passed_over ks (under_key key k) (all_weaker (λ j. k.number < j.number) (λ j. (k.number == j.number) ≡ false) (λ j low. apart_test k.number j.number low) ks up)
+      ∙ passed_over ks (under_key key k) (weaker (λ j. k.number < j.number) (λ j. (k.number == j.number) ≡ false) (λ j low. apart_test k.number j.number low) ks up)
 
   later : (k : KeptName) (ks xs : List KeptName) → AllByRecursion (λ j. k.number < j.number) xs → AllByRecursion (λ x. given_by ks x ≡ under_key key x) xs
       → AllByRecursion (λ x. given_by (k ∷ ks) x ≡ under_key key x) xs

@@ -28,7 +28,8 @@ use Rattle.sqlite_value.specs.declared.value.Value.TheVariants.{Blob, Int, Null}
 use Rattle.icu_index_store.specs.stored_names.StatementTexts.{rekey_text}
 use Rattle.icu_index_store.proofs.stored_rows.InsertedRows.{cast_null, either}
 use Rattle.icu_index_store.proofs.stored_rows.ListedRows.{staged_is}
-use Rattle.icu_index_store.proofs.stored_rows.NumberedListLemmas.{all_filter, all_weaker, pass_none, unmapped}
+use Rattle.icu_table_data.proofs.ListLemmas.{weaker}
+use Rattle.icu_index_store.proofs.stored_rows.NumberedListLemmas.{all_filter, pass_none, unmapped}
 use Rattle.icu_index_store.proofs.stored_rows.RemovedRows.{is_numbered_as, without_one}
 use Rattle.icu_index_store.proofs.stored_rows.StatementMeanings.{number_is, rekey_command, rekey_is, rekey_query}
 use Rattle.icu_index_store.proofs.stored_rows.ValueLemmas.{number_above, number_below, same_ints, same_number, same_value, went}
@@ -103,8 +104,8 @@ module _ (number : ℕ) (key : List ℕ) where
   first_one : (k : KeptName) (ks : List KeptName) → is_number k ≡ true → AllByRecursion (λ j. k.number < j.number) ks → HasOne (k ∷ ks)
   first_one k ks e up =
       let same : k.number ≡ number = eqb-true k.number number e in
-      let others : AllByRecursion (λ j. is_number j ≡ false) ks = all_weaker (λ j. k.number < j.number) (λ j. is_number j ≡ false) (λ j low. ap (λ n. j.number == n) (sym same) ∙ apart_back k.number j.number low) ks up in
-      let kept : AllByRecursion (λ j. not (is_numbered_as j k) ≡ true) ks = all_weaker (λ j. k.number < j.number) (λ j. not (is_numbered_as j k) ≡ true) (λ j low. ap not (apart_back k.number j.number low)) ks up in
+      let others : AllByRecursion (λ j. is_number j ≡ false) ks = weaker (λ j. k.number < j.number) (λ j. is_number j ≡ false) (λ j low. ap (λ n. j.number == n) (sym same) ∙ apart_back k.number j.number low) ks up in
+      let kept : AllByRecursion (λ j. not (is_numbered_as j k) ≡ true) ks = weaker (λ j. k.number < j.number) (λ j. not (is_numbered_as j k) ≡ true) (λ j low. ap not (apart_back k.number j.number low)) ks up in
       let left : filter (λ j. not (is_numbered_as j k)) (k ∷ ks) ≡ ks =
       ap (λ b. cond (not b) (k ∷ filter (λ j. not (is_numbered_as j k)) ks) (filter (λ j. not (is_numbered_as j k)) ks)) (eq-eqb k.number k.number refl)
       ∙ all_pass (λ j. not (is_numbered_as j k)) ks kept in (

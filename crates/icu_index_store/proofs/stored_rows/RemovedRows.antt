@@ -20,7 +20,8 @@ use Rattle.sqlite_trees.specs.Tree.{Trees, has_rowid, without_rowid}
 use Rattle.sqlite_value.specs.Order.{Row}
 use Rattle.sqlite_value.specs.declared.value.Value.TheVariants.{Blob, Int}
 use Rattle.icu_index_store.specs.stored_names.StatementTexts.{remove_named_text}
-use Rattle.icu_index_store.proofs.stored_rows.NumberedListLemmas.{all_filter, all_weaker, ascending_filter, unmapped}
+use Rattle.icu_table_data.proofs.ListLemmas.{weaker}
+use Rattle.icu_index_store.proofs.stored_rows.NumberedListLemmas.{all_filter, ascending_filter, unmapped}
 use Rattle.icu_index_store.proofs.stored_rows.ListedRows.{staged_is}
 use Rattle.icu_index_store.proofs.stored_rows.StatementMeanings.{key_is, name_is, removal_command, removal_is, removal_query}
 use Rattle.icu_index_store.proofs.stored_rows.ValueLemmas.{same_blobs, same_number, same_value, went}
@@ -136,7 +137,7 @@ module _ (key name : List ℕ) where
       let found = found_by_number (is_this_name key name) kept numbered in
       without_numbers gone kept
       ∙ ap (map row_of) (same_filter (λ k. list_any (is_numbered_as k) gone) (is_this_name key name) kept
-      (all_weaker (λ k. list_any (is_numbered_as k) (filter (is_this_name key name) kept) ≡ is_this_name key name k) (λ k. list_any (is_numbered_as k) gone ≡ is_this_name key name k)
+      (weaker (λ k. list_any (is_numbered_as k) (filter (is_this_name key name) kept) ≡ is_this_name key name k) (λ k. list_any (is_numbered_as k) gone ≡ is_this_name key name k)
       (λ k e. sym (list_any-IsPermutation (is_numbered_as k) (filter (is_this_name key name) kept) gone moved) ∙ e) kept found))
 
   pub removes : (old new : State) (count : ℕ) (kept : List KeptName) → Keeps old.now kept → Executes remove_named_text params old new (Ok count) → Keeps new.now (without_named key name kept)

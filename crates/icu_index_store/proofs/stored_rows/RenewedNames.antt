@@ -3,7 +3,7 @@ use Rattle.std.proofs.Common.{◌≡◌, ℕ, ℤ, pos, negsuc, int_lt, ◌<◌,
 use Rattle.std.proofs.lemmas.Bool.{eq-eqb}
 use Rattle.std.proofs.lemmas.Int.{ints}
 use Rattle.std.specs.List.{AllByRecursion}
-use Rattle.icu_index_store.proofs.stored_rows.NumberedListLemmas.{all_weaker}
+use Rattle.icu_table_data.proofs.ListLemmas.{weaker}
 use Rattle.icu_index_store.proofs.stored_rows.RekeyedRows.{untouched, apart_test, apart_back}
 use Rattle.icu_index_store.specs.stored_rows.KeptNames.{KeptName, AreNumbered, is_above, key_given, names_above, renewed_up_to, under_key, with_other_key}
 
@@ -83,11 +83,11 @@ module _ (key : List ℕ → List ℕ) where
   first_next : (b : ℤ) (k : KeptName) (ks : List KeptName) → is_above b k ≡ true → AllByRecursion (λ j. k.number < j.number) ks → GoesOn b (k ∷ ks) k ks
   first_next b k ks e up =
       let above_b : AllByRecursion (λ j. is_above b j ≡ true) ks =
-      all_weaker (λ j. k.number < j.number) (λ j. is_above b j ≡ true) (λ j low. above_next b k.number j.number e low) ks up in
+      weaker (λ j. k.number < j.number) (λ j. is_above b j ≡ true) (λ j low. above_next b k.number j.number e low) ks up in
       let above_k : AllByRecursion (λ j. is_above (pos k.number) j ≡ true) ks =
-      all_weaker (λ j. k.number < j.number) (λ j. is_above (pos k.number) j ≡ true) (λ j low. is_next k.number j.number low) ks up in
+      weaker (λ j. k.number < j.number) (λ j. is_above (pos k.number) j ≡ true) (λ j low. is_next k.number j.number low) ks up in
       let others : AllByRecursion (λ j. (j.number == k.number) ≡ false) ks =
-      all_weaker (λ j. k.number < j.number) (λ j. (j.number == k.number) ≡ false) (λ j low. apart_back k.number j.number low) ks up in
+      weaker (λ j. k.number < j.number) (λ j. (j.number == k.number) ≡ false) (λ j low. apart_back k.number j.number low) ks up in
       let itself : is_above (pos k.number) k ≡ false = not_above k.number k.number (omega arith) in (
         ap₂ (λ j l. key_given k.number (key k.name) j ∷ with_other_key k.number (key k.name) l) (ap (λ t. cond t k (under_key key k)) e) (as_they_are b ks above_b)
             ∙ (ap₂ (λ t l. cond t (under_key key k) k ∷ l) (eq-eqb k.number k.number refl) (untouched k.number (key k.name) ks others)
@@ -119,7 +119,7 @@ module _ (key : List ℕ → List ℕ) where
       at : (t : Bool) → is_above b k ≡ t → (names_above b ks ≡ next ∷ rest → GoesOn b ks next rest) → cond t (k ∷ names_above b ks) (names_above b ks) ≡ next ∷ rest → GoesOn b (k ∷ ks) next rest
       at true e more h =
           let above_b : AllByRecursion (λ j. is_above b j ≡ true) ks =
-          all_weaker (λ j. k.number < j.number) (λ j. is_above b j ≡ true) (λ j low. above_next b k.number j.number e low) ks order.0 in
+          weaker (λ j. k.number < j.number) (λ j. is_above b j ≡ true) (λ j low. above_next b k.number j.number e low) ks order.0 in
           let all : names_above b ks ≡ ks = all_pass b ks above_b in
           let same : k ≡ next = cc in
           let behind : ks ≡ rest = sym all ∙ (let it : names_above b ks ≡ rest = cc in it) in

@@ -13,6 +13,7 @@ use Rattle.icu_table_entries.specs.declared.entry.EntryKind.TheVariants.{Contrac
 use Rattle.icu_table_data.specs.Data.{Data, Mapping, Context, homed, context_of, mapping_entry, better, longest_from, longest_mapping}
 use Rattle.icu_element_matches.specs.Matches.{Match, is_blocked, with_marks, contracted, match_from}
 use Rattle.icu_element_matches.proofs.CharacterOrderLemmas.{same_lists}
+use Rattle.icu_element_matches.proofs.MappingLemmas.{same_mapping}
 use Rattle.icu_rule_root.specs.RootEntries.{entry_elements}
 use Rattle.icu_rule_meaning.specs.declared.symbolic.SymbolicElement.{SymbolicElement}
 use Rattle.icu_rule_meaning.specs.TailoredMappings.{SymbolicMapping, SymbolicMatch, longer_mapping, longest_suffix, mapping_with, is_blocked_by, joined_marks, match_by}
@@ -88,13 +89,8 @@ unfolding longest_from
 with_default best [] e text = default_last best e text
 with_default best (m ∷ mappings) e text = with_default (better best m text) mappings e text
 
-value_or : Mapping → Option Mapping → Mapping
-value_or m None = m
-value_or m (Some x) = x
-
 some_is : (x y : Mapping) → Some x ≡ Some y → x ≡ y
-unfolding value_or
-some_is x y e = ap (value_or x) e
+some_is x y e = same_mapping (Some x) x y refl e
 
 chosen_match : (context : Context) (text : List ℕ) (o : Option Mapping) (m : Mapping)
     → option_or o (Some (default_mapping context)) ≡ Some m

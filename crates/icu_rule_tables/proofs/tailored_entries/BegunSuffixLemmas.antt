@@ -12,9 +12,6 @@ use Rattle.icu_rule_meaning.specs.TailoredMappings.{SymbolicMapping, begin_suffi
 abbrev pub begin_chars : List SymbolicMapping → List ℕ → Bool
 begin_chars own after = list_any (λ (m : SymbolicMapping). starts_with nat_eq after m.suffix) own
 
-itself : (xs : List ℕ) → bytes_eq xs xs ≡ true
-itself xs = (bytes_eq-Decides xs xs).1 refl
-
 -- ---- finding a suffix
 
 -- the first mapping is found, or one of those behind it
@@ -35,7 +32,7 @@ found_suffix (x ∷ ms) after m h = here (found_here (bytes_eq x.suffix after) x
 pub without_suffixes : (ms : List SymbolicMapping) → ((after : List ℕ) → mapping_with ms after ≡ None) → ms ≡ []
 without_suffixes [] none = refl
 without_suffixes (m ∷ ms) none =
-    let found : mapping_with (m ∷ ms) m.suffix ≡ Some m = ap (λ b. if b then Some m else mapping_with ms m.suffix) (itself m.suffix) in
+    let found : mapping_with (m ∷ ms) m.suffix ≡ Some m = ap (λ b. if b then Some m else mapping_with ms m.suffix) ((bytes_eq-Decides m.suffix m.suffix).1 refl) in
     let not_found : mapping_with (m ∷ ms) m.suffix ≡ None = none m.suffix in
     cc
 

@@ -5,6 +5,7 @@ ghost use Rattle.std.specs.Prelude.{◌≡◌};
 use line_sorts::csv_records::FieldsError;
 use line_sorts::{Direction, Repeats};
 use std::alloc::{AllocError, AllocFailed};
+use thiserror::Error;
 
 /// How records are sorted.
 #[derive(Clone, Copy)]
@@ -22,11 +23,13 @@ pub struct CsvRequest<'a> {
 }
 
 /// Why records aren't sorted.
-#[derive(Debug, Clone, Copy, PartialEq, Eq)]
+#[derive(Debug, Clone, Copy, PartialEq, Eq, Error)]
 pub enum CsvError {
     /// An allocation failed.
+    #[error("no memory")]
     NoMemory,
     /// A record doesn't have a column.
+    #[error("the record at index {record} has no column at index {column}")]
     Lacks {
         /// Its index among the records, the header too.
         record: usize,
@@ -34,18 +37,22 @@ pub enum CsvError {
         column: usize,
     },
     /// A quote of the last record isn't closed.
+    #[error("a quote of the record at index {record} isn't closed")]
     Open {
         /// Its index among the records.
         record: usize,
     },
     /// The header doesn't have a column of this name, or there is none to name one.
+    #[error("no column has the name of the word at index {word}")]
     Unnamed {
         /// The index of the word that names it.
         word: usize,
     },
     /// A read failed, as `csv` says of one of the bytes of a record.
+    #[error("read failed")]
     ReadFailed,
     /// A write or the flush failed.
+    #[error("write failed")]
     WriteFailed,
 }
 

@@ -6,13 +6,16 @@ ghost use Rattle.line_sorts.specs.csv_records.CsvFields.{csv_fields};
 
 use csv::{ByteRecord, ErrorKind, ReaderBuilder};
 use std::alloc::Global;
+use thiserror::Error;
 
 /// Why the fields of a record aren't read.
-#[derive(Debug, Clone, Copy, PartialEq, Eq)]
+#[derive(Debug, Drop, Error)]
 pub enum FieldsError {
     /// An allocation failed.
+    #[error("no memory")]
     NoMemory,
     /// A read failed. Bytes in memory have none that does, but no clause of the toolchain's `csv` says so.
+    #[error("read failed")]
     ReadFailed,
 }
 
