@@ -5,7 +5,7 @@ use Rattle.std.specs.declared.cmp.Ordering.TheVariants.{Less, Equal, Greater}
 use Rattle.icu_options.specs.declared.settings.Strength.{Strength}
 use Rattle.icu_order_texts.specs.Collations.{Collation}
 use Rattle.icu_order_texts.specs.TextOrder.{text_order, text_key}
-use Rattle.icu_index.specs.Listings.{name_order, IsStablySorted}
+use Rattle.icu_collator.specs.NameOrders.{name_order, IsStablySorted}
 use Rattle.collate_commands.specs.Commands.{Asked, for_order, for_key, for_sorting, strength_of}
 use Rattle.collate_commands.specs.KeyText.{key_text}
 use Rattle.line_sorts.specs.InputLines.{lines_of, lines_text}

@@ -2,7 +2,8 @@
 ghost use Rattle.std.specs.Prelude.{◌≡◌, ℕ, List, IfOk, IfErr, ◌++◌, ◌∷◌, [], chars, map};
 ghost use Rattle.icu_table_provider.specs.well_formed.WellFormedTables.{IsWellFormedTables};
 ghost use Rattle.icu_collator.specs.Collators.{collation_kept, tables_kept};
-ghost use Rattle.icu_index.specs.Listings.{listing_of, name_order};
+ghost use Rattle.icu_collator.specs.NameOrders.{name_order};
+ghost use Rattle.icu_index.specs.Listings.{listing_of};
 ghost use Rattle.icu_index.specs.NameIndexes.{index_collation, listing};
 ghost use Rattle.icu_order_texts.specs.TextOrder.{text_key};
 ghost use Rattle.collate_commands.specs.Answers.{IsAnswerBy, SortsLines, sign_of};

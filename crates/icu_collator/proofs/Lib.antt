@@ -10,3 +10,4 @@ mod TieLemmas
 pub mod OtherSettings
 pub mod FactsInStepLemmas
 mod TotalOrder
+pub mod NameOrderLemmas

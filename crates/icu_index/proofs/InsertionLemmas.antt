@@ -10,7 +10,8 @@ use Rattle.std.specs.Ordering.{is_gt, is_lt, ordering_reverse}
 use Rattle.std.specs.declared.cmp.Ordering.{Ordering}
 use Rattle.std.specs.declared.cmp.Ordering.TheVariants.{Less, Equal, Greater}
 use Rattle.icu_order_levels.specs.ListOrder.{list_order}
-use Rattle.icu_index.specs.Listings.{inserted, listing_of, IsStablySorted}
+use Rattle.icu_collator.specs.NameOrders.{IsStablySorted}
+use Rattle.icu_index.specs.Listings.{inserted, listing_of}
 use Rattle.icu_table_data.proofs.ListLemmas.{weaker}
 
 -- an order by keys is total, with ties

@@ -3,17 +3,14 @@ use Rattle.std.proofs.Common.{◌≡◌, ℕ, nat_eq, ◌&&◌, Bool, true, fals
 use Rattle.std.specs.Ordering.{is_eq, is_gt, is_le, is_lt}
 use Rattle.std.specs.declared.cmp.Ordering.{Ordering}
 use Rattle.std.specs.declared.cmp.Ordering.TheVariants.{Less, Equal, Greater}
-use Rattle.icu_collator.specs.declared.collator.CollatorBorrowed.{CollatorBorrowed}
-use Rattle.icu_collator.specs.Collators.{tables_borrowed, collation_borrowed}
 use Rattle.icu_table_provider.specs.well_formed.WellFormedTables.{IsWellFormedTables}
 use Rattle.icu_text_encodings.proofs.Utf8Lemmas.{utf8_scalars}
 use Rattle.icu_text_encodings.specs.DecodedTexts.{utf8_text}
 use Rattle.icu_order_levels.specs.ListOrder.{list_order}
-use Rattle.icu_order_texts.proofs.TextOrders.{keys_keep}
 use Rattle.icu_order_levels.specs.beginnings.KeyBeginnings.{begins}
 use Rattle.icu_index_keys.specs.KeyedLists.{Keyed, beginning_with, behind_border, between, names_in, placed}
 use Rattle.icu_index_keys.specs.declared.borders.Border.TheVariants.{Before, Behind}
-use Rattle.icu_index.specs.Listings.{name_begins, name_order, inserted, equal_names, names_beginning, names_between}
+use Rattle.icu_index.specs.Listings.{name_begins, inserted, equal_names, names_beginning, names_between}
 use Rattle.icu_order_texts.specs.text_beginnings.TextBeginnings.{lower_bound}
 use Rattle.icu_order_texts.proofs.text_beginnings.TextBeginningLemmas.{key_begins}
 use Rattle.icu_order_texts.specs.Collations.{Collation}
@@ -23,12 +20,6 @@ use Rattle.icu_index.specs.headings.HeadingLists.{NamedStart, heading_number}
 use Rattle.icu_index_keys.specs.keyed_starts.Starts.{stands_within}
 use Rattle.icu_index_keys.specs.declared.keyed_starts.starts.KeyBounds.{KeyBounds}
 use Rattle.std.specs.Borrow.{Bor}
-
-pub names_keep : (c : CollatorBorrowed) → IsWellFormedTables (tables_borrowed c) → (x y : List ℕ)
-    → name_order (collation_borrowed c) x y
-    ≡ list_order (key_of (collation_borrowed c) x) (key_of (collation_borrowed c) y)
-names_keep c well_formed x y =
-    sym (keys_keep (collation_borrowed c) well_formed (utf8_text x) (utf8_text y) (utf8_scalars x) (utf8_scalars y))
 
 -- ---- by an order that keys keep
 

@@ -1,18 +1,13 @@
 -- The listing of names, by the order of texts and the order of insertion (UTS #10, "Multi-Level Comparison" and
 -- "Compare Sort Keys").
 use Rattle.std.specs.Prelude.{ℕ, Bool, ◌&&◌, not, List, [], ◌∷◌, filter, fold, if◌then◌else◌}
-use Rattle.std.specs.List.Sorted.{IsPermutation, IsSorted, IsStable}
 use Rattle.std.specs.Ordering.{is_eq, is_gt, is_lt}
 use Rattle.std.specs.declared.cmp.Ordering.{Ordering}
 use Rattle.icu_table_provider.specs.well_formed.WellFormedTables.{IsWellFormedTables}
 use Rattle.icu_text_encodings.specs.DecodedTexts.{utf8_text}
 use Rattle.icu_order_texts.specs.text_beginnings.TextBeginnings.{text_begins}
 use Rattle.icu_order_texts.specs.Collations.{Collation}
-use Rattle.icu_order_texts.specs.TextOrder.{text_order}
-
--- the order of two names, which are bytes in UTF-8 that may be damaged: that of their texts
-abbrev pub name_order : Collation → List ℕ → List ℕ → Ordering
-name_order c x y = text_order c (utf8_text x) (utf8_text y)
+use Rattle.icu_collator.specs.NameOrders.{IsStablySorted, name_order}
 
 -- a listing with one more name: before the first listed one that compares Greater to it, or last
 abbrev pub inserted : (List ℕ → List ℕ → Ordering) → List ℕ → List (List ℕ) → List (List ℕ)
@@ -38,12 +33,6 @@ names_beginning c beginning names = filter (λ x. name_begins c beginning x) nam
 -- the listing of names that were inserted one after another, the first into a listing of none
 abbrev pub listing_of : (List ℕ → List ℕ → Ordering) → List (List ℕ) → List (List ℕ)
 listing_of order names = fold (λ sorted name. inserted order name sorted) [] names
-
--- the same names in order, equal ones as they stood
-pub record IsStablySorted (order : List ℕ → List ℕ → Ordering) (names sorted : List (List ℕ)) : Type 0 where
-  pub permutation : IsPermutation names sorted
-  pub ascends : IsSorted order sorted
-  pub stable : IsStable order names sorted
 
 -- by each collation whose tables meet the conditions, names that were inserted one after another are sorted
 abbrev pub InsertsSort : Type 0

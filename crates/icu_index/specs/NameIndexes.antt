@@ -5,7 +5,7 @@ use Rattle.icu_order_texts.specs.Collations.{Collation}
 use Rattle.icu_collator.specs.Collators.{collation_borrowed}
 use Rattle.icu_index.specs.declared.index.NameIndex.{NameIndex}
 use Rattle.icu_index.specs.declared.names.NameIter.{NameIter}
-use Rattle.icu_index.specs.Listings.{name_order}
+use Rattle.icu_collator.specs.NameOrders.{name_order}
 use Rattle.icu_index_keys.specs.KeyedLists.{keyed_names, names_in, names_to_come}
 
 -- the collation that names are ordered by

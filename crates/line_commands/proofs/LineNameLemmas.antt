@@ -4,8 +4,8 @@ use Rattle.std.specs.Ordering.{is_eq}
 use Rattle.icu_table_provider.specs.well_formed.WellFormedTables.{IsWellFormedTables}
 use Rattle.icu_collator.specs.Collators.{collation_borrowed, tables_borrowed}
 use Rattle.icu_collator.specs.declared.collator.CollatorBorrowed.{CollatorBorrowed}
-use Rattle.icu_index.proofs.NameLemmas.{names_keep}
-use Rattle.icu_index.specs.Listings.{IsStablySorted, name_order}
+use Rattle.icu_collator.proofs.NameOrderLemmas.{names_keep}
+use Rattle.icu_collator.specs.NameOrders.{IsStablySorted, name_order}
 use Rattle.icu_order_levels.specs.ListOrder.{list_order}
 use Rattle.line_sorts.specs.FirstLines.{printed}
 use Rattle.line_sorts.specs.InputLines.{ended_lines, lines_by}

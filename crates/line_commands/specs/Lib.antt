@@ -1,4 +1,4 @@
-pub use Rattle.icu_index.specs.Listings
+pub use Rattle.icu_collator.specs.NameOrders
 pub use Rattle.line_sorts.specs.FirstLines
 pub use Rattle.line_sorts.specs.InputLines
 pub use Rattle.line_sorts.specs.KeyedOrders

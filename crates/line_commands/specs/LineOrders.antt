@@ -2,7 +2,7 @@
 use Rattle.std.specs.Prelude.{ℕ, List}
 use Rattle.std.specs.declared.cmp.Ordering.{Ordering}
 use Rattle.icu_text_encodings.specs.DecodedTexts.{utf8_text}
-use Rattle.icu_index.specs.Listings.{name_order}
+use Rattle.icu_collator.specs.NameOrders.{name_order}
 use Rattle.icu_order_levels.specs.ListOrder.{list_order}
 use Rattle.icu_order_texts.specs.Collations.{Collation}
 use Rattle.icu_order_texts.specs.TextOrder.{text_key}

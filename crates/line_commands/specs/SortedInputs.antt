@@ -1,7 +1,7 @@
 -- What is printed of lines that are sorted.
 use Rattle.std.specs.Prelude.{◌≡◌, ℕ, List}
 use Rattle.std.specs.Ordering.{is_eq}
-use Rattle.icu_index.specs.Listings.{name_order, IsStablySorted}
+use Rattle.icu_collator.specs.NameOrders.{name_order, IsStablySorted}
 use Rattle.icu_order_texts.specs.Collations.{Collation}
 use Rattle.line_sorts.specs.FirstLines.{printed}
 use Rattle.line_sorts.specs.InputLines.{ended_lines, lines_by}

@@ -3,7 +3,7 @@
 ghost use Rattle.std.specs.Prelude.{◌≡◌, IfOk};
 ghost use Rattle.line_sorts.specs.InputLines.{lines_by};
 ghost use Rattle.icu_collator.specs.Collators.{collation_borrowed, collation_kept};
-ghost use Rattle.icu_index.specs.Listings.{name_order};
+ghost use Rattle.icu_collator.specs.NameOrders.{name_order};
 ghost use Rattle.icu_order_levels.specs.ListOrder.{list_order};
 ghost use Rattle.line_sorts.specs.KeyedOrders.{with_ties};
 ghost use Rattle.line_sorts.specs.ShownLines.{shown_lines};

@@ -3,7 +3,8 @@
 
 ghost use Rattle.std.specs.Prelude.{◌≡◌, map, IfOk};
 ghost use Rattle.icu_collator.specs.Collators.{collation_kept};
-ghost use Rattle.icu_index.specs.Listings.{listing_of, name_order};
+ghost use Rattle.icu_collator.specs.NameOrders.{name_order};
+ghost use Rattle.icu_index.specs.Listings.{listing_of};
 ghost use Rattle.icu_index.specs.NameIndexes.{index_collation, listing};
 
 use icu_collator::options::{CollatorOptions, Strength};

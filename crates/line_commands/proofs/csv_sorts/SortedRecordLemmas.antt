@@ -4,7 +4,7 @@ use Rattle.std.specs.List.{AllByRecursion}
 use Rattle.std.specs.Ordering.{is_eq}
 use Rattle.csv.specs.Reading.{strip_bom}
 use Rattle.line_sorts.specs.csv_records.CsvCuts.{HasRecords}
-use Rattle.icu_index.specs.Listings.{IsStablySorted}
+use Rattle.icu_collator.specs.NameOrders.{IsStablySorted}
 use Rattle.icu_order_levels.specs.ListOrder.{list_order}
 use Rattle.icu_order_texts.specs.weighting.Collations.{Collation}
 use Rattle.line_sorts.specs.FirstLines.{printed}

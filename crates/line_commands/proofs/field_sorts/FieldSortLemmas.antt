@@ -1,6 +1,6 @@
 -- Lines that are sorted by the keys of their fields are sorted by the fields.
 use Rattle.std.proofs.Common.{◌≡◌, ℕ, List, subst}
-use Rattle.icu_index.specs.Listings.{IsStablySorted}
+use Rattle.icu_collator.specs.NameOrders.{IsStablySorted}
 use Rattle.icu_order_texts.specs.weighting.Collations.{Collation}
 use Rattle.line_sorts.specs.InputLines.{lines_by}
 use Rattle.line_sorts.specs.SortedTexts.{SortsByKey}

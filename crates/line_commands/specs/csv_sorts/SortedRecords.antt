@@ -6,7 +6,7 @@ use Rattle.std.specs.Io.KnownBytes.{Keeps}
 use Rattle.program_files.specs.PartialWrites.{AppendsBeginning}
 use Rattle.csv.specs.Reading.{strip_bom}
 use Rattle.line_sorts.specs.csv_records.CsvCuts.{HasRecords}
-use Rattle.icu_index.specs.Listings.{IsStablySorted}
+use Rattle.icu_collator.specs.NameOrders.{IsStablySorted}
 use Rattle.icu_order_texts.specs.weighting.Collations.{Collation}
 use Rattle.line_sorts.specs.FirstLines.{printed}
 use Rattle.line_sorts.specs.InputLines.{ended_lines}

@@ -1,7 +1,8 @@
 -- The names that were gone through are listed.
 use Rattle.std.proofs.Common.{◌≡◌, map, take}
 use Rattle.icu_collator.specs.Collators.{collation_kept}
-use Rattle.icu_index.specs.Listings.{listing_of, name_order}
+use Rattle.icu_collator.specs.NameOrders.{name_order}
+use Rattle.icu_index.specs.Listings.{listing_of}
 use Rattle.icu_index.specs.NameIndexes.{index_collation, listing}
 use Rattle.sort_names.proofs.index.Given as goal
 

@@ -1,7 +1,8 @@
 -- The lines that were cut are listed, and those that are listed are written.
 use Rattle.std.proofs.Common.{ap, ◌∙◌, subst, sym}
 use Rattle.icu_collator.specs.Collators.{collation_kept}
-use Rattle.icu_index.specs.Listings.{IsStablySorted, listing_of, name_order}
+use Rattle.icu_collator.specs.NameOrders.{IsStablySorted, name_order}
+use Rattle.icu_index.specs.Listings.{listing_of}
 use Rattle.icu_index.specs.NameIndexes.{listing}
 use Rattle.line_sorts.specs.InputLines.{lines_of}
 use Rattle.collate_commands.specs.inner.Shown.{shown}

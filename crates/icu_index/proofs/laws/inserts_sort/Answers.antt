@@ -2,7 +2,7 @@ use Rattle.std.proofs.Common.{sym}
 use Rattle.icu_text_encodings.proofs.Utf8Lemmas.{utf8_scalars}
 use Rattle.icu_text_encodings.specs.DecodedTexts.{utf8_text}
 use Rattle.icu_order_texts.proofs.TextOrders.{keys_keep}
-use Rattle.icu_index.specs.Listings.{name_order}
+use Rattle.icu_collator.specs.NameOrders.{name_order}
 use Rattle.icu_index.specs.inner.NameKeys.{key_of}
 use Rattle.icu_index.proofs.InsertionLemmas.{sorts, total_by_keys}
 use Rattle.icu_index.proofs.laws.inserts_sort.Goals as goal

@@ -1,8 +1,9 @@
 use Rattle.std.proofs.Common.{◌∙◌}
 use Rattle.icu_collator.specs.Collators.{collation_borrowed}
 use Rattle.icu_index_keys.specs.KeyedLists.{keyed_names}
-use Rattle.icu_index.proofs.NameLemmas.{equal_between, names_keep}
-use Rattle.icu_index.specs.Listings.{name_order}
+use Rattle.icu_collator.proofs.NameOrderLemmas.{names_keep}
+use Rattle.icu_index.proofs.NameLemmas.{equal_between}
+use Rattle.icu_collator.specs.NameOrders.{name_order}
 use Rattle.icu_index.specs.inner.NameKeys.{key_of}
 use Rattle.icu_index.proofs.index.NameIndex.equal_to.Goals as goal
 

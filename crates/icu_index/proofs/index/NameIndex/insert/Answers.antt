@@ -2,8 +2,9 @@ use Rattle.std.proofs.Common.{◌≡◌, ◌∙◌, ◌++◌, ap}
 use Rattle.std.proofs.lemmas.Result.{on_ok_weaker}
 use Rattle.icu_collator.specs.Collators.{collation_borrowed}
 use Rattle.icu_index_keys.specs.KeyedLists.{keyed_names, names_in, placed}
-use Rattle.icu_index.proofs.NameLemmas.{keyed_after, names_keep, placed_is_inserted}
-use Rattle.icu_index.specs.Listings.{name_order}
+use Rattle.icu_collator.proofs.NameOrderLemmas.{names_keep}
+use Rattle.icu_index.proofs.NameLemmas.{keyed_after, placed_is_inserted}
+use Rattle.icu_collator.specs.NameOrders.{name_order}
 use Rattle.icu_index.specs.inner.NameKeys.{key_of}
 use Rattle.icu_index.proofs.index.NameIndex.insert.Goals as goal
 
