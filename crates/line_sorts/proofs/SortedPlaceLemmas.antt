@@ -1,5 +1,5 @@
 -- Places that are sorted by numbers and then settled.
-use Rattle.std.proofs.Common.{◌≡◌, List, ℕ, ◌∙◌, subst}
+use Rattle.std.proofs.Common.{List, ◌∙◌}
 use Rattle.std.proofs.lemmas.List.Sorted.{IsPermutation-map, IsPermutation-trans}
 use Rattle.std.specs.List.{AllByRecursion}
 use Rattle.std.specs.List.Sorted.{IsPermutation, IsStable}
@@ -15,20 +15,19 @@ use Rattle.line_sorts.specs.inner.PlaceOrders.{IsLinePlace, front_order, place_o
 use Rattle.line_sorts.specs.inner.SettledPlaces.{Settles}
 
 module _ (k : LineView) (o : LineOrder) (places sorted : List LinePlace) (moved : IsPermutation places sorted)
-    (right : AllByRecursion (IsLinePlace k) places) (pairs : List (List ℕ × List ℕ)) (all : pairs_at k places ≡ pairs) where
+    (right : AllByRecursion (IsLinePlace k) places) where
   pub still_right : AllByRecursion (IsLinePlace k) sorted
   still_right = all_still (IsLinePlace k) places sorted moved right
 
   -- the lines there, in any order that keeps those with one number as they stood
-  pub lines_moved : (settled : List LinePlace) → Settles k o sorted settled → IsPermutation pairs (pairs_at k settled)
+  pub lines_moved : (settled : List LinePlace) → Settles k o sorted settled → IsPermutation (pairs_at k places) (pairs_at k settled)
   lines_moved settled s =
-      subst (λ (ps : List (List ℕ × List ℕ)). IsPermutation ps (pairs_at k settled)) all
-      (IsPermutation-trans (pairs_at k places) (pairs_at k sorted) (pairs_at k settled) (IsPermutation-map (place_pair k) places sorted moved) s.moved)
+      IsPermutation-trans (pairs_at k places) (pairs_at k sorted) (pairs_at k settled) (IsPermutation-map (place_pair k) places sorted moved) s.moved
 
   pub lines_stable : IsStable (front_order o.direction) places sorted → (settled : List LinePlace) → Settles k o sorted settled
-      → IsStable (keyed_order o) pairs (pairs_at k settled)
+      → IsStable (keyed_order o) (pairs_at k places) (pairs_at k settled)
   lines_stable stable settled s =
       let first : IsStable (keyed_order o) (pairs_at k places) (pairs_at k sorted) =
       stable_mapped (place_pair k) (place_order k o) (keyed_order o) (IsLinePlace k) (same_order k o) (keyed_total o) places sorted right still_right moved
       (stable_by_keys k o places sorted stable) in
-      subst (λ (ps : List (List ℕ × List ℕ)). IsStable (keyed_order o) ps (pairs_at k settled)) all (λ z. s.stable z ∙ first z)
+      (λ z. s.stable z ∙ first z)

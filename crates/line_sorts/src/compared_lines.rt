@@ -1,27 +1,25 @@
-//! Lines sorted by the numbers that their keys begin with, and where these are alike by comparisons.
+//! Lines without keys, of which numbers are known that their keys begin with.
 
-ghost use Rattle.std.specs.Prelude.{◌≡◌, IfOk, OnOk, length, map};
-ghost use Rattle.std.specs.List.{AllByRecursion, zip};
-ghost use Rattle.std.specs.List.Sorted.{IsPermutation, IsSorted, IsStable};
-ghost use Rattle.line_sorts.specs.KeyBuffers.{pairs_at, place_pair, view_by};
+ghost use Rattle.std.specs.Prelude.{◌≡◌, ℕ, IfOk, OnOk, length};
+ghost use Rattle.std.specs.List.{AllByRecursion};
+ghost use Rattle.line_sorts.specs.KeyBuffers.{place_pair, view_by};
 ghost use Rattle.line_sorts.specs.KeyedOrders.{bytes_of_lines_order, keyed_order, keys_of_lines_order, with_ties};
-ghost use Rattle.line_sorts.specs.LineFronts.{HaveFronts};
 ghost use Rattle.line_sorts.specs.ShownLines.{shown_lines};
-ghost use Rattle.line_sorts.specs.inner.PlaceOrders.{IsLinePlace, front_order, numbered_places};
-ghost use Rattle.line_sorts.specs.inner.SettledPlaces.{Settles};
+ghost use Rattle.line_sorts.specs.inner.PlaceOrders.{numbered_places};
+ghost use Rattle.line_sorts.specs.inner.SettledPlaces.{IsPlaceOfRun, Settles};
 
 use crate::keyed_lines::KeyedLines;
 use crate::keyed_runs::settle_by_keys;
 use crate::line_comparer::LineComparer;
 use crate::line_order::{Direction, LineOrder, Ties};
-use crate::line_places::{LinePlace, sort_by_fronts};
-use crate::settled_places::{AHEAD, is_tied, run_length};
+use crate::line_places::LinePlace;
+use crate::settled_places::TiedLines;
 use crate::written_lines::total_length;
 use std::alloc::{AllocError, Global};
 use std::cmp::Ordering;
 
 /// The places of lines with these numbers, one behind another.
-fn places_with(alloc: Global, fronts: &[u64]) -> Result<Vec<LinePlace>, AllocError>
+pub(crate) fn places_with(alloc: Global, fronts: &[u64]) -> Result<Vec<LinePlace>, AllocError>
     ensures { IfOk result (λ places. places.items ≡ numbered_places 0 fronts.now) }
 {
     let mut places = Vec::with_capacity(alloc, fronts.len())?;
@@ -109,115 +107,38 @@ fn are_compared(keyed: &KeyedLines<'_>, run: &[LinePlace]) -> bool {
     run.len() <= 2 || (run.len() <= FEW && total_length(keyed, run) <= SHORT)
 }
 
-/// Sorts places of lines whose keys begin alike by the keys, stably: by comparisons, or by keys that are written, each
-/// once, so that no long line is read again and again.
-fn settle_run<C: LineComparer>(
-    alloc: Global,
-    comparer: &C,
-    keyed: &KeyedLines<'_>,
-    order: LineOrder,
-    run: &mut [LinePlace],
-) -> Result<(), AllocError>
-    ensures settles { OnOk result
-        (Settles (view_by (C.key_of comparer.now) (shown_lines keyed.now.lines.now)) order
-        run.old run.new) }
-    ensures len { length run.new ≡ length run.old }
-{
-    if run.len() < 2 {
-        return Ok(());
-    }
-    if are_compared(keyed, run) {
-        return settle_short_run(alloc, comparer, keyed, order, run);
-    }
-    settle_by_keys(alloc, comparer, keyed, order, run)
+/// Lines without keys, and what tells the order of their keys.
+#[derive(Drop)]
+pub(crate) struct ComparedLines<'a, C> {
+    pub(crate) alloc: Global,
+    pub(crate) comparer: &'a C,
+    pub(crate) keyed: KeyedLines<'a>,
 }
 
-/// The first bytes of lines whose places begin as a neighbour does, by exclusive or.
-fn first_bytes(keyed: &KeyedLines<'_>, places: &[LinePlace]) -> usize {
-    let mut bytes: u8 = 0;
-    for index in 0..places.len() {
-        if is_tied(places, index) {
-            if let Some(byte) = keyed.line(places[index].index).first() {
-                bytes ^= *byte;
-            }
+impl<C: LineComparer> TiedLines for ComparedLines<'_, C> {
+    ghost view = { λ it. view_by (C.key_of it.comparer.now) (shown_lines it.keyed.lines.now) };
+
+    /// The first byte of the line.
+    fn byte_to_read(&self, index: usize) -> u8 {
+        match self.keyed.line(index).first() {
+            Some(byte) => *byte,
+            None => 0,
         }
     }
-    bytes as usize
-}
 
-/// Before each batch of places looks at their lines. These are spread over the memory: reads that don't wait for one
-/// another bring many of them near at once. It makes room for a byte, at most, by what was read, so that it is read
-/// indeed. Returns up to where places were looked at.
-fn look_ahead(
-    keyed: &KeyedLines<'_>,
-    places: &[LinePlace],
-    done: usize,
-    seen: usize,
-    spare: &mut Vec<u8>,
-) -> Result<usize, AllocError> {
-    if done < seen || done >= places.len() {
-        return Ok(seen);
+    /// By comparisons, or by keys that are written, each once, so that no long line is read again and again.
+    fn settle_run(
+        &self,
+        order: LineOrder,
+        run: &mut [LinePlace],
+        room: &mut Vec<LinePlace>,
+    ) -> Result<(), AllocError> {
+        if run.len() < 2 {
+            return Ok(());
+        }
+        if are_compared(&self.keyed, run) {
+            return settle_short_run(self.alloc, self.comparer, &self.keyed, order, run);
+        }
+        settle_by_keys(self.alloc, self.comparer, &self.keyed, order, run)
     }
-    let end = done.saturating_add(AHEAD).min(places.len());
-    spare.reserve(first_bytes(keyed, &places[done..end]) & 1)?;
-    Ok(end)
-}
-
-/// Sorts places that are sorted by the numbers that their keys begin with by the keys, stably.
-fn settle_places<C: LineComparer>(
-    alloc: Global,
-    comparer: &C,
-    keyed: &KeyedLines<'_>,
-    order: LineOrder,
-    places: &mut [LinePlace],
-) -> Result<(), AllocError>
-    requires right { AllByRecursion (IsLinePlace
-        (view_by (C.key_of comparer.now) (shown_lines keyed.now.lines.now))) places.old }
-    requires fronts { IsSorted (front_order order.direction) places.old }
-    ensures settles { OnOk result
-        (Settles (view_by (C.key_of comparer.now) (shown_lines keyed.now.lines.now)) order
-        places.old places.new) }
-    ensures len { length places.new ≡ length places.old }
-{
-    let mut spare = Vec::new(alloc);
-    let mut done = 0;
-    let mut seen = 0;
-    'settling: while done < places.len() {
-        seen = look_ahead(keyed, places, done, seen, &mut spare)?;
-        let end = done + run_length(&places[done..]);
-        settle_run(alloc, comparer, keyed, order, &mut places[done..end])?;
-        done = end;
-    }
-    Ok(())
-}
-
-/// The places of lines, sorted by the keys, of which numbers are known that they begin with, stably: lines of which
-/// neither comes before the other stand as they stood.
-///
-/// # Errors
-///
-/// Fails only where an allocation does.
-pub(crate) fn places_by_fronts<C: LineComparer>(
-    alloc: Global,
-    comparer: &C,
-    fronts: &[u64],
-    keyed: &KeyedLines<'_>,
-    order: LineOrder,
-) -> Result<Vec<LinePlace>, AllocError>
-    requires { HaveFronts (C.key_of comparer.now) (shown_lines keyed.now.lines.now) fronts.now }
-    ensures permutation { let lines = shown_lines keyed.now.lines.now in
-        let key = C.key_of comparer.now in IfOk result (λ places.
-        IsPermutation (zip (map key lines) lines) (pairs_at (view_by key lines) places.items)) }
-    ensures sorted { let lines = shown_lines keyed.now.lines.now in
-        let key = C.key_of comparer.now in IfOk result (λ places.
-        IsSorted (keyed_order order) (pairs_at (view_by key lines) places.items)) }
-    ensures stable { let lines = shown_lines keyed.now.lines.now in
-        let key = C.key_of comparer.now in IfOk result (λ places.
-        IsStable (keyed_order order) (zip (map key lines) lines)
-        (pairs_at (view_by key lines) places.items)) }
-{
-    let mut places = places_with(alloc, fronts)?;
-    sort_by_fronts(&mut places, order.direction)?;
-    settle_places(alloc, comparer, keyed, order, places.as_mut_slice())?;
-    Ok(places)
 }

@@ -9,12 +9,13 @@ ghost use Rattle.line_sorts.specs.SortedTexts.{SortsByKey};
 ghost use Rattle.line_sorts.specs.OrderedTexts.{WritesBeginning, ordered_text};
 
 use crate::chunks::new_chunk;
-use crate::compared_lines::places_by_fronts;
+use crate::compared_lines::{ComparedLines, places_with};
 use crate::keyed_lines::KeyedLines;
 use crate::line_comparer::LineComparer;
 use crate::line_keys::LineKeys;
 use crate::line_places::LinePlace;
-use crate::sort_lines::sorted_places;
+use crate::settled_places::sorted_places;
+use crate::sort_lines::places_of;
 use crate::sort_request::{Repeats, SortRequest};
 use crate::written_lines::write_lines;
 use std::alloc::{AllocError, Global};
@@ -49,7 +50,8 @@ impl<'a> OrderedLines<'a> {
             SortsByKey key request (shown_lines lines.now) (ordered_text sorted)) }
     {
         let keyed = KeyedLines { keys, lines };
-        let places = sorted_places(alloc, &keyed, request.order)?;
+        let unsorted = places_of(alloc, &keyed)?;
+        let places = sorted_places(alloc, &keyed, request.order, unsorted)?;
         let chunk = new_chunk(alloc)?;
         Ok(OrderedLines {
             keyed,
@@ -82,7 +84,13 @@ impl<'a> OrderedLines<'a> {
             keys: no_keys,
             lines,
         };
-        let places = places_by_fronts(alloc, comparer, fronts, &keyed, request.order)?;
+        let compared = ComparedLines {
+            alloc,
+            comparer,
+            keyed,
+        };
+        let unsorted = places_with(alloc, fronts)?;
+        let places = sorted_places(alloc, &compared, request.order, unsorted)?;
         let chunk = new_chunk(alloc)?;
         Ok(OrderedLines {
             keyed,

@@ -1,21 +1,21 @@
-//! Lines with keys, sorted.
+//! Lines with keys, whose places are sorted by them.
 
-ghost use Rattle.std.specs.Prelude.{◌≡◌, IfOk, take};
+ghost use Rattle.std.specs.Prelude.{◌≡◌, ℕ, IfOk, OnOk, length, map};
 ghost use Rattle.std.specs.List.{AllByRecursion};
-ghost use Rattle.std.specs.List.Sorted.{IsPermutation, IsSorted, IsStable};
-ghost use Rattle.line_sorts.specs.KeyBuffers.{keyed_pairs, pairs_at, view_of};
-ghost use Rattle.line_sorts.specs.KeyedOrders.{keyed_order};
+ghost use Rattle.icu_order_levels.specs.beginnings.KeyBeginnings.{AreBytes};
+ghost use Rattle.line_sorts.specs.KeyBuffers.{keyed_pairs, pairs_at, place_pair, view_of};
 ghost use Rattle.line_sorts.specs.inner.PlaceOrders.{IsLinePlace};
+ghost use Rattle.line_sorts.specs.inner.SettledPlaces.{IsPlaceOfRun, Settles, second_place};
 
-use crate::key_front::key_front;
+use crate::key_front::{are_bytes, behind_front, key_front};
 use crate::keyed_lines::KeyedLines;
 use crate::line_order::LineOrder;
-use crate::line_places::{LinePlace, sort_by_fronts};
-use crate::settled_places::settle_places;
+use crate::line_places::{LinePlace, sort_places};
+use crate::settled_places::TiedLines;
 use std::alloc::{AllocError, Global};
 
 /// The places of lines with keys, one behind another.
-fn places_of(alloc: Global, keyed: &KeyedLines<'_>) -> Result<Vec<LinePlace>, AllocError>
+pub(crate) fn places_of(alloc: Global, keyed: &KeyedLines<'_>) -> Result<Vec<LinePlace>, AllocError>
     ensures all { IfOk result (λ places.
         pairs_at (view_of keyed.now) places.items ≡ keyed_pairs keyed.now) }
     ensures right { IfOk result (λ places.
@@ -31,27 +31,61 @@ fn places_of(alloc: Global, keyed: &KeyedLines<'_>) -> Result<Vec<LinePlace>, Al
     Ok(places)
 }
 
-/// The places of lines with keys, sorted by the keys, stably: lines of which neither comes before the other stand as
-/// they stood. Lines that are in order, or parts of them that are, take fewer comparisons.
-///
-/// # Errors
-///
-/// Fails only where an allocation does.
-pub(crate) fn sorted_places(
-    alloc: Global,
-    keyed: &KeyedLines<'_>,
-    order: LineOrder,
-) -> Result<Vec<LinePlace>, AllocError>
-    ensures permutation { IfOk result (λ places.
-        IsPermutation (keyed_pairs keyed.now) (pairs_at (view_of keyed.now) places.items)) }
-    ensures sorted { IfOk result (λ places.
-        IsSorted (keyed_order order) (pairs_at (view_of keyed.now) places.items)) }
-    ensures stable { IfOk result (λ places.
-        IsStable (keyed_order order) (keyed_pairs keyed.now)
-        (pairs_at (view_of keyed.now) places.items)) }
+/// The place of a line with the number of the second eight bytes of its key.
+fn second_place(keyed: &KeyedLines<'_>, place: &LinePlace) -> LinePlace
+    ensures place { result ≡ second_place (view_of keyed.now) place.now }
+    ensures bytes { AreBytes (place_pair (view_of keyed.now) place.now).0 }
 {
-    let mut places = places_of(alloc, keyed)?;
-    sort_by_fronts(&mut places, order.direction)?;
-    settle_places(alloc, keyed, order, places.as_mut_slice())?;
-    Ok(places)
+    let key = keyed.keys.key(place.index);
+    are_bytes(key);
+    LinePlace {
+        front: key_front(behind_front(key)),
+        index: place.index,
+    }
+}
+
+/// Puts the places with the numbers of the second eight bytes in a buffer, in place of what it had.
+fn fill_seconds(
+    keyed: &KeyedLines<'_>,
+    places: &[LinePlace],
+    seconds: &mut Vec<LinePlace>,
+) -> Result<(), AllocError>
+    ensures seconds { OnOk result
+        (seconds.new.items ≡ map (second_place (view_of keyed.now)) places.now) }
+    ensures bytes { OnOk result (AllByRecursion
+        (λ p. AreBytes (place_pair (view_of keyed.now) p).0) seconds.new.items) }
+{
+    seconds.clear();
+    for place in places {
+        seconds.push(second_place(keyed, place))?;
+    }
+    Ok(())
+}
+
+impl TiedLines for KeyedLines<'_> {
+    ghost view = { view_of };
+
+    /// The ninth byte of the key.
+    fn byte_to_read(&self, index: usize) -> u8 {
+        match self.keys.key(index).get(8) {
+            Some(byte) => *byte,
+            None => 0,
+        }
+    }
+
+    /// By the second eight bytes of the keys, and where these are alike by the keys.
+    fn settle_run(
+        &self,
+        order: LineOrder,
+        run: &mut [LinePlace],
+        room: &mut Vec<LinePlace>,
+    ) -> Result<(), AllocError> {
+        if run.len() < 2 {
+            return Ok(());
+        }
+        fill_seconds(self, run, room)?;
+        sort_places(room, self, order)?;
+        run.copy_from_slice(room.as_slice());
+        Ok(())
+    }
 }

@@ -4,22 +4,20 @@ use Rattle.std.proofs.Math.Seq.{take_all}
 use Rattle.std.specs.List.{AllByRecursion}
 use borrow.Rule.Slice.PartMut.{put_mid, same_len_mid}
 use Rattle.line_sorts.proofs.SettledLemmas.{all_settled, nothing_settled, run_in_place, run_is_right}
-use Rattle.line_sorts.specs.KeyBuffers.{view_of}
 use Rattle.line_sorts.specs.declared.line_places.LinePlace.{LinePlace}
 use Rattle.line_sorts.specs.inner.SettledPlaces.{IsPlaceOfRun, Settles, first_run}
 use Rattle.line_sorts.proofs.settled_places.settle_places.Goals as goal
 
 pub settling-init : goal.settling-init
-settling-init c = record {
+settling-init g c = record {
   len = refl;
   bound = omega arith;
-  left = nothing_settled (view_of c.args.keyed.now) c.args.order c.args.places.now c.requires.right c.requires.fronts;
+  left = nothing_settled (g.L.TiedLines.view c.args.lines.now) c.args.order c.args.places.now c.requires.right c.requires.fronts;
 }
 
 pub settle_run-requires : goal.settle_run-requires
-settle_run-requires c =
-    let keyed = c.args.keyed.now in
-    let k = view_of keyed in
+settle_run-requires g c =
+    let k = g.L.TiedLines.view c.args.lines.now in
     let n = c.run_length.result in
     let done = c.settling.done in
     let now = c.settling.places in
@@ -30,9 +28,8 @@ settle_run-requires c =
     subst (λ m. (f : ℕ) × AllByRecursion (IsPlaceOfRun k f) (take m (drop done now))) (omega arith) right
 
 pub settling-preserved : goal.settling-preserved
-settling-preserved c =
-    let keyed = c.args.keyed.now in
-    let k = view_of keyed in
+settling-preserved g c =
+    let k = g.L.TiedLines.view c.args.lines.now in
     let o = c.args.order in
     let places = c.args.places.now in
     let n = c.run_length.result in
@@ -57,9 +54,9 @@ settling-preserved c =
     }
 
 pub returns-clause-settles : goal.returns-clause-settles
-returns-clause-settles c =
+returns-clause-settles g c =
     let now = c.settling.places in
     let done = c.settling.done in
     let none : length (drop done now) ≡ 0 = omega (arith, length-drop done now, c.settling-test.false) in
-    subst (λ (ps : List LinePlace). Settles (view_of c.args.keyed.now) c.args.order c.args.places.now ps) (take_all done now c.settling-test.false)
-    (all_settled (view_of c.args.keyed.now) c.args.order c.args.places.now (take done now) (drop done now) none c.settling.invariant.left)
+    subst (λ (ps : List LinePlace). Settles (g.L.TiedLines.view c.args.lines.now) c.args.order c.args.places.now ps) (take_all done now c.settling-test.false)
+    (all_settled (g.L.TiedLines.view c.args.lines.now) c.args.order c.args.places.now (take done now) (drop done now) none c.settling.invariant.left)

@@ -1,15 +1,14 @@
 -- What was settled so far, and what is left.
 use Rattle.std.proofs.Common.{◌≡◌, ◌≤◌, ◌-◌, drop, length, take}
 use Rattle.line_sorts.proofs.SettledLemmas.{LeftToSettle}
-use Rattle.line_sorts.specs.KeyBuffers.{view_of}
 use Rattle.line_sorts.proofs.settled_places.settle_places.Given as goal
 
 abbrev pub invariant-settling : goal.invariant-settling
-invariant-settling l = record {
+invariant-settling g l = record {
   len : length l.places ≡ length l.initial.places;
   bound : l.done ≤ length l.places;
-  left : LeftToSettle (view_of l.keyed) l.order l.initial.places (take l.done l.places) (drop l.done l.places);
+  left : LeftToSettle (g.L.TiedLines.view l.lines) l.order l.initial.places (take l.done l.places) (drop l.done l.places);
 }
 
 abbrev pub decreases-settling : goal.decreases-settling
-decreases-settling l = length l.places - l.done
+decreases-settling g l = length l.places - l.done

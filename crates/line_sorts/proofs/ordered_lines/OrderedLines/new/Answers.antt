@@ -1,5 +1,5 @@
 -- Places of lines are sorted as the lines are, and the lines at them are to be written.
-use Rattle.std.proofs.Common.{map, ap, subst}
+use Rattle.std.proofs.Common.{◌≡◌, ℕ, List, map, ap, ◌∙◌, subst}
 use Rattle.std.specs.List.{zip}
 use Rattle.std.specs.List.Sorted.{IsPermutation, IsStable}
 use Rattle.line_sorts.proofs.FirstLineLemmas.{printed_as}
@@ -18,10 +18,11 @@ returns c = λ key h.
     let r = c.args.request in
     let o = r.order in
     let sorted = pairs_at (view_of k) c.in_ok-places.places.items in
+    let all : pairs_at (view_of k) c.in_ok-unsorted.unsorted.items ≡ zip (map key lines) lines = c.in_ok-unsorted.ensures.all ∙ ap (λ ks. zip ks lines) h in
     let moved : IsPermutation (zip (map key lines) lines) sorted =
-    subst (λ ks. IsPermutation (zip ks lines) sorted) h c.in_ok-places.ensures.permutation in
+    subst (λ (ps : List (List ℕ × List ℕ)). IsPermutation ps sorted) all c.in_ok-places.ensures.permutation in
     let stable : IsStable (keyed_order o) (zip (map key lines) lines) sorted =
-    subst (λ ks. IsStable (keyed_order o) (zip ks lines) sorted) h c.in_ok-places.ensures.stable in
+    subst (λ (ps : List (List ℕ × List ℕ)). IsStable (keyed_order o) ps sorted) all c.in_ok-places.ensures.stable in
     record {
       sorted = map line_bytes sorted;
       permutation = lines_moved key o lines sorted moved;

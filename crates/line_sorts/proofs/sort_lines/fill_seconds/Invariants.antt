@@ -4,7 +4,7 @@ use Rattle.std.specs.List.{AllByRecursion}
 use Rattle.icu_order_levels.specs.beginnings.KeyBeginnings.{AreBytes}
 use Rattle.line_sorts.specs.KeyBuffers.{place_pair, view_of}
 use Rattle.line_sorts.specs.inner.SettledPlaces.{second_place}
-use Rattle.line_sorts.proofs.settled_places.fill_seconds.Given as goal
+use Rattle.line_sorts.proofs.sort_lines.fill_seconds.Given as goal
 
 abbrev pub invariant-loop-place : goal.invariant-loop-place
 invariant-loop-place l = record {

@@ -4,12 +4,11 @@ use Rattle.line_sorts.proofs.SettledLemmas.{sorted_run}
 use Rattle.line_sorts.specs.KeyBuffers.{view_of}
 use Rattle.line_sorts.specs.declared.line_places.LinePlace.{LinePlace}
 use Rattle.line_sorts.specs.inner.SettledPlaces.{Settles}
-use Rattle.line_sorts.proofs.settled_places.settle_run.Goals as goal
+use Rattle.line_sorts.proofs.sort_lines.KeyedLinesTiedLines.settle_run.Goals as goal
 
 pub returns-clause-settles : goal.returns-clause-settles
 returns-clause-settles c =
-    let keyed = c.args.keyed.now in
-    let k = view_of keyed in
+    let k = view_of c.args.self.now in
     let o = c.args.order in
     let run = c.args.run.now in
     let ys : List LinePlace = c.sort_places.new.places.items in
