@@ -1,6 +1,7 @@
 pub use Rattle.line_sorts.specs.InputLines
 pub mod Commands
 pub mod KeyText
+pub mod LineKeys
 pub mod InputRead
 pub mod Answers
 pub mod CollatorErrors

@@ -1,4 +1,4 @@
 -- Words that only private contracts and proofs use.
-pub mod Shown
 pub mod Stops
 pub mod Asked
+pub mod Sorting

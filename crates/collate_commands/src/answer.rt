@@ -1,26 +1,21 @@
 //! The answer to a command, by a collator.
 ghost use Rattle.std.specs.Prelude.{◌≡◌, ℕ, List, IfOk, IfErr, ◌++◌, ◌∷◌, [], chars, map};
-ghost use Rattle.icu_table_provider.specs.well_formed.WellFormedTables.{IsWellFormedTables};
-ghost use Rattle.icu_collator.specs.Collators.{collation_kept, tables_kept};
+ghost use Rattle.icu_collator.specs.Collators.{collation_kept};
 ghost use Rattle.icu_collator.specs.NameOrders.{name_order};
-ghost use Rattle.icu_index.specs.Listings.{listing_of};
-ghost use Rattle.icu_index.specs.NameIndexes.{index_collation, listing};
 ghost use Rattle.icu_order_texts.specs.TextOrder.{text_key};
 ghost use Rattle.collate_commands.specs.Answers.{IsAnswerBy, SortsLines, sign_of};
 ghost use Rattle.collate_commands.specs.inner.Asked.{asked};
-ghost use Rattle.line_sorts.specs.InputLines.{lines_text};
 ghost use Rattle.collate_commands.specs.InputRead.{ReadsFor};
 ghost use Rattle.program_files.specs.Inputs.{TakesWhole};
 ghost use Rattle.collate_commands.specs.CollatorErrors.{IsUnanswered};
 ghost use Rattle.program_files.specs.ProgramErrors.{IsUnread};
-ghost use Rattle.collate_commands.specs.inner.Shown.{shown};
+ghost use Rattle.collate_commands.specs.inner.Sorting.{all_ascending};
 
 use crate::command::Command;
 use crate::key_line::key_line;
+use crate::sort_keys::keys_of_lines;
 use icu_collator::Collator;
-use icu_index::NameIndex;
-use icu_index::laws::inserts_sort;
-use line_sorts::lines_by;
+use line_sorts::{Direction, LineOrder, OrderedLines, Repeats, SortRequest, Ties, lines_by};
 use program_files::{ProgramError, read_whole};
 use std::alloc::{AllocError, Global};
 use std::cmp::Ordering;
@@ -49,50 +44,39 @@ pub fn sort_key(alloc: Global, collator: &Collator, text: &str) -> Result<Vec<u8
     }
 }
 
-/// An index of lines, by the order of the texts that they decode to.
-fn index_of<'c>(
-    alloc: Global,
-    collator: &'c Collator,
-    lines: &[&[u8]],
-) -> Result<NameIndex<'c>, AllocError>
-    ensures { IfOk result (λ index. listing index
-        ≡ listing_of (name_order (collation_kept collator.now)) (shown lines.now)) }
+/// How lines are sorted: from the least on, all of them, equal ones as they stood.
+fn all_ascending() -> SortRequest
+    ensures { result ≡ all_ascending }
 {
-    let mut index = NameIndex::new(alloc, collator);
-    for line in lines {
-        index.insert(line)?;
+    SortRequest {
+        order: LineOrder {
+            direction: Direction::Ascending,
+            ties: Ties::AsTheyCame,
+        },
+        repeats: Repeats::All,
+        separator: b'\n',
     }
-    Ok(index)
-}
-
-/// The names of an index in order, with a line feed after each.
-fn listing_text(alloc: Global, index: &NameIndex<'_>) -> Result<Vec<u8>, AllocError>
-    ensures { IfOk result (λ text. text.items ≡ lines_text (listing index.now)) }
-{
-    let mut text = Vec::new(alloc);
-    for name in index.iter() {
-        text.extend_from_slice(name)?;
-        text.push(b'\n')?;
-    }
-    Ok(text)
 }
 
 /// The lines of a text, sorted.
 fn sorted_text(alloc: Global, collator: &Collator, bytes: &[u8]) -> Result<Vec<u8>, AllocError>
-    requires { IsWellFormedTables (tables_kept collator.now) }
     ensures { IfOk result (λ output. SortsLines (name_order (collation_kept collator.now))
         bytes.now output.items) }
 {
-    inserts_sort();
+    let collator = collator.as_borrowed();
+    collator.has_well_formed_tables();
     let lines = lines_by(alloc, bytes, b'\n')?;
-    let index = index_of(alloc, collator, lines.as_slice())?;
-    let text = listing_text(alloc, &index)?;
-    Ok(text)
+    let keys = keys_of_lines(alloc, &collator, lines.as_slice())?;
+    let sorted = OrderedLines::new(alloc, &keys, lines.as_slice(), all_ascending())?;
+    let mut text = Vec::new(alloc);
+    match sorted.write_to(&mut text) {
+        Ok(()) => Ok(text),
+        Err(_) => Err(AllocError),
+    }
 }
 
 /// The lines of the input, sorted.
 fn sort<R: Read>(alloc: Global, collator: &Collator, input: &mut R) -> Result<Vec<u8>, ProgramError>
-    requires { IsWellFormedTables (tables_kept collator.now) }
     ensures error { IfErr result IsUnread }
     ensures answer { IfOk result (λ output. (bytes : List ℕ)
         × TakesWhole (R.remaining input.old) (R.remaining input.new) bytes
@@ -109,7 +93,6 @@ pub(crate) fn answer<R: Read>(
     command: Command<'_>,
     input: &mut R,
 ) -> Result<Vec<u8>, ProgramError>
-    requires { IsWellFormedTables (tables_kept collator.now) }
     ensures error { IfErr result (IsUnanswered (asked command.entry)) }
     ensures answer { IfOk result (λ output. (bytes : List ℕ)
         × ReadsFor (asked command.entry) (R.remaining input.old) (R.remaining input.new) bytes

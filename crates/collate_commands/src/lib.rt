@@ -6,6 +6,7 @@ pub mod answer;
 mod command;
 pub mod key_line;
 pub mod program;
+pub mod sort_keys;
 pub mod source;
 
 pub use answer::{sign_line, sort_key};

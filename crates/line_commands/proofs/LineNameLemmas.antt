@@ -1,10 +1,10 @@
--- The order of lines is that of their keys.
-use Rattle.std.proofs.Common.{◌≡◌, ℕ, List, ap, ◌∙◌, subst, sym}
+-- Lines that are sorted by their keys are sorted by the order of names.
+use Rattle.std.proofs.Common.{ℕ, List, ap, ◌∙◌, subst}
 use Rattle.std.specs.Ordering.{is_eq}
 use Rattle.icu_table_provider.specs.well_formed.WellFormedTables.{IsWellFormedTables}
 use Rattle.icu_collator.specs.Collators.{collation_borrowed, tables_borrowed}
 use Rattle.icu_collator.specs.declared.collator.CollatorBorrowed.{CollatorBorrowed}
-use Rattle.icu_collator.proofs.NameOrderLemmas.{names_keep}
+use Rattle.collate_commands.proofs.LineOrderByKeys.{orders_by_keys}
 use Rattle.icu_collator.specs.NameOrders.{IsStablySorted, name_order}
 use Rattle.icu_order_levels.specs.ListOrder.{list_order}
 use Rattle.line_sorts.specs.FirstLines.{printed}
@@ -12,13 +12,8 @@ use Rattle.line_sorts.specs.InputLines.{ended_lines, lines_by}
 use Rattle.line_sorts.specs.KeyedOrders.{ordered_as}
 use Rattle.line_sorts.specs.SortedTexts.{SortsByKey}
 use Rattle.line_sorts.specs.declared.sort_request.SortRequest.{SortRequest}
-use Rattle.line_commands.specs.LineOrders.{key_of_line}
+use Rattle.collate_commands.specs.LineKeys.{key_of_line}
 use Rattle.line_commands.specs.SortedInputs.{SortsInput}
-
--- the order of names, as a function, is that of the keys of lines
-pub orders_by_keys : (c : CollatorBorrowed) → IsWellFormedTables (tables_borrowed c)
-    → (λ x y. list_order (key_of_line (collation_borrowed c) x) (key_of_line (collation_borrowed c) y)) ≡ name_order (collation_borrowed c)
-orders_by_keys c well_formed = λ i x y. (sym (names_keep c well_formed x y)) i
 
 -- lines that are sorted by their keys are sorted by the collator
 pub sorts_input : (c : CollatorBorrowed) → IsWellFormedTables (tables_borrowed c) → (r : SortRequest) (input text : List ℕ)

@@ -8,7 +8,7 @@ use Rattle.line_sorts.specs.InputLines.{lines_by}
 use Rattle.line_sorts.specs.SortedTexts.{SortsByKey}
 use Rattle.line_sorts.specs.declared.sort_request.SortRequest.{SortRequest}
 use Rattle.line_commands.proofs.LineNameLemmas.{sorts_input}
-use Rattle.line_commands.specs.LineOrders.{key_of_line}
+use Rattle.collate_commands.specs.LineKeys.{key_of_line}
 use Rattle.line_commands.specs.SortedInputs.{SortsInput}
 
 pub cut_sorts : (c : CollatorBorrowed) → IsWellFormedTables (tables_borrowed c) → (r : SortRequest) (input text : List ℕ) (lines : List (List ℕ)) (k : Collation)

@@ -3,7 +3,7 @@ use Rattle.std.specs.Prelude.{ℕ, List, [], ◌∷◌, ◌++◌}
 use Rattle.std.specs.List.{flat_map}
 use Rattle.collate_commands.specs.KeyText.{hex}
 use Rattle.icu_order_texts.specs.Collations.{Collation}
-use Rattle.line_commands.specs.LineOrders.{key_of_line}
+use Rattle.collate_commands.specs.LineKeys.{key_of_line}
 
 -- the digits of a line's key, a tab, and the line
 abbrev pub keyed_line : Collation → List ℕ → List ℕ

@@ -1,9 +1,9 @@
 //! Lines compared by a collator.
 
 ghost use Rattle.icu_collator.specs.Collators.{collation_borrowed};
-ghost use Rattle.line_commands.specs.LineOrders.{key_of_line};
+ghost use Rattle.collate_commands.specs.LineKeys.{key_of_line};
 
-use crate::sort_keys::write_line_key;
+use collate_commands::sort_keys::write_line_key;
 use icu_collator::CollatorBorrowed;
 use line_sorts::LineComparer;
 use std::alloc::AllocError;

@@ -11,7 +11,6 @@ pub mod line_keys_text;
 pub mod printing;
 mod sort_by;
 mod sort_fronts;
-mod sort_keys;
 
 pub use disorder::{disorder_text, first_disorder};
 pub use line_keys_text::keys_text;

@@ -5,7 +5,7 @@ ghost use Rattle.icu_order_levels.specs.beginnings.KeyBeginnings.{AreBytes};
 ghost use Rattle.icu_collator.specs.Collators.{collation_borrowed};
 ghost use Rattle.icu_index_keys.specs.inner.NameEntries.{prefix_of};
 ghost use Rattle.icu_key_writers.specs.ListSinkLaws.{appended_nothing, appended_both};
-ghost use Rattle.line_commands.specs.LineOrders.{key_of_line};
+ghost use Rattle.collate_commands.specs.LineKeys.{key_of_line};
 ghost use Rattle.line_commands.specs.inner.KeyFronts.{IsFrontOf};
 
 use icu_collator::{CollationKeySink, CollatorBorrowed, SortKeyError};

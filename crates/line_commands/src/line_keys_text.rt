@@ -7,8 +7,8 @@ ghost use Rattle.collate_commands.specs.KeyText.{hex};
 ghost use Rattle.icu_collator.specs.Collators.{collation_borrowed, collation_kept};
 ghost use Rattle.line_commands.specs.LineKeyTexts.{keyed_line, keyed_lines_text};
 
-use crate::sort_keys::write_line_key;
 use collate_commands::push_hex;
+use collate_commands::sort_keys::write_line_key;
 use icu_collator::{Collator, CollatorBorrowed};
 use line_sorts::{lines_by, push_line};
 use std::alloc::{AllocError, Global};

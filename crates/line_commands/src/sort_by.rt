@@ -5,11 +5,11 @@ ghost use Rattle.icu_collator.specs.Collators.{collation_borrowed};
 ghost use Rattle.line_sorts.specs.OrderedTexts.{ordered_text};
 ghost use Rattle.line_sorts.specs.ShownLines.{shown_lines};
 ghost use Rattle.line_sorts.specs.SortedTexts.{SortsByKey};
-ghost use Rattle.line_commands.specs.LineOrders.{key_of_line};
+ghost use Rattle.collate_commands.specs.LineKeys.{key_of_line};
 
 use crate::collated_lines::CollatedLines;
 use crate::sort_fronts::fronts_for_sort;
-use crate::sort_keys::keys_of_lines;
+use collate_commands::sort_keys::keys_of_lines;
 use icu_collator::CollatorBorrowed;
 use line_sorts::{LineKeys, OrderedLines, SortRequest};
 use std::alloc::{AllocError, Global};

@@ -4,7 +4,7 @@ ghost use Rattle.std.specs.Prelude.{◌≡◌, IfOk, IfSome};
 ghost use Rattle.icu_collator.specs.Collators.{collation_borrowed};
 ghost use Rattle.line_sorts.specs.LineFronts.{HaveFronts};
 ghost use Rattle.line_sorts.specs.ShownLines.{shown_lines};
-ghost use Rattle.line_commands.specs.LineOrders.{key_of_line};
+ghost use Rattle.collate_commands.specs.LineKeys.{key_of_line};
 
 use crate::line_front::line_front;
 use icu_collator::CollatorBorrowed;

@@ -11,7 +11,7 @@ use Rattle.line_sorts.specs.declared.line_order.Direction.{Direction}
 use Rattle.line_sorts.specs.declared.line_order.Direction.TheVariants.{Ascending}
 use Rattle.line_sorts.specs.declared.line_order.LineOrder.{LineOrder}
 use Rattle.line_sorts.specs.declared.line_order.Ties.TheVariants.{AsTheyCame}
-use Rattle.line_commands.specs.LineOrders.{key_of_line}
+use Rattle.collate_commands.specs.LineKeys.{key_of_line}
 use Rattle.line_sorts.specs.fields.JoinedKeys.{directed_key}
 
 -- The key of fields by some columns: their sort keys, one behind another. By the law of keys that are put together the

@@ -5,7 +5,7 @@ use Rattle.icu_order_levels.specs.ListOrder.{list_order}
 use Rattle.icu_order_texts.specs.weighting.Collations.{Collation}
 use Rattle.line_sorts.specs.KeyedOrders.{ordered_as}
 use Rattle.line_sorts.specs.declared.line_order.LineOrder.{LineOrder}
-use Rattle.line_commands.specs.LineOrders.{key_of_line}
+use Rattle.collate_commands.specs.LineKeys.{key_of_line}
 use Rattle.line_sorts.specs.fields.JoinedKeys.{directed_key}
 use Rattle.line_sorts.specs.fields.LineFields.{line_part}
 use Rattle.line_sorts.specs.fields.NumberKeys.{number_key}

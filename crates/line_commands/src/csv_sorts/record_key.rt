@@ -8,13 +8,13 @@ ghost use Rattle.icu_collator.specs.Collators.{collation_borrowed};
 ghost use Rattle.line_sorts.specs.KeyBuffers.{keys_in};
 ghost use Rattle.line_sorts.specs.ShownLines.{shown_lines};
 ghost use Rattle.line_sorts.specs.declared.line_order.Direction.TheVariants.{Ascending};
-ghost use Rattle.line_commands.specs.LineOrders.{key_of_line};
+ghost use Rattle.collate_commands.specs.LineKeys.{key_of_line};
 ghost use Rattle.line_sorts.specs.fields.JoinedKeys.{directed_key};
 ghost use Rattle.line_commands.specs.csv_sorts.ColumnOrders.{HasColumns, columns_key, fields_key};
 ghost use Rattle.line_commands.specs.csv_sorts.CsvErrors.{ExplainsField, ExplainsFields, ExplainsKeys};
 
 use crate::csv_sorts::csv_request::{CsvError, CsvRequest};
-use crate::sort_keys::write_line_key;
+use collate_commands::sort_keys::write_line_key;
 use csv::ByteRecord;
 use icu_collator::CollatorBorrowed;
 use line_sorts::csv_records::{column_field, csv_fields};

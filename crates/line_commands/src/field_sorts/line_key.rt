@@ -8,7 +8,7 @@ ghost use Rattle.line_commands.specs.field_sorts.FieldOrders.{field_key, line_ke
 ghost use Rattle.line_sorts.specs.fields.JoinedKeys.{directed_key};
 
 use crate::field_sorts::field_sort::{FieldOrder, FieldSort, FieldSorts};
-use crate::sort_keys::write_line_key;
+use collate_commands::sort_keys::write_line_key;
 use icu_collator::CollatorBorrowed;
 use line_sorts::LineKeys;
 use line_sorts::fields::{FieldEnds, line_part, push_directed_key, push_number_key};

@@ -1,5 +1,5 @@
 -- What the sink took is the key.
-use Rattle.std.proofs.Common.{◌≡◌, ◌++◌, ℕ, Vec, Global, chars, ap, ◌∙◌}
+use Rattle.std.proofs.Common.{◌++◌, ℕ, Vec, Global, chars, ap, ◌∙◌}
 use Rattle.icu_order_texts.specs.Collations.{Collation}
 use Rattle.icu_order_texts.specs.TextOrder.{text_key}
 use Rattle.icu_collator.specs.Collators.{collation_borrowed}

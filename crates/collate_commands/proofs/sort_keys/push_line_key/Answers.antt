@@ -2,8 +2,8 @@
 use Rattle.std.proofs.Common.{◌≡◌, [], ◌∷◌, ◌++◌, length, ap, ◌∙◌, arith, length-append}
 use Rattle.line_sorts.proofs.KeyBufferLemmas.{ascends_more, keys_more}
 use Rattle.icu_collator.specs.Collators.{collation_borrowed}
-use Rattle.line_commands.specs.LineOrders.{key_of_line}
-use Rattle.line_commands.proofs.sort_keys.push_line_key.Goals as goal
+use Rattle.collate_commands.specs.LineKeys.{key_of_line}
+use Rattle.collate_commands.proofs.sort_keys.push_line_key.Goals as goal
 
 pub returns-clause-ends : goal.returns-clause-ends
 returns-clause-ends c =

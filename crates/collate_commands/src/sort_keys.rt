@@ -5,7 +5,7 @@ ghost use Rattle.icu_collator.specs.Collators.{collation_borrowed};
 ghost use Rattle.line_sorts.specs.KeyBuffers.{keys_cut, keys_in};
 ghost use Rattle.line_sorts.specs.KeyParts.{ascends_to};
 ghost use Rattle.line_sorts.specs.ShownLines.{shown_lines};
-ghost use Rattle.line_commands.specs.LineOrders.{key_of_line};
+ghost use Rattle.collate_commands.specs.LineKeys.{key_of_line};
 
 use icu_collator::CollatorBorrowed;
 use line_sorts::LineKeys;
@@ -16,7 +16,7 @@ use std::alloc::{AllocError, Global};
 /// # Errors
 ///
 /// Fails only where an allocation does.
-pub(crate) fn write_line_key(
+pub fn write_line_key(
     collator: &CollatorBorrowed<'_>,
     line: &[u8],
     key: &mut Vec<u8>,
@@ -54,7 +54,7 @@ fn push_line_key(
 /// # Errors
 ///
 /// Fails only where an allocation does.
-pub(crate) fn keys_of_lines(
+pub fn keys_of_lines(
     alloc: Global,
     collator: &CollatorBorrowed<'_>,
     lines: &[&[u8]],

@@ -4,8 +4,8 @@ use Rattle.icu_collator.specs.Collators.{collation_borrowed}
 use Rattle.line_sorts.specs.KeyBuffers.{keys_cut}
 use Rattle.line_sorts.specs.KeyParts.{ascends_to}
 use Rattle.line_sorts.specs.ShownLines.{shown_lines}
-use Rattle.line_commands.specs.LineOrders.{key_of_line}
-use Rattle.line_commands.proofs.sort_keys.keys_of_lines.Given as goal
+use Rattle.collate_commands.specs.LineKeys.{key_of_line}
+use Rattle.collate_commands.proofs.sort_keys.keys_of_lines.Given as goal
 
 abbrev pub invariant-loop-line : goal.invariant-loop-line
 invariant-loop-line l = record {
