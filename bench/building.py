@@ -9,9 +9,11 @@ HERE = os.path.dirname(os.path.realpath(__file__))
 TOP = os.path.dirname(HERE)
 NAME = "collation_bench"
 LIBRARIES = ("icu_table_provider icu_table_check icu_element_reading icu_text_decomposition icu_element_cursor "
-             "icu_collator icu_index icu_search icu_table_mini icu_cldr_root")
+             "icu_collator icu_index icu_search icu_table_files icu_table_mini icu_cldr_root")
 PARTS = ("src", "specs", "proofs")
 COMPILER = os.environ.get("CXX", "g++")
+# Where Debian's package unicode-cldr-core installs CLDR.
+CLDR = "/usr/share/unicode/cldr"
 
 
 def say(text):
@@ -102,3 +104,16 @@ def build(program, folder, jobs, shift):
     words += [os.path.join(kit, "c", it) for it in ("liblibc_c.a", "libos_c.a")]
     words += shlex.split(output(["pkg-config", "--cflags", "--libs", "icu-i18n", "icu-uc"]))
     run(words)
+
+
+def proved_program():
+    """The program `collate-cldr`, proved and built where that wasn't done since its sources last changed."""
+    run([os.path.join(TOP, "bin", "collate-cldr"), "--help"])
+    return os.path.join(TOP, "crates", "collate_cldr", "out", "collate_cldr")
+
+
+def tables_of(program, language, cldr, folder):
+    """The table file of a language, compiled."""
+    tables = os.path.join(folder, f"{language}.tables")
+    run([program, "compile", "--cldr", cldr, "-l", language, "-o", tables])
+    return tables

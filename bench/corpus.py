@@ -7,7 +7,7 @@ import os
 import unicodedata
 from collections import Counter, namedtuple
 
-from scripts import SCRIPTS, TWELVE, Script, Texts, as_they_are, base, composed, decomposed, emoji, names_of, words_of
+from scripts import LANGUAGE_WORDS, SCRIPTS, TWELVE, Script, Texts, as_they_are, base, composed, decomposed, emoji, names_of, words_of, words_of_cldr
 
 PAIRS = 5_000
 NAMES = 20_000
@@ -24,8 +24,8 @@ BESIDE_KEYS = "search beside keys"
 Row = namedtuple("Row", "group operation name limit settings pairs")
 
 # The number of the strength as ICU has it, and what is on: digits as numbers, variable elements shifted, the case level, and for the
-# peer alone that it normalizes texts, which it leaves to its caller else.
-Settings = namedtuple("Settings", "strength numeric shifted case_level normalized", defaults=(2, 0, 0, 0, 0))
+# peer alone that it normalizes texts, which it leaves to its caller else. The tables are those of a language, und for the root.
+Settings = namedtuple("Settings", "strength numeric shifted case_level normalized language", defaults=(2, 0, 0, 0, 0, "und"))
 TERTIARY = Settings()
 
 # What needs no table but Mini's, the small one of `icu_table_mini`.
@@ -33,6 +33,14 @@ MINI_GROUPS = ("latin", "korean", "digits", "long")
 
 # What has ideographs, which the peer orders by radical and stroke, and the library by code point.
 WITH_IDEOGRAPHS = ("Han", "Japanese", "mixed scripts", "twelve scripts")
+
+# The greatest ratios that are wanted of a language's words: of a comparison, of a key, of elements.
+LANGUAGE_LIMITS = {
+    "hu": (0.8, 0.7, 0.8),
+    "fr-CA": (0.8, 0.8, 0.8),
+    "ja": (0.8, 0.8, 0.8),
+    **dict.fromkeys(("cs", "da", "de-u-co-phonebk", "es-u-co-trad", "pl", "sv"), (0.7, 0.7, 0.8)),
+}
 
 # Letters as often as English has them, so that beginnings repeat as in real lists.
 LETTERS = "eeeeeeeeeeeettttttttaaaaaaaaoooooooiiiiiiinnnnnnnsssssshhhhhhrrrrrrddddllllcccuuummwwffggyyppbbvkjxqz"
@@ -114,6 +122,9 @@ class Lists:
         if name in self.scripts:
             return names_of(self.scripts[name], self.seed, NAMES)
         texts = self.texts(name)
+        if name in LANGUAGE_WORDS:
+            language, letters = LANGUAGE_WORDS[name]
+            return texts.in_any_order(words_of_cldr(language, letters))
         if name == "composed names":
             return [with_accents(texts, ascii_name(texts)) for _ in range(NAMES)]
         if name == "decomposed names":
@@ -140,6 +151,11 @@ class Lists:
             return [ascii_name(texts) for _ in range(count)]
         scripts = [texts.pick(TWELVE) for _ in range(count)]
         return [" ".join(texts.pick(self.words(script)) for _ in range(1 + texts.below(3))) for script in scripts]
+
+    def cut(self, length):
+        """Texts of so many letters, all in all a hundred thousand."""
+        letters = "".join(it for name in self.of("ASCII names") for it in name if it.isalpha())
+        return [letters[at : at + length] for at in range(0, min(100_000, length * PAIRS), length)]
 
     def long(self, name):
         """A text of 10,000 characters."""
@@ -220,6 +236,44 @@ def tie_rows(lists):
         yield Row("ties", "compare", name, 0.8, TERTIARY, pairs)
     short = lambda: [(it[:6], it[:6]) for it in lists.of("ASCII names")[:PAIRS]]
     yield Row("ties", "compare", "the same short text twice", 1.0, TERTIARY, short)
+
+
+def language_rows(lists):
+    """Words of languages, by their own tables, as they stand in lists: in any order, and sorted."""
+    for language in LANGUAGE_WORDS:
+        limits = LANGUAGE_LIMITS.get(language, (0.9, 0.9, 0.9))
+        settings, source = Settings(language=language), language
+        yield from compare_rows(lists, "languages", f"{language} words", limits[0], settings=settings, source=source)
+        yield list_row(lists, "languages", "keys", f"{language} words", limits[1], settings, source)
+        yield list_row(lists, "languages", "elements", f"{language} words", limits[2], settings, source)
+    changes = (("hu", "hu", "capitals", str.upper), ("fr-CA", "fr-CA", "unaccented ones", unaccented), ("und", "fr-CA", "unaccented ones", unaccented),
+               ("und", "es-u-co-trad", "capitals", str.upper), ("und", "es-u-co-trad", "one capital", str.capitalize))
+    for language, source, what, change in changes:
+        pairs = lambda source=source, change=change: [(it, change(it)) for it in lists.of(source)[:PAIRS] if change(it) != it]
+        yield Row("languages", "compare", f"{source} words beside {what}, by {language}", 0.8, Settings(language=language), pairs)
+
+
+def unaccented(word):
+    return "".join(map(base, word))
+
+
+def difference_rows(lists):
+    """Texts of many lengths that differ at one place: in an accent, in case, or in a letter."""
+    changes = (("an accent", accented), ("case", str.swapcase), ("a letter", lambda letter: "x" if letter != "x" else "y"))
+    for length in (3, 10, 40, 150, 500):
+        for place, at in (("first", 0), ("middle", length // 2), ("last", length - 1)):
+            for what, change in changes:
+                pairs = lambda length=length, at=at, change=change: [with_change(it, at, change) for it in lists.cut(length)]
+                limit = 0.2 if length == 500 and place == "middle" else 0.8
+                yield Row("differences", "compare", f"{length} characters, {what} in the {place} one", limit, TERTIARY, pairs)
+
+
+def accented(letter):
+    return composed(letter + "\u0301")
+
+
+def with_change(text, at, change):
+    return text, text[:at] + change(text[at]) + text[at + 1 :]
 
 
 def plain_hebrew(name):
@@ -357,6 +411,8 @@ def rows(seed):
     yield from name_rows(lists, "mixed", "mixed scripts", 0.7, 0.7)
     yield from name_rows(lists, "mixed", "emoji", 0.9, 1.0)
     yield from tie_rows(lists)
+    yield from difference_rows(lists)
+    yield from language_rows(lists)
     yield from settings_rows(lists)
     for name, limit in (("Thai", 0.9), ("Arabic", 0.7), ("Cyrillic", 0.7), ("ASCII names", 0.6)):
         yield from compare_rows(lists, "utf16", name, limit, operation="compare UTF-16")
@@ -380,8 +436,14 @@ def passes(row):
     return [("search alone", row.pairs), ("keys", lambda: [(text, text) for _, text in row.pairs()])]
 
 
-def write(folder, chosen):
-    """Writes a file of texts for all that is timed, one text a line and so two lines a pair, and the plan: a line a file."""
+def languages(chosen):
+    """The languages whose tables the rows need, but for the root."""
+    return sorted({row.settings.language for row in chosen} - {TERTIARY.language})
+
+
+def write(folder, chosen, tables):
+    """Writes a file of texts for all that is timed, one text a line and so two lines a pair, and the plan: a line a file. `tables` has
+    the table files of the languages."""
     os.makedirs(folder, exist_ok=True)
     plan = []
     for row in chosen:
@@ -389,6 +451,7 @@ def write(folder, chosen):
             file = os.path.join(folder, f"{len(plan)}.txt")
             with open(file, "wb") as it:
                 it.write("".join(f"{text}\n" for pair in pairs() for text in pair).encode("utf-8"))
-            plan.append("\t".join((operation, " ".join(map(str, row.settings)), file)))
+            *numbers, language = row.settings
+            plan.append("\t".join((operation, " ".join(map(str, numbers)), file, language, tables.get(language, ""))))
     with open(os.path.join(folder, "plan"), "w", encoding="utf-8") as it:
         it.write("".join(f"{line}\n" for line in plan))

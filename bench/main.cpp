@@ -2,7 +2,8 @@
 //
 // usage: collation_bench PLAN ROUNDS [FRACTIONAL_UCA]
 //
-// Over the root of CLDR where its file is given, and else over Mini, the small table of `icu_mini`. Each row of the plan is measured
+// Over the tables of the row's language where it has a table file, else over the root of CLDR where its file is given, and else over
+// Mini, the small table of `icu_table_mini`. Each row of the plan is measured
 // once in each round, first the peer and then the library; of each the least processor time counts. Prints a line a row, parted by
 // tabs: the nanoseconds of a call of ICU4C and of the library, how many pairs of texts or lists were not in ICU4C's order, and of
 // how many pairs the keys were in another order than the texts.
@@ -12,9 +13,9 @@
 #include "session.h"
 
 extern "C" {
-// Of the library: makes a collator, over Mini where `root` is empty, and serves passes until the operation is `End`. Returns 0, or
+// Of the library: makes a collator, over Mini where `tables` is empty, and serves passes until the operation is `End`. Returns 0, or
 // why there is no collator.
-uint32_t bench_serve(const uint8_t *root, size_t root_length, const Settings *settings, const uint8_t *bytes, size_t bytes_length,
+uint32_t bench_serve(const uint8_t *tables, size_t tables_length, const Settings *settings, const uint8_t *bytes, size_t bytes_length,
                      const uint32_t *ends, size_t ends_length, const char16_t *units, size_t units_length,
                      const uint32_t *unit_ends, size_t unit_ends_length, const std::array<uint32_t, 2> *pairs,
                      size_t pairs_length, uint8_t *signs, size_t signs_length);
@@ -32,15 +33,17 @@ static void measure(const std::vector<Row *> &rows, uint64_t rounds, const std::
     for (Row *row : rows) {
         texts.add(*row);
     }
-    Session passes(texts, rows, rounds, !root.empty());
+    const Settings &settings = rows.front()->settings;
+    const std::string tables = settings.tables.empty() ? root : contents(settings.tables);
+    Session passes(texts, rows, rounds, !tables.empty());
     session = &passes;
     const auto as_bytes = [](const std::string &it) { return reinterpret_cast<const uint8_t *>(it.data()); };
     const uint32_t refusal =
-        bench_serve(as_bytes(root), root.size(), &rows.front()->settings, as_bytes(texts.bytes), texts.bytes.size(),
+        bench_serve(as_bytes(tables), tables.size(), &settings, as_bytes(texts.bytes), texts.bytes.size(),
                     texts.ends.data(), texts.ends.size(), texts.units.data(), texts.units.size(), texts.unit_ends.data(),
                     texts.unit_ends.size(), texts.pairs.data(), texts.pairs.size(), passes.signs.data(), passes.signs.size());
     if (refusal != 0) {
-        const char *const why[] = {"", "no memory", "the root's file is refused", "the tables are refused"};
+        const char *const why[] = {"", "no memory", "the file of the tables is refused", "the tables are refused"};
         std::cerr << "no collator: " << why[std::min<uint32_t>(refusal, 3)] << '\n';
         std::exit(1);
     }

@@ -2,6 +2,7 @@
 #pragma once
 
 #include <algorithm>
+#include <array>
 #include <cstdint>
 #include <cstdlib>
 #include <iostream>
@@ -12,15 +13,18 @@
 
 #include <unicode/ucol.h>
 #include <unicode/ucoleitr.h>
+#include <unicode/uloc.h>
 #include <unicode/usearch.h>
 #include <unicode/ustring.h>
 
-// The settings of a row. The library takes the first four, and normalizes texts always.
+// The settings of a row. The library takes the first five, and normalizes texts always.
 struct Settings {
     // By ICU's number, UCOL_TERTIARY and the like.
     uint32_t strength = 2;
-    // What is on where it isn't 0.
-    uint32_t numeric = 0, shifted = 0, case_level = 0, normalized = 0;
+    // What is on where it isn't 0. By a file: the library's tables are those of a language, from a table file.
+    uint32_t numeric = 0, shifted = 0, case_level = 0, by_file = 0, normalized = 0;
+    // The language, by its tag, and its table file.
+    std::string language = "und", tables = "";
 
     bool operator==(const Settings &) const = default;
 };
@@ -52,10 +56,13 @@ using Collator = std::unique_ptr<UCollator, Close>;
 
 class Peer {
   public:
-    // By ICU's collation of a locale.
-    explicit Peer(const Settings &settings, const char *locale = "root") : settings_(settings), key_(1 << 20) {
+    // By ICU's collation of the language.
+    explicit Peer(const Settings &settings) : settings_(settings), key_(1 << 20) {
         UErrorCode error = U_ZERO_ERROR;
-        collator_.reset(ucol_open(locale, &error));
+        std::array<char, 100> locale{};
+        uloc_forLanguageTag(settings.language.c_str(), locale.data(), locale.size(), nullptr, &error);
+        must(error, "uloc_forLanguageTag");
+        collator_.reset(ucol_open(locale.data(), &error));
         must(error, "ucol_open");
         set(collator_.get());
         elements_.reset(ucol_openElements(collator_.get(), u"", 0, &error));
@@ -81,17 +88,6 @@ class Peer {
 
     // Writes the sort key of a text into room that is there, and returns its length.
     uint64_t key(std::u16string_view text) { return key_into(text, key_.data(), key_.size()); }
-
-    // Writes the sort key of a text behind those in `keys`.
-    void add_key(std::u16string_view text, std::vector<uint8_t> &keys) const {
-        const size_t start = keys.size();
-        keys.resize(start + 8 * text.size() + 64);
-        const size_t length = key_into(text, keys.data() + start, keys.size() - start);
-        keys.resize(start + length);
-        if (length > 8 * text.size() + 64) {
-            key_into(text, keys.data() + start, length);
-        }
-    }
 
     // Goes through the elements of a text, and returns their sum.
     uint64_t elements(std::u16string_view text) {
@@ -137,15 +133,16 @@ class Peer {
         return 1;
     }
 
+    // Writes the sort key of a text into room if it fits, and returns its length.
+    size_t key_into(std::u16string_view text, uint8_t *room, size_t size) const {
+        return ucol_getSortKey(collator_.get(), text.data(), static_cast<int32_t>(text.size()), room, static_cast<int32_t>(size));
+    }
+
   private:
     Settings settings_;
     Collator collator_, root_;
     std::unique_ptr<UCollationElements, Close> elements_;
     std::vector<uint8_t> key_, tables_;
-
-    size_t key_into(std::u16string_view text, uint8_t *room, size_t size) const {
-        return ucol_getSortKey(collator_.get(), text.data(), static_cast<int32_t>(text.size()), room, static_cast<int32_t>(size));
-    }
 
     void set(UCollator *collator) const {
         UErrorCode error = U_ZERO_ERROR;

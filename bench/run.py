@@ -2,7 +2,7 @@
 """Builds the bench, runs it, and prints a table of its rows.
 
 usage: bench/run.py [--group GROUP ..] [--list] [--rounds N] [--seed N] [--both-seeds] [--root FILE | --mini]
-                    [--folder FOLDER] [--jobs N] [--shift N] [--built]
+                    [--folder FOLDER] [--program FILE] [--jobs N] [--shift N] [--built]
 
 --group GROUP ..  the rows of these groups alone
 --list            print the groups and their rows, and measure nothing
@@ -12,15 +12,18 @@ usage: bench/run.py [--group GROUP ..] [--list] [--rounds N] [--seed N] [--both-
 --root FILE       FractionalUCA.txt of CLDR (where Debian's package unicode-cldr-core installs it)
 --mini            measure by Mini, the small table of icu_table_mini: the groups that need no other
 --folder FOLDER   where proofs, programs and texts are kept, outside of the repository (collation-bench in the user's cache)
+--program FILE    a program `collate-cldr` that was built elsewhere, in place of the proved one: it compiles the tables of languages
 --jobs N          passed on to `rt`
 --shift N         link the library so many bytes further (0)
 --built           measure with the program that the last run built, and build nothing
 
-The table goes to standard output, all else to standard error. Status 1: a text was not ordered as it should be.
+The table goes to standard output, all else to standard error: the ten greatest ratios, and the median, first. Status 1: a text was not
+ordered as it should be.
 """
 import argparse
 import itertools
 import os
+import statistics
 import subprocess
 import sys
 
@@ -29,7 +32,7 @@ import corpus
 from building import say
 
 CACHE = os.environ.get("XDG_CACHE_HOME") or os.path.expanduser("~/.cache")
-ROOT = "/usr/share/unicode/cldr/common/uca/FractionalUCA.txt"
+ROOT = f"{building.CLDR}/common/uca/FractionalUCA.txt"
 UNITS = {"ms": 1e6, "ns": 1.0}
 
 
@@ -71,9 +74,9 @@ class Measured:
         return [self.row.operation, self.row.name, self.row.limit, f"{self.peer:,.0f}", f"{self.library:,.0f}", ratio, mark]
 
 
-def measured(program, folder, rows, rounds, root):
+def measured(program, folder, rows, rounds, root, tables):
     """Measures the rows, with texts of their seed, and returns a list of `Measured`."""
-    corpus.write(folder, rows)
+    corpus.write(folder, rows, tables)
     words = [program, os.path.join(folder, "plan"), str(rounds), *([root] if root else [])]
     say(" ".join(words))
     ran = subprocess.run(words, stdout=subprocess.PIPE, text=True, check=False)
@@ -103,6 +106,16 @@ def differ(first, second):
     return max(first.ratio(), second.ratio()) > 1.1 * min(first.ratio(), second.ratio())
 
 
+def say_worst(found):
+    """Says the ten greatest ratios, and how large half of them are at most, of those that have a peer."""
+    found = sorted((it for it in found if not isinstance(it.row.limit, str)), key=Measured.ratio)
+    for it in found[:-11:-1]:
+        say(f"{it.ratio():.2f}: {it.row.operation}, {it.row.name} (at most {it.row.limit})")
+    if found:
+        shares = [f"{sum(it.ratio() > limit for it in found) / len(found):.1%} above {limit}" for limit in (1.0, 0.7)]
+        say(f"median {statistics.median(it.ratio() for it in found):.2f}, {', '.join(shares)}")
+
+
 def processor():
     with open("/proc/cpuinfo", encoding="utf-8") as it:
         names = [line.partition(":")[2].strip() for line in it if line.startswith("model name")]
@@ -120,6 +133,7 @@ def asked():
     tables.add_argument("--root", default=ROOT)
     tables.add_argument("--mini", action="store_true")
     parser.add_argument("--folder", default=os.path.join(CACHE, "collation-bench"))
+    parser.add_argument("--program")
     parser.add_argument("--jobs")
     parser.add_argument("--shift", type=int, default=0)
     parser.add_argument("--built", action="store_true")
@@ -151,6 +165,13 @@ def program_of(words, folder):
     return program
 
 
+def tables_of_languages(words, rows, folder):
+    """The table files of the languages that the rows need."""
+    needed = corpus.languages(rows)
+    program = (words.program or building.proved_program()) if needed else None
+    return {it: building.tables_of(program, it, building.CLDR, folder) for it in needed}
+
+
 def main():
     words = asked()
     rows = chosen(words, words.seed)
@@ -163,10 +184,12 @@ def main():
     os.makedirs(folder, exist_ok=True)
     program = program_of(words, folder)
     root = None if words.mini else words.root
-    first = measured(program, os.path.join(folder, "texts"), rows, words.rounds, root)
+    tables = tables_of_languages(words, rows, folder)
+    first = measured(program, os.path.join(folder, "texts"), rows, words.rounds, root, tables)
     second = []
     if words.both_seeds:
-        second = measured(program, os.path.join(folder, "other-texts"), chosen(words, words.seed + 1), words.rounds, root)
+        second = measured(program, os.path.join(folder, "other-texts"), chosen(words, words.seed + 1), words.rounds, root, tables)
+    say_worst(first)
     print_table(first, second)
     for it, other in zip(first, second):
         if differ(it, other):

@@ -46,6 +46,10 @@ class Texts:
     def pick(self, items):
         return items[self.below(len(items))]
 
+    def in_any_order(self, items):
+        keyed = sorted((self.random(), it) for it in items)
+        return [it for _, it in keyed]
+
     def picked(self, items, fewest, most):
         """So many items, joined."""
         return "".join(self.pick(items) for _ in range(fewest + self.below(most - fewest + 1)))
@@ -113,6 +117,31 @@ SCRIPTS = (
     Script("Katakana with long marks", "eastasian", 0.7, "ja", "KATAKANA", "ー", as_they_are),
     Script("Japanese", "eastasian", 0.7, "ja", JAPANESE, "", as_they_are),
 )
+# Languages that have an order of their own, and where CLDR has their words: the file, and how the names of the characters begin.
+LANGUAGE_WORDS = {
+    **{it: (it, "LATIN") for it in "az bs cs cy da et fi hr hu is lt lv pl ro sk sl sq sv tr vi".split()},
+    "nb": ("no", "LATIN"),
+    "de-u-co-phonebk": ("de", "LATIN"),
+    "es-u-co-trad": ("es", "LATIN"),
+    "fr-CA": ("fr", "LATIN"),
+    **{it: (it, "CYRILLIC") for it in "be kk ky mk uk".split()},
+    "ar": ("ar", "ARABIC"),
+    "fa": ("fa", "ARABIC"),
+    "bn": ("bn", "BENGALI"),
+    "gu": ("gu", "GUJARATI"),
+    "hi": ("hi", "DEVANAGARI"),
+    "kn": ("kn", "KANNADA"),
+    "km": ("km", "KHMER"),
+    "lo": ("lo", "LAO"),
+    "my": ("my", "MYANMAR"),
+    "si": ("si", "SINHALA"),
+    "ta": ("ta", "TAMIL"),
+    "te": ("te", "TELUGU"),
+    "th": ("th", "THAI"),
+    "ja": ("ja", JAPANESE),
+    "ko": ("ko", "HANGUL"),
+    "zh": ("zh", "CJK UNIFIED"),
+}
 # Those whose names sorts of many scripts mix.
 TWELVE = "Cyrillic Greek Georgian Armenian Arabic Hebrew Devanagari Bengali Tamil Thai Han Hiragana".split()
 

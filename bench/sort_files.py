@@ -30,7 +30,6 @@ from building import say
 from run import CACHE, print_line
 
 LOCALE = "en_US.UTF-8"
-CLDR = "/usr/share/unicode/cldr"
 # How much is wanted at most of what ICU4C's program takes: from start to end, of processor, of memory.
 LIMITS = (0.5, 0.5, 1.2)
 IDEOGRAPHS = re.compile("[\u3400-\u9FFF\uF900-\uFAFF\U00020000-\U0003FFFF]")
@@ -80,13 +79,6 @@ def write_lines(file, seed, name, count):
         it.writelines(f"{name}\n" for name in corpus.Lists(seed).many(name, count))
 
 
-def tables_of(program, locale, words, folder):
-    """The table file of a language, compiled."""
-    tables = os.path.join(folder, f"{locale}.tables")
-    building.run([program, "compile", "--cldr", words.cldr, "-l", locale, "-o", tables])
-    return tables
-
-
 def sorts_by_bytes(programs, locale, lines):
     """What GNU `sort` takes, with one thread and with as many as it takes by itself; nothing where it hasn't the locale."""
     if locale != "und" or not has_locale():
@@ -100,18 +92,14 @@ def row(name, count, locale, words, programs, folder):
     lines = os.path.join(folder, "lines")
     write_lines(lines, words.seed, name, count)
     ours, peers = (f"{lines}.{it}" for it in ("ours", "peers"))
-    tables = tables_of(programs.ours, locale, words, folder)
+    tables = building.tables_of(programs.ours, locale, words.cldr, folder)
     library, peer = programs.least(
-        words.rounds, lines, ([programs.ours, "sort", "--stable", "--tables", tables], ours), ([programs.peer, peer_locale(locale)], peers))
+        words.rounds, lines, ([programs.ours, "sort", "--stable", "--tables", tables], ours), ([programs.peer, locale], peers))
     ratios = [mine / theirs for mine, theirs in zip(library, peer)]
     marked = [f"{it:.2f}{' (above)' if it > limit else ''}" for it, limit in zip(ratios, LIMITS)]
     sorts = [shown(it) if it else "-" for it in sorts_by_bytes(programs, locale, lines)]
     print_line([name, f"{count:,}", locale, shown(library), shown(peer), *marked, *sorts])
     return plain_lines(ours) == plain_lines(peers)
-
-
-def peer_locale(locale):
-    return "root" if locale == "und" else locale
 
 
 def plain_lines(file):
@@ -125,8 +113,8 @@ def print_starts(locale, words, programs, folder):
     line, ours = os.path.join(folder, "line"), os.path.join(folder, "line.ours")
     with open(line, "w", encoding="utf-8") as it:
         it.write("a\n")
-    tables = tables_of(programs.ours, locale, words, folder)
-    runs = ([programs.ours, "sort", "--cldr", words.cldr, "-l", locale], [programs.ours, "sort", "--tables", tables], [programs.peer, peer_locale(locale)])
+    tables = building.tables_of(programs.ours, locale, words.cldr, folder)
+    runs = ([programs.ours, "sort", "--cldr", words.cldr, "-l", locale], [programs.ours, "sort", "--tables", tables], [programs.peer, locale])
     text, compiled_tables, peer = map(shown, programs.least(words.rounds, line, *((it, ours) for it in runs)))
     say(f"one line by {locale}: {text} by CLDR's text, {compiled_tables} by a table file, {peer} by ICU4C's program")
 
@@ -142,7 +130,7 @@ def asked():
     parser.add_argument("--rounds", type=int, default=3)
     parser.add_argument("--seed", type=int, default=1)
     parser.add_argument("--locale", nargs="+", default=["und"])
-    parser.add_argument("--cldr", default=CLDR)
+    parser.add_argument("--cldr", default=building.CLDR)
     parser.add_argument("--program")
     parser.add_argument("--folder", default=os.path.join(CACHE, "collation-bench"))
     return parser.parse_args()
@@ -153,12 +141,7 @@ def main():
     building.want_commands()
     folder = os.path.abspath(words.folder)
     os.makedirs(folder, exist_ok=True)
-    program = words.program
-    if program is None:
-        # The command proves and builds the program where that wasn't done since its sources last changed.
-        building.run([os.path.join(building.TOP, "bin", "collate-cldr"), "--help"])
-        program = os.path.join(building.TOP, "crates", "collate_cldr", "out", "collate_cldr")
-    programs = Programs(program, folder)
+    programs = Programs(words.program or building.proved_program(), folder)
     say(f"{len(os.sched_getaffinity(0))} processors")
     for locale in words.locale:
         print_starts(locale, words, programs, folder)

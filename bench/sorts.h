@@ -1,6 +1,7 @@
 // The sorts of the peer: of the texts of some pairs, by comparisons and by keys.
 #pragma once
 
+#include "keyed.h"
 #include "texts.h"
 
 // What a list comes to where a further name stands behind it: a number that depends on the order of the names, the same as in
@@ -30,25 +31,15 @@ inline uint64_t sorted_by_comparisons(const Peer &peer, const Texts &texts, cons
 }
 
 inline uint64_t sorted_by_keys(const Peer &peer, const Texts &texts, const Row &row) {
-    // A text, by its index, and where its key stands among the keys of all.
-    struct Keyed {
-        uint32_t index;
-        size_t start, length;
-    };
-    std::vector<uint8_t> keys;
+    Keys keys(peer);
     std::vector<Keyed> all;
     for (const uint32_t index : indices(texts, row)) {
-        const size_t start = keys.size();
-        peer.add_key(texts.utf16(index), keys);
-        all.push_back({index, start, keys.size() - start});
+        all.push_back(keys.keyed(texts.utf8(index), texts.utf16(index)));
     }
-    const auto key = [&](const Keyed &it) {
-        return std::string_view(reinterpret_cast<const char *>(keys.data()) + it.start, it.length);
-    };
-    std::stable_sort(all.begin(), all.end(), [&](const Keyed &left, const Keyed &right) { return key(left) < key(right); });
+    std::stable_sort(all.begin(), all.end());
     uint64_t sum = 0;
     for (const Keyed &it : all) {
-        sum = listed(sum, texts.utf8(it.index));
+        sum = listed(sum, it.text);
     }
     return sum;
 }

@@ -78,7 +78,8 @@ inline Operation operation_named(std::string_view name) {
     return static_cast<Operation>(1 + (found - std::begin(names)));
 }
 
-// The rows of a plan, one a line: what is measured, the settings, the file of the texts.
+// The rows of a plan, one a line: what is measured, the settings, the file of the texts, the language and its table file if it has
+// one.
 inline std::vector<Row> rows_of(const std::string &plan) {
     std::vector<Row> rows;
     auto lines = opened(plan);
@@ -86,14 +87,15 @@ inline std::vector<Row> rows_of(const std::string &plan) {
         std::istringstream words(line);
         std::string operation, settings;
         Row row;
-        for (std::string *word : {&operation, &settings, &row.file}) {
+        Settings &it = row.settings;
+        for (std::string *word : {&operation, &settings, &row.file, &it.language, &it.tables}) {
             std::getline(words, *word, '\t');
         }
         row.alone = operation == "search alone";
         row.measured = operation_named(row.alone ? "search" : operation);
         std::istringstream numbers(settings);
-        Settings &it = row.settings;
         numbers >> it.strength >> it.numeric >> it.shifted >> it.case_level >> it.normalized;
+        it.by_file = it.tables.empty() ? 0 : 1;
         rows.push_back(row);
     }
     return rows;
