@@ -1,5 +1,6 @@
 -- Two texts of which characters are read, gone through in step, where no element is variable.
-use Rattle.std.proofs.Common.{◌≡◌, ℕ, List, [], ◌∷◌, map, Option, Some, None, IfSome, Ordering, Less, Equal, Greater, option_map, refl, sym, ap, ap₂, subst, ◌∙◌}
+use Rattle.std.proofs.Common.{◌≡◌, ℕ, List, [], ◌∷◌, ◌++◌, map, Option, Some, None, IfSome, Ordering, Less, Equal, Greater, option_map, refl, sym, ap, ap₂, subst, ◌∙◌}
+use Rattle.std.proofs.lemmas.List.{map-append}
 use Rattle.std.specs.Ordering.{ordering_then}
 use Rattle.unicode_normalization.specs.Forms.{nfd}
 use Rattle.icu_table_entries.specs.Elements.{Element}
@@ -8,9 +9,11 @@ use Rattle.icu_order_levels.specs.Keys.{characters_order}
 use Rattle.icu_order_levels.specs.declared.forms.TertiaryForm.{TertiaryForm}
 use Rattle.icu_order_levels.proofs.Order.{same_front}
 use Rattle.icu_order_levels.proofs.Orderings.{then_equal}
-use Rattle.icu_element_reading.specs.TextElements.{elements_of, elements_after}
+use Rattle.icu_element_reading.proofs.boundaries.CutPartLemmas.{nothing, pieces_part}
+use Rattle.icu_element_reading.specs.TextElements.{Reading, elements_of, elements_after}
+use Rattle.icu_element_reading.specs.boundaries.Places.{BeginsAtBoundary}
 use Rattle.icu_element_cursor.specs.declared.facts_cursor.FactsCursor.{FactsCursor}
-use Rattle.icu_element_cursor.specs.FactsCursors.{facts_give, GivesNextOrEnds}
+use Rattle.icu_element_cursor.specs.FactsCursors.{facts_give, facts_reading, GivesNextOrEnds, ReadsText}
 use Rattle.icu_order_texts.specs.weighting.Collations.{Collation}
 use Rattle.icu_order_texts.specs.weighting.Forms.{form_by, last_variable_by}
 use Rattle.icu_order_texts.specs.weighting.Handled.{HandledElement, stayed}
@@ -24,7 +27,7 @@ use Rattle.icu_table_provider.specs.CollatorTables.{reorder_by}
 use Rattle.icu_table_provider.specs.StoredTables.{reordering_of}
 use Rattle.icu_table_provider.specs.declared.reordering.CollationReordering.{CollationReordering}
 use Rattle.icu_collator.specs.inner.ElementOrders.{ReadsElementsAlone, elements_order, leading_order}
-use Rattle.icu_collator.specs.inner.FactsInStep.{StepsOn, WeighsOn, plain_left, weights_from}
+use Rattle.icu_collator.specs.inner.FactsInStep.{AreCut, PassesCommon, StepsOn, WeighsOn, plain_left, weights_from}
 use Rattle.icu_collator.specs.inner.InStep.{from_first, order_on, three_order, three_levels, ThreeLevels, IsThreeLevel, StepBoth, StepsBy, DecidesOn}
 use Rattle.icu_collator.specs.inner.LevelWeights.{read_as, weight_in, level_weights}
 use Rattle.icu_collator.proofs.InStepLemmas.{tied_order, same_order, steps_by, step_both, first_decides, second_decides, three_read, weights_of_first, no_weight_of_first}
@@ -34,10 +37,10 @@ use Rattle.icu_collator.proofs.OrdersInTurn.{all_stay, order_in_two}
 
 -- an element that comes next stays
 pub steps_on : {T : Type 0} (text : T → List ℕ) (old new : FactsCursor T) (e : Element) → GivesNextOrEnds text old (Some e) new → StepsOn text old (Some (Stayed e)) new
-steps_on text old new e h = λ before. let next = h before in (next.0, ap (map stayed) next.1)
+steps_on text old new e h = λ before. let next = h.1 before in (next.0, ap (map stayed) next.1)
 
 pub steps_end : {T : Type 0} (text : T → List ℕ) (old new : FactsCursor T) → GivesNextOrEnds text old None new → StepsOn text old None new
-steps_end text old new h = λ before. (before, ap (map stayed) (h before))
+steps_end text old new h = λ before. (before, ap (map stayed) (h.1 before))
 
 -- ---- two texts
 
@@ -133,6 +136,67 @@ out_decides levels third hs ks us vs one other None e f ties h = tt
 out_decides levels third hs ks us vs one other (Some o) e f ties h =
     let d = h us vs in
     second_decides levels third hs ks o ties (d.0 ∙ sym (ap₂ (order_on levels.second) e f), d.1)
+
+-- ---- common elements
+
+-- common elements in front change nothing on a level
+pub common_on : (level : Level) (ms hs ks : List HandledElement) → order_on level (ms ++ hs) (ms ++ ks) ≡ order_on level hs ks
+common_on level [] hs ks = refl
+common_on level (m ∷ ms) hs ks = tied_order level m m (ms ++ hs) (ms ++ ks) refl ∙ common_on level ms hs ks
+
+common_three : (levels : ThreeLevels) (third : Ordering) (ms hs ks : List HandledElement) → three_order levels third (ms ++ hs) (ms ++ ks) ≡ three_order levels third hs ks
+common_three levels third ms hs ks = rw (common_on levels.first ms hs ks, common_on levels.second ms hs ks, common_on levels.third ms hs ks) refl
+
+-- the beginning of a text that begins at a boundary gives the same after any characters
+front_anew : (reading : Reading) (m r : List ℕ) → BeginsAtBoundary reading (m ++ r) → (b d : List ℕ) → elements_after reading b (nfd m) ≡ elements_after reading d (nfd m)
+front_anew reading [] r h b d = nothing reading b ∙ sym (nothing reading d)
+front_anew reading (c ∷ m) r h b d = h b d [] m ∙ ap (λ (es : List Element). es ++ elements_after reading d (nfd (c ∷ m))) (nothing reading b)
+
+module _ {T U : Type 0} (text : T → List ℕ) (other_text : U → List ℕ) (left : FactsCursor T) (right : FactsCursor U) where
+  pub nothing_passed : PassesCommon text other_text left right left right
+  nothing_passed = λ b d. (b, d, [], refl, refl)
+
+  pub passes_cut : (t : T) (u : U) (r : T) (s : U) (one : FactsCursor T) (other : FactsCursor U) → facts_reading left ≡ facts_reading right → ReadsText text left t → ReadsText other_text right u
+      → BeginsAtBoundary (facts_reading left) (text t) → AreCut text other_text left right t u r s → ReadsText text one r → ReadsText other_text other s
+      → facts_reading one ≡ facts_reading left → facts_reading other ≡ facts_reading right → PassesCommon text other_text left right one other
+  passes_cut t u r s one other same reads other_reads begins cut reads' other_reads' kept other_kept = λ b d.
+      let m = cut.common in
+      let ms = elements_after (facts_reading left) b (nfd m) in
+      let first : facts_give text left b ≡ ms ++ facts_give text one [] =
+      reads b
+      ∙ pieces_part (facts_reading left) b [] (text t) m (text r) (record { parts = cut.left_parts; boundary = cut.left_cut })
+      ∙ ap (λ (es : List Element). ms ++ es) (sym (reads' [] ∙ ap (λ (x : Reading). elements_after x [] (nfd (text r))) kept)) in
+      let anew : elements_after (facts_reading right) d (nfd m) ≡ ms =
+      ap (λ (x : Reading). elements_after x d (nfd m)) (sym same)
+      ∙ front_anew (facts_reading left) m (text r) (subst (BeginsAtBoundary (facts_reading left)) cut.left_parts begins) d b in
+      let second : facts_give other_text right d ≡ ms ++ facts_give other_text other [] =
+      other_reads d
+      ∙ pieces_part (facts_reading right) d [] (other_text u) m (other_text s) (record { parts = cut.right_parts; boundary = cut.right_cut })
+      ∙ ap (λ (es : List Element). es ++ elements_after (facts_reading right) [] (nfd (other_text s))) anew
+      ∙ ap (λ (es : List Element). ms ++ es) (sym (other_reads' [] ∙ ap (λ (x : Reading). elements_after x [] (nfd (other_text s))) other_kept)) in (
+        [],
+        [],
+        map stayed ms,
+        ap (map stayed) first ∙ map-append stayed ms (facts_give text one []),
+        ap (map stayed) second ∙ map-append stayed ms (facts_give other_text other []),
+      )
+
+  module _ (one : FactsCursor T) (other : FactsCursor U) (h : PassesCommon text other_text left right one other) where
+    pub passed_on : (level : Level) (b d : List ℕ) → (b' : List ℕ) × (d' : List ℕ)
+        × (order_on level (plain_left text left b) (plain_left other_text right d) ≡ order_on level (plain_left text one b') (plain_left other_text other d'))
+    passed_on level b d =
+        let p = h b d in
+        (p.0, p.1, ap₂ (order_on level) p.3 p.4 ∙ common_on level p.2 (plain_left text one p.0) (plain_left other_text other p.1))
+
+    pub leaves_passed : (levels : ThreeLevels) (from : FactsCursor T) (to : FactsCursor U) (third : Ordering)
+        → LeavesOrder text other_text levels from to third left right → LeavesOrder text other_text levels from to third one other
+    leaves_passed levels from to third so_far = λ b d.
+        let at = so_far b d in
+        let p = h at.0 at.1 in (
+          p.0,
+          p.1,
+          at.2 ∙ ap₂ (three_order levels third) p.3 p.4 ∙ common_three levels third p.2 (plain_left text one p.0) (plain_left other_text other p.1),
+        )
 
 -- ---- weights
 

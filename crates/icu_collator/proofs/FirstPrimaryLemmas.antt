@@ -189,18 +189,18 @@ module _ (collation : Collation) where
   module _ {T : Type 0} (text : T → List ℕ) where
     pub primary_next : (old new : FactsCursor T) (e : Element) → GoesOn text old e new → last_variable_by collation < e.primary → GivesPrimary collation text old e.primary new
     primary_next old new e goes above = λ before after.
-        let next = goes before in
+        let next = goes.1 before in
         (next.0, false, ap (primaries_given collation after) next.1 ∙ leading_primary collation after e (facts_give text new next.0) above)
 
     none_next : (old new : FactsCursor T) (e : Element) → GoesOn text old e new → e.primary ≡ 0 → GivesPrimaries collation text old [] new
     none_next old new e goes zero = λ before after.
-        let next = goes before in
+        let next = goes.1 before in
         let none = no_primary collation after e (facts_give text new next.0) zero in
         (next.0, none.0, ap (primaries_given collation after) next.1 ∙ none.1)
 
     variable_next : (old new : FactsCursor T) (e : Element) → GoesOn text old e new → is_variable (last_variable_by collation) e ≡ true → GivesPrimaries collation text old [] new
     variable_next old new e goes is = λ before after.
-        let next = goes before in
+        let next = goes.1 before in
         (next.0, true, ap (primaries_given collation after) next.1 ∙ variable_first collation after e (facts_give text new next.0) is)
 
     -- an element that doesn't count

@@ -143,7 +143,11 @@ impl<'a> CollatorBorrowed<'a> {
     }
 
     /// The order of two texts from their first characters on: by these where they decide, or else by all levels.
-    fn compare_whole<L: CountedText, R: CountedText>(&self, left: L, right: R) -> Ordering
+    fn compare_whole<L: CommonUnits<R> + CountedText, R: CountedText>(
+        &self,
+        left: L,
+        right: R,
+    ) -> Ordering
         ensures { result ≡ text_order (collation_borrowed self.now)
             (L.text left) (R.text right) }
     {

@@ -15,7 +15,7 @@ use icu_element_cursor::{CursorTables, FactsCursor};
 use icu_order_levels::forms::TertiaryForm;
 use icu_order_texts::laws::common_beginnings_do_not_count;
 use icu_table_entries::element::MERGE_SEPARATOR_PRIMARY;
-use icu_text_encodings::EncodedText;
+use icu_text_encodings::{CommonUnits, EncodedText};
 use std::cmp::Ordering;
 
 /// How many primary weights of two texts are compared by their characters, at most.
@@ -31,7 +31,7 @@ impl<'a> CollatorBorrowed<'a> {
     /// The rests of two texts from their last common boundary on, within their common beginning of `common` units, and
     /// the order of the texts where the first characters of the rests decide it. `None` where the only such place is at
     /// the start.
-    pub(crate) fn last_rests<L: EncodedText, R: EncodedText>(
+    pub(crate) fn last_rests<L: CommonUnits<R>, R: EncodedText>(
         &self,
         left: L,
         right: R,
@@ -56,7 +56,7 @@ impl<'a> CollatorBorrowed<'a> {
     /// The rests of two texts from this place on, where both may be cut there, and their order where what they begin
     /// with there decides it. `None` where one may not be cut.
     #[inline(always)]
-    fn rests_at<L: EncodedText, R: EncodedText>(
+    fn rests_at<L: CommonUnits<R>, R: EncodedText>(
         &self,
         left: L,
         right: R,
@@ -88,7 +88,7 @@ impl<'a> CollatorBorrowed<'a> {
     /// known and differ, else by the primary weights of the characters that both begin with. `None` where these do not
     /// decide.
     #[inline(always)]
-    pub(crate) fn order_by_first_characters<L: EncodedText, R: EncodedText>(
+    pub(crate) fn order_by_first_characters<L: CommonUnits<R>, R: EncodedText>(
         &self,
         left: L,
         right: R,
@@ -111,7 +111,11 @@ impl<'a> CollatorBorrowed<'a> {
     /// The order of two texts by the characters that they begin with, as far as these may be read by themselves: by the
     /// first primary weights that differ, or, where three levels are all and the first few tie, on these in step.
     #[inline(never)]
-    fn order_by_facts<L: EncodedText, R: EncodedText>(&self, left: L, right: R) -> Option<Ordering>
+    fn order_by_facts<L: CommonUnits<R>, R: EncodedText>(
+        &self,
+        left: L,
+        right: R,
+    ) -> Option<Ordering>
         ensures { let collation = collation_borrowed self.now in
             IfSome result (λ o. o ≡ text_order collation (L.text left) (R.text right)) }
     {
@@ -149,7 +153,7 @@ impl<'a> CollatorBorrowed<'a> {
 
     /// The order of two texts on three levels, which are all, by the characters that they begin with.
     #[inline(never)]
-    fn order_on_levels<L: EncodedText, R: EncodedText>(
+    fn order_on_levels<L: CommonUnits<R>, R: EncodedText>(
         &self,
         tables: &CursorTables<'a>,
         form: TertiaryForm,

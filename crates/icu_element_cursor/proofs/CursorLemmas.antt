@@ -10,7 +10,7 @@ use Rattle.icu_element_reading.specs.boundaries.Alone.{context_after}
 use Rattle.icu_element_facts.specs.declared.char_facts.CharFacts.{CharFacts}
 use Rattle.icu_element_facts.specs.KeptFacts.{IsPair, char_elements}
 use Rattle.icu_element_cursor.specs.declared.facts_cursor.FactsCursor.{FactsCursor}
-use Rattle.icu_element_cursor.specs.FactsCursors.{facts_give, GivesNextOrEnds, GoesOn}
+use Rattle.icu_element_cursor.specs.FactsCursors.{facts_give, facts_reading, GivesNextOrEnds, GoesOn}
 use Rattle.icu_element_cursor.specs.inner.NumberElements.{IsNumberPiece}
 use Rattle.icu_element_reading.specs.boundaries.Places.{IsPiece}
 use Rattle.icu_element_cursor.specs.inner.Pieces.{IsPieceBegun}
@@ -144,59 +144,75 @@ module _ (reading : Reading) (ready : List Element) (before : List ℕ) (none : 
 
 -- an element that stands ready comes first
 pub ready_goes_on : (reading : Reading) (text : List ℕ) (ready others : List Element) (e : Element) → ready ≡ e ∷ others
-    → (before : List ℕ) → (after : List ℕ) × (ready ++ elements_after reading before (nfd text) ≡ e ∷ (others ++ elements_after reading after (nfd text)))
-ready_goes_on reading text ready others e is = λ before.
-    (before, ap (λ (es : List Element). es ++ elements_after reading before (nfd text)) is)
+    → (reading ≡ reading) × ((before : List ℕ) → (after : List ℕ) × (ready ++ elements_after reading before (nfd text) ≡ e ∷ (others ++ elements_after reading after (nfd text))))
+ready_goes_on reading text ready others e is = (
+  refl,
+  λ before.
+      (before, ap (λ (es : List Element). es ++ elements_after reading before (nfd text)) is),
+)
 
 -- where none does, the first of the next character
 pub facts_goes_on : (reading : Reading) (ready others : List Element) (c : ℕ) (own : List Element) (all text : List ℕ) (found : Option Element) → ready ≡ [] → all ≡ c ∷ text
     → StandsBefore reading c own text → own ≡ option_to_list found ++ others
-    → IfSome found (λ e. (before : List ℕ) → (after : List ℕ) × (ready ++ elements_after reading before (nfd all) ≡ e ∷ (others ++ elements_after reading after (nfd text))))
+    → IfSome found (λ e. (reading ≡ reading) × ((before : List ℕ) → (after : List ℕ) × (ready ++ elements_after reading before (nfd all) ≡ e ∷ (others ++ elements_after reading after (nfd text)))))
 facts_goes_on reading ready others c own all text None none is stands given = tt
-facts_goes_on reading ready others c own all text (Some e) none is stands given = λ before.
-    let after = context_after before (decompose Nfd c) in (
-      after,
-      ap (λ (es : List Element). es ++ elements_after reading before (nfd all)) none
-          ∙ ap (λ t. elements_after reading before (nfd t)) is
-          ∙ stands before
-          ∙ ap (λ (es : List Element). es ++ elements_after reading after (nfd text)) given,
-    )
+facts_goes_on reading ready others c own all text (Some e) none is stands given = (
+  refl,
+  λ before.
+      let after = context_after before (decompose Nfd c) in (
+        after,
+        ap (λ (es : List Element). es ++ elements_after reading before (nfd all)) none
+            ∙ ap (λ t. elements_after reading before (nfd t)) is
+            ∙ stands before
+            ∙ ap (λ (es : List Element). es ++ elements_after reading after (nfd text)) given,
+      ),
+)
 
 -- as of two characters that are joined
 pub pair_goes_on : (reading : Reading) (ready others : List Element) (c x : ℕ) (own : List Element) (all more text : List ℕ) (found : Option Element) → ready ≡ [] → all ≡ c ∷ more → more ≡ x ∷ text
     → IsPair reading c x own → own ≡ option_to_list found ++ others
-    → IfSome found (λ e. (before : List ℕ) → (after : List ℕ) × (ready ++ elements_after reading before (nfd all) ≡ e ∷ (others ++ elements_after reading after (nfd text))))
+    → IfSome found (λ e. (reading ≡ reading) × ((before : List ℕ) → (after : List ℕ) × (ready ++ elements_after reading before (nfd all) ≡ e ∷ (others ++ elements_after reading after (nfd text)))))
 pair_goes_on reading ready others c x own all more text None none is goes pair given = tt
-pair_goes_on reading ready others c x own all more text (Some e) none is goes pair given = λ before.
-    let after = context_after (context_after before (decompose Nfd c)) (decompose Nfd x) in (
-      after,
-      ap (λ (es : List Element). es ++ elements_after reading before (nfd all)) none
-          ∙ ap (λ t. elements_after reading before (nfd t)) (is ∙ ap (λ (t : List ℕ). c ∷ t) goes)
-          ∙ pair.stands before text
-          ∙ ap (λ (es : List Element). es ++ elements_after reading after (nfd text)) given,
-    )
+pair_goes_on reading ready others c x own all more text (Some e) none is goes pair given = (
+  refl,
+  λ before.
+      let after = context_after (context_after before (decompose Nfd c)) (decompose Nfd x) in (
+        after,
+        ap (λ (es : List Element). es ++ elements_after reading before (nfd all)) none
+            ∙ ap (λ t. elements_after reading before (nfd t)) (is ∙ ap (λ (t : List ℕ). c ∷ t) goes)
+            ∙ pair.stands before text
+            ∙ ap (λ (es : List Element). es ++ elements_after reading after (nfd text)) given,
+      ),
+)
 
 -- as of a character of one element that is read with the next one, whose elements are kept
 pub both_go_on : (reading : Reading) (ready kept : List Element) (c x : ℕ) (l : CharFacts) (e d : Element) (es : List Element) (all rest text : List ℕ) → ready ≡ [] → all ≡ c ∷ rest → rest ≡ x ∷ text
     → StandsBefore reading c (char_elements l) rest → StandsBefore reading x es text → kept ≡ es → l.count ≡ 1 → 1 ≤ length l.elements → e ≡ get_or l.elements 0 d
-    → (before : List ℕ) → (after : List ℕ) × (ready ++ elements_after reading before (nfd all) ≡ e ∷ (kept ++ elements_after reading after (nfd text)))
-both_go_on reading ready kept c x l e d es all rest text none is goes stands other given one some first = λ before.
-    let mid = context_after before (decompose Nfd c) in (
-      context_after mid (decompose Nfd x),
-      both_begun reading ready before none c x l e d es kept all rest text mid _ is goes stands other given one some first refl refl,
-    )
+    → (reading ≡ reading) × ((before : List ℕ) → (after : List ℕ) × (ready ++ elements_after reading before (nfd all) ≡ e ∷ (kept ++ elements_after reading after (nfd text))))
+both_go_on reading ready kept c x l e d es all rest text none is goes stands other given one some first = (
+  refl,
+  λ before.
+      let mid = context_after before (decompose Nfd c) in (
+        context_after mid (decompose Nfd x),
+        both_begun reading ready before none c x l e d es kept all rest text mid _ is goes stands other given one some first refl refl,
+      ),
+)
 
 -- where none does, and the text has ended, nothing comes
-pub nothing_goes_on : (reading : Reading) (ready : List Element) (text : List ℕ) → ready ≡ [] → text ≡ [] → (before : List ℕ) → ready ++ elements_after reading before (nfd text) ≡ []
-nothing_goes_on reading ready text none ends = λ before.
-    ap (λ (es : List Element). es ++ elements_after reading before (nfd text)) none ∙ ap (λ t. elements_after reading before (nfd t)) ends ∙ nothing reading before
+pub nothing_goes_on : (reading : Reading) (ready : List Element) (text : List ℕ) → ready ≡ [] → text ≡ []
+    → (reading ≡ reading) × ((before : List ℕ) → ready ++ elements_after reading before (nfd text) ≡ [])
+nothing_goes_on reading ready text none ends = (
+  refl,
+  λ before.
+      ap (λ (es : List Element). es ++ elements_after reading before (nfd text)) none ∙ ap (λ t. elements_after reading before (nfd t)) ends ∙ nothing reading before,
+)
 
 -- what comes first of a cursor that gives the same comes first
-pub given_same : {T : Type 0} (text : T → List ℕ) (old mid new : FactsCursor T) (found : Option (Option Element)) → ((before : List ℕ) → facts_give text old before ≡ facts_give text mid before)
+pub given_same : {T : Type 0} (text : T → List ℕ) (old mid new : FactsCursor T) (found : Option (Option Element)) → facts_reading mid ≡ facts_reading old → ((before : List ℕ) → facts_give text old before ≡ facts_give text mid before)
     → IfSome found (λ next. GivesNextOrEnds text mid next new) → IfSome found (λ next. GivesNextOrEnds text old next new)
-given_same text old mid new None same h = tt
-given_same text old mid new (Some None) same h = λ before. same before ∙ h before
-given_same text old mid new (Some (Some e)) same h = λ before. let next = h before in (next.0, same before ∙ next.1)
+given_same text old mid new None alike same h = tt
+given_same text old mid new (Some None) alike same h = (h.0 ∙ alike, λ before. same before ∙ h.1 before)
+given_same text old mid new (Some (Some e)) alike same h = (h.0 ∙ alike, λ before. let next = h.1 before in (next.0, same before ∙ next.1))
 
 -- an element that comes first
 pub element_goes_on : {T : Type 0} (text : T → List ℕ) (old new : FactsCursor T) (next : Option Element) → GivesNextOrEnds text old next new → IfSome next (λ e. GoesOn text old e new)

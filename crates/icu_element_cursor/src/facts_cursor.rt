@@ -1,8 +1,9 @@
 //! The elements of the characters that a text begins with, one by one.
 
-ghost use Rattle.std.specs.Prelude.{◌≡◌, ◌∷◌, [], ℕ, List, IfSome};
+ghost use Rattle.std.specs.Prelude.{◌≡◌, ◌∷◌, [], ℕ, List, IfSome, IsTrue};
 ghost use Rattle.unicode_normalization.specs.Forms.{nfd};
 ghost use Rattle.icu_element_reading.specs.TextElements.{elements_after};
+ghost use Rattle.icu_element_reading.specs.boundaries.Places.{BeginsAtBoundary};
 ghost use Rattle.icu_element_facts.specs.FewElements.{few_elements};
 ghost use Rattle.icu_element_facts.specs.KeptFacts.{IsPair, char_elements};
 ghost use Rattle.icu_element_cursor.specs.Cursors.{cursor_reading};
@@ -13,7 +14,7 @@ use crate::char_elements::CharElements;
 use crate::cursor_tables::CursorTables;
 use crate::digit_run::read_weight;
 use crate::ready_place::ReadyPlace;
-use crate::stands::{read_behind, stands_at_once};
+use crate::stands::{begins_at_boundary, read_behind, stands_at_once};
 use crate::unjoined::{is_plainly_unjoined, is_unjoined};
 use crate::{CharFacts, FactsKind, Kept};
 use icu_element_facts::FewElements;
@@ -30,12 +31,13 @@ pub struct FactsCursor<'c, 'd, T> {
 }
 
 impl<'c, 'd, T: EncodedText> FactsCursor<'c, 'd, T> {
-    ghost use Rattle.icu_element_cursor.specs.FactsCursors.{facts_give, GivesNextOrEnds, GoesOn};
+    ghost use Rattle.icu_element_cursor.specs.FactsCursors.{GivesNextOrEnds, GoesOn, ReadsText, facts_give, facts_reading};
 
     /// Reads a text, by these tables.
     #[inline(always)]
     pub fn new(tables: &'c CursorTables<'d>, text: T) -> FactsCursor<'c, 'd, T>
-        ensures { (before : List ℕ) → facts_give T.text result before
+        ensures reading { facts_reading result ≡ cursor_reading tables.entry.now }
+        ensures gives { (before : List ℕ) → facts_give T.text result before
             ≡ elements_after (cursor_reading tables.entry.now) before (nfd (T.text text)) }
     {
         FactsCursor {
@@ -69,6 +71,36 @@ impl<'c, 'd, T: EncodedText> FactsCursor<'c, 'd, T> {
             Some((c, rest)) => self.first_of(c, rest),
             None => Some(None),
         }
+    }
+
+    /// The text that is still to be read, where no character that was read has an element left.
+    #[inline(always)]
+    pub fn unread(&self) -> Option<T>
+        ensures { IfSome result (ReadsText T.text self.now) }
+    {
+        if self.ready.is_empty() {
+            Some(self.text)
+        } else {
+            None
+        }
+    }
+
+    /// Whether a text ends, or may be cut before its first character, as this cursor reads. False says nothing.
+    #[inline(always)]
+    pub fn may_be_cut(&self, text: T) -> bool
+        ensures { IsTrue result → BeginsAtBoundary (facts_reading self.now) (T.text text) }
+    {
+        begins_at_boundary(self.tables, text)
+    }
+
+    /// Reads another text from now on.
+    #[inline(always)]
+    pub fn begin_text(&mut self, text: T)
+        ensures reading { facts_reading self.new ≡ facts_reading self.old }
+        ensures reads { ReadsText T.text self.new text }
+    {
+        self.text = text;
+        self.ready = CharElements::none();
     }
 
     /// The first element of the character that the text begins with, where no character that was read has any left.

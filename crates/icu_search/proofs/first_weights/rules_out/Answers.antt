@@ -15,13 +15,13 @@ loop-init c =
     let text = c.args.text.now in
     record {
       inside = omega arith;
-      read = first_read (collation_borrowed c.args.collator.now) text (facts_give (λ t. t.0.now) c.new-cursor.result) (c.new-cursor.ensures [] ∙ ap (λ (r : Reading). elements_after r [] (nfd text)) c.cursor_tables-tables.ensures);
+      read = first_read (collation_borrowed c.args.collator.now) text (facts_give (λ t. t.0.now) c.new-cursor.result) (c.new-cursor.ensures.gives [] ∙ ap (λ (r : Reading). elements_after r [] (nfd text)) c.cursor_tables-tables.ensures);
     }
 
 pub returns-in_default-next : goal.returns-in_default-next
 returns-in_default-next c = λ h.
     let front = c.args.primaries.now in
-    let none = rw c.in_default-next.is at c.in-Some.ensures in
+    let none = (rw c.in_default-next.is at c.in-Some.ensures).1 in
     reads_few (collation_borrowed c.args.collator.now) c.args.text.now front (facts_give (λ t. t.0.now) c.loop.cursor) c.loop.met c.loop.invariant.read none
     (omega (arith, c.loop.invariant.inside, c.if-met-primaries.false))
 
@@ -31,7 +31,7 @@ returns-then-differ c = λ h.
     let collation = collation_borrowed c.args.collator.now in
     let last = last_variable_by collation in
     let x = c.in-Some-next.element in
-    let next = rw c.in-Some-next.is at c.in-Some.ensures in
+    let next = (rw c.in-Some-next.is at c.in-Some.ensures).1 in
     let inside : c.loop.met < length front = omega (arith, c.loop.invariant.inside, c.if-met-primaries.false) in
     let is : counts last x.primary ≡ true = ap (counts last) (sym c.primary.ensures) ∙ sym (c.in-Some-counts.ensures last c.requires.sure c.requires.variable) ∙ c.if-counts.true in
     let other : reorder collation.tables x.primary ≡ reorder collation.tables (get_or front c.loop.met 0) → ⊥ = λ e.
@@ -45,7 +45,7 @@ loop-preserved c =
     let collation = collation_borrowed c.args.collator.now in
     let last = last_variable_by collation in
     let x = c.in-Some-next.element in
-    let next = rw c.in-Some-next.is at c.in-Some.ensures in
+    let next = (rw c.in-Some-next.is at c.in-Some.ensures).1 in
     let inside : c.loop.met < length front = omega (arith, c.loop.invariant.inside, c.if-met-primaries.false) in
     let known : counts last x.primary ≡ c.in-Some-counts.counts = ap (counts last) (sym c.primary.ensures) ∙ sym (c.in-Some-counts.ensures last c.requires.sure c.requires.variable) in
     let old = facts_give (λ t. t.0.now) c.loop.cursor in

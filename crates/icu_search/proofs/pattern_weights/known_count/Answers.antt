@@ -14,12 +14,12 @@ loop-init c =
     let text = c.args.text.now in
     record {
       inside = omega arith;
-      read = first_read (collation_borrowed c.args.collator.now) text (facts_give (λ t. t.0.now) c.new-cursor.result) (c.new-cursor.ensures [] ∙ ap (λ (r : Reading). elements_after r [] (nfd text)) c.cursor_tables-tables.ensures);
+      read = first_read (collation_borrowed c.args.collator.now) text (facts_give (λ t. t.0.now) c.new-cursor.result) (c.new-cursor.ensures.gives [] ∙ ap (λ (r : Reading). elements_after r [] (nfd text)) c.cursor_tables-tables.ensures);
     }
 
 pub returns-in_default : goal.returns-in_default
 returns-in_default c =
-    let none = rw c.in_default.is at c.in_ok-next.ensures in
+    let none = (rw c.in_default.is at c.in_ok-next.ensures).1 in
     reads_all (collation_borrowed c.args.collator.now) c.args.text.now (facts_give (λ t. t.0.now) c.loop.cursor) c.loop.met c.loop.invariant.read none
 
 pub loop-preserved : goal.loop-preserved
@@ -27,7 +27,7 @@ loop-preserved c =
     let collation = collation_borrowed c.args.collator.now in
     let last = last_variable_by collation in
     let x = c.in-Some.element in
-    let next = rw c.in-Some.is at c.in_ok-next.ensures in
+    let next = (rw c.in-Some.is at c.in_ok-next.ensures).1 in
     let known : counts last x.primary ≡ c.counts.result =
     ap (counts last) (sym c.primary.ensures) ∙ ap (λ n. counts n c.primary.result) (sym c.last_variable-last.ensures) ∙ sym c.counts.ensures in
     let old = facts_give (λ t. t.0.now) c.loop.cursor in

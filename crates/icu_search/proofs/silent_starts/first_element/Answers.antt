@@ -11,7 +11,7 @@ use Rattle.icu_search.proofs.silent_starts.first_element.Goals as goal
 pub returns : goal.returns
 returns c =
     let text = c.args.text.now in
-    let read = c.new.ensures [] ∙ ap (λ (r : Reading). elements_after r [] (nfd text)) c.cursor_tables-tables.ensures in
+    let read = c.new.ensures.gives [] ∙ ap (λ (r : Reading). elements_after r [] (nfd text)) c.cursor_tables-tables.ensures in
     weaker_some _ (HasFirstElement (reading_by (collation_borrowed c.args.collator.now)) text)
-    (λ e goes. let first = goes [] in record { rest = facts_give (λ t. t.0.now) c.next.new.self first.0; is = sym read ∙ first.1 })
+    (λ e goes. let first = goes.1 [] in record { rest = facts_give (λ t. t.0.now) c.next.new.self first.0; is = sym read ∙ first.1 })
     c.next.result c.next.ensures

@@ -14,9 +14,9 @@ weights-init g c =
     let right = g.R.EncodedText.text in (
       [],
       reads_from_start collation left (left c.args.left) c.new-one.result
-          (λ before. c.new-one.ensures before ∙ ap (λ (r : Reading). elements_after r before (nfd (left c.args.left))) c.requires),
+          (λ before. c.new-one.ensures.gives before ∙ ap (λ (r : Reading). elements_after r before (nfd (left c.args.left))) c.requires),
       reads_from_start collation right (right c.args.right) c.new-other.result
-          (λ before. c.new-other.ensures before ∙ ap (λ (r : Reading). elements_after r before (nfd (right c.args.right))) c.requires),
+          (λ before. c.new-other.ensures.gives before ∙ ap (λ (r : Reading). elements_after r before (nfd (right c.args.right))) c.requires),
     )
 
 pub weights-preserved : goal.weights-preserved

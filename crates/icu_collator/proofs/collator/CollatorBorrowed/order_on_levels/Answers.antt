@@ -16,6 +16,6 @@ returns g c =
     let t = left c.args.left in
     let u = right c.args.right in
     facts_order collation c.requires.plain left right c.new-one.result c.new-other.result t u (Primary c.reordering.result) c.args.form c.order_in_step.result
-    (c.new-one.ensures [] ∙ ap (λ (r : Reading). elements_after r [] (nfd t)) c.requires.reading)
-    (c.new-other.ensures [] ∙ ap (λ (r : Reading). elements_after r [] (nfd u)) c.requires.reading)
+    (c.new-one.ensures.gives [] ∙ ap (λ (r : Reading). elements_after r [] (nfd t)) c.requires.reading)
+    (c.new-other.ensures.gives [] ∙ ap (λ (r : Reading). elements_after r [] (nfd u)) c.requires.reading)
     (leading_read collation (nfd t) (nfd u) c.reordering.result c.reordering.ensures) c.requires.form (c.order_in_step.ensures [] [])

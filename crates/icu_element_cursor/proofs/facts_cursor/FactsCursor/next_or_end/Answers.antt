@@ -18,7 +18,7 @@ unfolding facts_give
 returns-in-Some-split_first_char g c =
     let old = c.args.self.now in
     let same : elements_ready old.ready ≡ elements_ready c.take_first.new.self = search rules in
-    given_same g.T.EncodedText.text old (record old { ready = c.take_first.new.self }) c.first_of.new.self c.first_of.result
+    given_same g.T.EncodedText.text old (record old { ready = c.take_first.new.self }) c.first_of.new.self c.first_of.result refl
     (λ before. ap (λ (es : List Element). es ++ elements_after (cursor_reading old.tables.now) before (nfd (g.T.EncodedText.text old.text))) same)
     c.first_of.ensures
 
