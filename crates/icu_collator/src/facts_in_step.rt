@@ -52,8 +52,8 @@ fn cut_at<L: EncodedText, R: EncodedText>(
     }
 }
 
-/// The rests of two texts from the last place on, within their common beginning of `common` units, where both may be cut,
-/// as these cursors read.
+/// The rests of two texts from the last place on, within their common beginning of `common` units, where both may be
+/// cut, as these cursors read.
 fn last_cut<L: EncodedText, R: EncodedText>(
     left: &FactsCursor<'_, '_, L>,
     right: &FactsCursor<'_, '_, R>,
