@@ -100,13 +100,13 @@ class Run:
         how_long = expected.about(self.clock.seconds_left(time.monotonic()))
         what = f"{sum(self.functions.values())} functions in {len(self.names)} crates"
         lanes = f"{self.lanes} crates at a time" if self.lanes > 1 else "a crate at a time"
-        return f"{what}: {how_long}, {lanes}, where nothing else works; less where earlier runs here proved some"
+        return f"{what}: {how_long} if nothing was proved here before and nothing else works, {lanes}"
 
     def tell(self, what):
         """Says what has ended, or is under way, and how much is left."""
         self.said, self.is_news = time.monotonic(), False
         done = sum(it for name, it in self.functions.items() if name not in self.clock.left and name not in self.faults)
-        left = f"{expected.about(self.clock.seconds_left(self.said))} left" if self.clock.left else "the programs run"
+        left = f"{expected.about(self.clock.seconds_left(self.said))} left" if self.clock.left else "less than a minute left: programs are linked and run once"
         self.say(f"{what}: {done} of {sum(self.functions.values())} functions, {left if self.clock.left or not self.faults else 'ended'}")
 
     def look(self, folder):
