@@ -35,7 +35,7 @@ fn two_of(c: char) -> Option<(char, char)>
 }
 
 /// The mappings of a character that begins contractions, where it is no diacritic, and digits aren't read as numbers.
-fn contractions_of<'d>(tables: &CursorTables<'d>, c: char) -> Option<FoundContext<'d>>
+pub(crate) fn contractions_of<'d>(tables: &CursorTables<'d>, c: char) -> Option<FoundContext<'d>>
     ensures begins { IfSome result (λ context.
         HasContractions (cursor_reading tables.now) c (found_context context)) }
     ensures ascending { IfSome result (λ context.

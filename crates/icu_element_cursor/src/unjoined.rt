@@ -14,30 +14,19 @@ ghost use Rattle.icu_element_reading.specs.TextElements.{Reading};
 ghost use Rattle.icu_element_reading.specs.inner.StepsTaken.{FirstIsEarlier, FirstIsLater, NoneBeginsWith};
 ghost use Rattle.icu_element_cursor.specs.inner.Unjoined.{BeginsContractions, BeginsNone, IsFollower, IsHead, IsUnjoinedBefore};
 
-use crate::composed::stands_composed;
+use crate::composed::{contractions_of, stands_composed};
 use crate::cursor_tables::CursorTables;
 use crate::{FactsKind, Kept};
+use icu_element_facts::is_plain;
 use icu_element_matches::{find_longest, mapping_goes_on};
+use icu_element_reading::mapping_heads::none_begins_with;
 use icu_table_data::FoundContext;
-use icu_table_entries::EntryKind;
 use icu_text_encodings::EncodedText;
 use unicode_normalization::Form;
 use unicode_normalization::char::{canonical_combining_class, decomposition};
 
 /// How many characters are looked at behind one that begins contractions, at most.
 const CHARS_AHEAD: u32 = 7;
-
-/// Whether a character is a starter that decomposes to itself. False says nothing.
-fn is_plain(c: char) -> bool
-    ensures itself { IsTrue result → decompose Nfd c ≡ c ∷ [] }
-    ensures starter { IsTrue result → is_starter c ≡ true }
-{
-    let mut room = [c; 3];
-    match decomposition(c, Form::Nfd, &mut room) {
-        [only] => *only == c && canonical_combining_class(c) == 0,
-        _ => false,
-    }
-}
 
 /// The mappings of a character that begins contractions, where it is a starter that decomposes to itself, and no
 /// diacritic, and digits aren't read as numbers.
@@ -47,56 +36,11 @@ fn mappings_of<'d>(tables: &CursorTables<'d>, c: char) -> Option<FoundContext<'d
     ensures ascending { IfSome result (λ context.
         IsTrue (has_ascending_mappings (found_context context))) }
 {
-    let reading = tables.reading();
-    if reading.numeric_primary.is_some() || reading.tables.secondary_of_diacritic(c).is_some() {
-        return None;
+    if is_plain(c) {
+        contractions_of(tables, c)
+    } else {
+        None
     }
-    let (home, ce32) = reading.tables.homed_entry(c);
-    match ce32.kind() {
-        EntryKind::Contraction if is_plain(c) => Some(home.get_context(ce32.index())),
-        _ => None,
-    }
-}
-
-/// Whether characters begin with a later one.
-#[inline(always)]
-fn begins_above(chars: &[char], d: char) -> bool
-    ensures { IsTrue result → FirstIsLater d chars.now }
-{
-    match chars.first().copied() {
-        Some(first) => d < first,
-        None => false,
-    }
-}
-
-/// Whether characters begin with an earlier one.
-#[inline(always)]
-fn begins_below(chars: &[char], d: char) -> bool
-    ensures { IsTrue result → FirstIsEarlier d chars.now }
-{
-    match chars.first().copied() {
-        Some(first) => first < d,
-        None => false,
-    }
-}
-
-/// Whether all mappings of a context begin with later characters than this one, or all with earlier ones. False says
-/// nothing.
-#[inline(always)]
-fn stands_apart(context: FoundContext<'_>, d: char) -> bool
-    requires { IsTrue (has_ascending_mappings (found_context context)) }
-    ensures { IsTrue result → NoneBeginsWith (found_context context.entry).mappings d }
-{
-    let count = context.len();
-    if count == 0 {
-        return true;
-    }
-    let first = context.mapping(0);
-    if begins_above(first.chars, d) {
-        return true;
-    }
-    let last = context.mapping(count - 1);
-    begins_below(last.chars, d)
 }
 
 /// Whether no mapping of a context begins with a character, by what a bisection finds.
@@ -118,7 +62,7 @@ pub(crate) fn begins_none(context: FoundContext<'_>, d: char) -> bool
     requires { IsTrue (has_ascending_mappings (found_context context)) }
     ensures { IsTrue result → BeginsNone (found_context context.entry) d }
 {
-    stands_apart(context, d) || finds_none(context, d)
+    none_begins_with(context, d) || finds_none(context, d)
 }
 
 /// A character that follows one that begins contractions.

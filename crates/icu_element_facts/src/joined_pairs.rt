@@ -20,7 +20,7 @@ ghost use Rattle.icu_element_facts.specs.inner.JoinedPairs.{AreJoined, BeginsPai
 use crate::bases::elements_of_chars;
 use crate::facts_table::KeptFacts;
 use crate::few_elements::FewElements;
-use crate::own::decomposes_to_itself;
+use crate::own::is_plain;
 use icu_element_matches::{find_longest, mapping_goes_on};
 use icu_element_reading::boundaries::Boundaries;
 use icu_table_data::FoundContext;
@@ -46,14 +46,6 @@ pub(crate) struct KeptPair {
     first: char,
     second: char,
     few: FewElements,
-}
-
-/// Whether a character is a starter that decomposes to itself. False says nothing.
-fn is_plain(c: char) -> bool
-    ensures itself { IsTrue result → decompose Nfd c ≡ c ∷ [] }
-    ensures starter { IsTrue result → is_starter c ≡ true }
-{
-    canonical_combining_class(c) == 0 && decomposes_to_itself(c)
 }
 
 /// Whether an entry isn't a digit's.

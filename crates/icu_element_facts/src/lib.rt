@@ -24,4 +24,5 @@ pub use char_facts::{CharFacts, FactsKind};
 pub use char_words::Kept;
 pub use facts_table::KeptFacts;
 pub use few_elements::FewElements;
+pub use own::is_plain;
 pub use read_char::facts_of;

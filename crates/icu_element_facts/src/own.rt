@@ -1,8 +1,9 @@
 //! Characters that give the elements of their entries wherever they stand.
 
-ghost use Rattle.std.specs.Prelude.{◌≡◌, ◌∷◌, [], IsTrue};
+ghost use Rattle.std.specs.Prelude.{◌≡◌, ◌∷◌, [], true, IsTrue};
 ghost use Rattle.ucd_normal.specs.declared.forms.Form.TheVariants.{Nfd};
 ghost use Rattle.unicode_normalization.specs.Decompose.{decompose};
+ghost use Rattle.unicode_normalization.specs.Order.{is_starter};
 ghost use Rattle.icu_element_reading.specs.boundaries.BoundaryTables.{boundary_reading};
 ghost use Rattle.icu_element_facts.specs.KeptFacts.{IsOwn};
 ghost use Rattle.icu_element_facts.specs.inner.OwnBlocks.{HasLoneEntry};
@@ -11,7 +12,7 @@ use crate::alone::is_dot;
 use icu_element_reading::boundaries::Boundaries;
 use icu_table_entries::EntryKind;
 use unicode_normalization::Form;
-use unicode_normalization::char::decomposition;
+use unicode_normalization::char::{canonical_combining_class, decomposition};
 
 /// Whether a character decomposes to itself.
 pub(crate) fn decomposes_to_itself(c: char) -> bool
@@ -22,6 +23,14 @@ pub(crate) fn decomposes_to_itself(c: char) -> bool
         [itself] => *itself == c,
         _ => false,
     }
+}
+
+/// Whether a character is a starter that decomposes to itself. False says nothing.
+pub fn is_plain(c: char) -> bool
+    ensures itself { IsTrue result → decompose Nfd c ≡ c ∷ [] }
+    ensures starter { IsTrue result → is_starter c ≡ true }
+{
+    canonical_combining_class(c) == 0 && decomposes_to_itself(c)
 }
 
 /// Whether a character's entry gives the same wherever it stands.

@@ -2,14 +2,10 @@
 //!
 //! The crate knows no table and no text: a run is a slice of digit values, and what is made of it are primary weights.
 //! `icu_order_levels` has the definition and proves that such weights order by value.
-mod number;
-mod pairs;
-mod pieces;
+ghost use Rattle.std.specs.Prelude.{◌≡◌, ◌<◌, ◌≤◌, ◌++◌, All, IfOk, OnOk, length, take, drop};
+ghost use Rattle.icu_order_levels.specs.Numbers.{number_weights, value_of, without_first_zeros, longest_number, run_weights};
 
-ghost use Rattle.std.specs.Prelude.{◌≡◌, ◌<◌, All, IfOk, take, drop};
-ghost use Rattle.icu_order_levels.specs.Numbers.{without_first_zeros, longest_number, run_weights};
-
-use number::push_number;
+use crate::steady_numbers::SteadyNumber;
 use std::alloc::{AllocError, Global};
 
 /// How many digits are read as one number at most.
@@ -38,6 +34,21 @@ fn first_number(digits: &[u8]) -> (&[u8], &[u8])
     }
 }
 
+/// Appends the weights of a number, whose first digit is not 0. Of no digits these are the weights of 0.
+fn push_number(weights: &mut Vec<u32>, lead: u8, digits: &[u8]) -> Result<(), AllocError>
+    requires decimal { All (λ d. d < 10) digits.now }
+    requires first { without_first_zeros digits.now ≡ digits.now }
+    requires fits { length digits.now ≤ longest_number }
+    ensures { OnOk result
+        (weights.new.items ≡ weights.old.items ++ number_weights lead (value_of digits.now)) }
+{
+    let mut number = SteadyNumber::new(lead, digits);
+    'weights: while let Some(weight) = number.next() {
+        weights.push(weight)?;
+    }
+    Ok(())
+}
+
 /// The primary weights of a run of decimal digits, before reordering (UTS #35 part 5, "Setting Options" on numeric
 /// ordering).
 ///
@@ -56,7 +67,7 @@ pub fn digit_run_weights(alloc: Global, lead: u8, digits: &[u8]) -> Result<Vec<u
     let mut left = digits;
     while !left.is_empty() {
         let (number, rest) = first_number(without_first_zeros(left));
-        push_number(alloc, &mut weights, lead, number)?;
+        push_number(&mut weights, lead, number)?;
         left = rest;
     }
     Ok(weights)

@@ -10,6 +10,7 @@ mod element_reader;
 pub mod element_tables;
 pub mod laws;
 pub mod look_up;
+pub mod mapping_heads;
 mod matched_alone;
 pub mod read;
 mod reader;

@@ -5,7 +5,7 @@ use Rattle.std.proofs.lemmas.List.{take_more, take_all, length-take-le}
 use Rattle.std.proofs.lemmas.List.Elements.{recursion_from_All}
 use Rattle.std.proofs.Math.Nat.{pow-suc}
 use Rattle.std.specs.List.{AllByRecursion}
-use Rattle.icu_order_levels.specs.WeightBytes.{digits, before_nonzero, without_last_zeros}
+use Rattle.icu_order_levels.specs.WeightBytes.{digits, without_last_zeros}
 use Rattle.icu_order_levels.specs.Numbers.{in_threes, pair_count, pair_bytes, great_bytes, number_weights, value_after, value_of, longest_number}
 use Rattle.icu_order_levels.proofs.DigitsFromTheEnd.{digits_last}
 use Rattle.icu_order_levels.proofs.TrimmedLemmas.{zero_dropped, kept_whole, at_end}

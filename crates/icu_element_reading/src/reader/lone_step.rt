@@ -10,7 +10,7 @@ ghost use Rattle.icu_element_reading.specs.Reading.{element_tables, reading_of};
 ghost use Rattle.icu_element_reading.specs.TextElements.{diacritic_step};
 ghost use Rattle.icu_element_reading.specs.inner.Positions.{IsStep, consumed_last, unread_at};
 ghost use Rattle.icu_element_reading.specs.inner.ReadsAhead.{ReadsMore};
-ghost use Rattle.icu_element_reading.specs.inner.StepsTaken.{IsSingle, FirstIsLater, FirstIsEarlier, NoneBeginsWith, IsDecidedMapping, IsDirectMatch, IsDirectStep, NoMarkFirst, StarterFirst, StepsOrLooks, chosen_mapping};
+ghost use Rattle.icu_element_reading.specs.inner.StepsTaken.{IsSingle, NoneBeginsWith, IsDecidedMapping, IsDirectMatch, IsDirectStep, NoMarkFirst, StarterFirst, StepsOrLooks, chosen_mapping};
 ghost use Rattle.icu_element_reading.specs.inner.Streams.{chars_ahead};
 ghost use Rattle.icu_element_matches.specs.Texts.{still_unread};
 ghost use Rattle.icu_table_provider.specs.Tables.{diacritic_of, entry_of};
@@ -19,6 +19,7 @@ ghost use Rattle.unicode_normalization.specs.Order.{is_starter};
 
 use crate::decomposed_source::DecomposedSource;
 use crate::element_tables::ElementTables;
+use crate::mapping_heads::none_begins_with;
 use crate::reader::ahead::{read_first, read_starter};
 use crate::reader::position::Position;
 use crate::reader::recent::RecentChars;
@@ -59,51 +60,13 @@ fn single_element(tables: ElementTables<'_>, c: char) -> Option<CollationElement
     }
 }
 
-/// Whether characters begin with a later one.
-fn begins_above(chars: &[char], d: char) -> bool
-    ensures { IsTrue result → FirstIsLater d chars.now }
-{
-    match chars.first().copied() {
-        Some(first) => d < first,
-        None => false,
-    }
-}
-
-/// Whether characters begin with an earlier one.
-fn begins_below(chars: &[char], d: char) -> bool
-    ensures { IsTrue result → FirstIsEarlier d chars.now }
-{
-    match chars.first().copied() {
-        Some(first) => first < d,
-        None => false,
-    }
-}
-
-/// Whether no mapping of a context begins with a character, since all begin with later ones, or all with earlier ones.
-/// False says nothing.
-fn begins_none(context: FoundContext<'_>, d: char) -> bool
-    requires { IsTrue (has_ascending_mappings (found_context context)) }
-    ensures { IsTrue result → NoneBeginsWith (found_context context.entry).mappings d }
-{
-    let count = context.len();
-    if count == 0 {
-        return true;
-    }
-    let first = context.mapping(0);
-    let last = context.mapping(count - 1);
-    if begins_above(first.chars, d) {
-        return true;
-    }
-    begins_below(last.chars, d)
-}
-
 /// Whether a character is a starter with which no mapping of a context begins. False says nothing.
-fn stands_apart(context: FoundContext<'_>, d: char) -> bool
+fn is_apart(context: FoundContext<'_>, d: char) -> bool
     requires { IsTrue (has_ascending_mappings (found_context context)) }
     ensures starter { IsTrue result → is_starter d ≡ true }
     ensures none { IsTrue result → NoneBeginsWith (found_context context.entry).mappings d }
 {
-    canonical_combining_class(d) == 0 && begins_none(context, d)
+    canonical_combining_class(d) == 0 && none_begins_with(context, d)
 }
 
 /// Whether a text begins with such a character.
@@ -114,7 +77,7 @@ fn begins_apart(context: FoundContext<'_>, text: &ClassedText) -> bool
         → IsDecidedMapping (found_context context.entry) (still_unread text.now) None }
 {
     match text.first() {
-        Some(d) => stands_apart(context, d),
+        Some(d) => is_apart(context, d),
         None => false,
     }
 }
@@ -130,7 +93,7 @@ fn decided_mapping(context: FoundContext<'_>, text: &ClassedText) -> Option<Opti
 {
     let d = text.first()?;
     let chars = text.as_slice()?;
-    if begins_none(context, d) {
+    if none_begins_with(context, d) {
         return Some(None);
     }
     if mapping_goes_on(context, chars) {

@@ -1,18 +1,22 @@
--- The table that an entry's context is in has it.
-use Rattle.std.proofs.Common.{◌≡◌, ◌<◌, [], length, sym, ap, subst, ◌∙◌, rules}
-use Rattle.icu_table_entries.specs.declared.entry.EntryKind.TheVariants.{Contraction}
-use Rattle.icu_table_entries.specs.Entries.{kind_of, entry_index}
-use Rattle.icu_table_data.specs.Data.{Data, homed}
-use Rattle.icu_table_data.specs.StoredData.{data_of}
-use Rattle.icu_element_matches.proofs.MatchLemmas.{contraction_inside}
-use Rattle.icu_element_facts.proofs.KeptBaseLemmas.{own_entry}
+-- A plain character that has contractions begins them.
+use Rattle.std.proofs.Common.{Option, Some, None, IfSome, rules}
+use Rattle.icu_table_data.specs.StoredData.{found_context}
+use Rattle.icu_table_data.proofs.ViolationLemmas.{weaker_some}
+use Rattle.icu_element_cursor.specs.Cursors.{cursor_reading}
+use Rattle.icu_element_cursor.specs.inner.Composed.{HasContractions}
+use Rattle.icu_element_cursor.specs.inner.Unjoined.{BeginsContractions}
 use Rattle.icu_element_cursor.proofs.unjoined.mappings_of.Goals as goal
 
-pub get_context-requires : goal.get_context-requires
-get_context-requires c =
-    let home : Data = data_of c.homed_entry-ce32.result.0 in
-    let e = c.homed_entry-ce32.result.1 in
-    let is : kind_of e ≡ Contraction = search rules in
-    let same = own_entry (homed home e) [] is in
-    let inside = contraction_inside home c.args.c e [] c.homed_entry-ce32.ensures.well_formed (ap kind_of same ∙ is) in
-    subst (λ n. n < length home.contexts) (sym c.index.ensures.value) (subst (λ f. entry_index f < length home.contexts) same inside)
+pub returns-then-is_plain-clause-begins : goal.returns-then-is_plain-clause-begins
+returns-then-is_plain-clause-begins c =
+    let reading = cursor_reading c.args.tables.now in
+    weaker_some (λ context. HasContractions reading c.args.c (found_context context)) (λ context. BeginsContractions reading c.args.c (found_context context))
+    (λ context h. record {
+      itself = c.is_plain.ensures.itself c.if-is_plain.true;
+      starter = c.is_plain.ensures.starter c.if-is_plain.true;
+      no_numbers = h.no_numbers;
+      no_diacritic = h.no_diacritic;
+      begins = h.begins;
+      same = h.same;
+    })
+    c.contractions_of.result c.contractions_of.ensures.begins

@@ -1,7 +1,7 @@
 use Rattle.std.proofs.Common.{◌≢◌, ◌-◌, length, ap, rules}
 use Rattle.icu_table_data.specs.StoredData.{found_context, found_mapping}
 use Rattle.icu_element_reading.proofs.MappingHeadLemmas.{none_above, none_below_last}
-use Rattle.icu_element_reading.proofs.reader.lone_step.begins_none.Goals as goal
+use Rattle.icu_element_reading.proofs.mapping_heads.none_begins_with.Goals as goal
 
 pub returns-then-begins_above : goal.returns-then-begins_above
 returns-then-begins_above c = λ _.
