@@ -26,13 +26,8 @@ rest_dropped xs left after i is next = next ∙ ap (drop 1) is ∙ drop-drop 1 i
 
 -- ---- pieces that are decomposed
 
--- they stand in canonical order
-pub in_order : (text done rest : List ℕ) → AreDecomposed text done rest → is_ordered done ≡ true
-unfolding normalize decomposed
-in_order text done rest h = ap is_ordered h.value ∙ is_ordered-canonical_order (flat_map (decompose Nfd) h.chars)
-
 -- none so far
-pub none_decomposed : (text done : List ℕ) → done ≡ [] → AreDecomposed text done text
+none_decomposed : (text done : List ℕ) → done ≡ [] → AreDecomposed text done text
 none_decomposed text done none = record { chars = []; parts = refl; value = none ∙ sym nfd-nil }
 
 one_more : (chars : List ℕ) (c : ℕ) → canonical_order (nfd chars ++ decompose Nfd c) ≡ nfd (chars ++ c ∷ [])
@@ -43,7 +38,7 @@ one_more chars c =
     ∙ ap canonical_order (sym (flat_map-append (decompose Nfd) chars (c ∷ [])))
 
 -- one more
-pub more_decomposed : (text done rest new after : List ℕ) (c : ℕ) → AreDecomposed text done rest → rest ≡ c ∷ after → new ≡ canonical_order (done ++ decompose Nfd c)
+more_decomposed : (text done rest new after : List ℕ) (c : ℕ) → AreDecomposed text done rest → rest ≡ c ∷ after → new ≡ canonical_order (done ++ decompose Nfd c)
     → AreDecomposed text new after
 more_decomposed text done rest new after c h next is = record {
   chars = h.chars ++ c ∷ [];
@@ -66,10 +61,6 @@ pub parts_in_order : (reading : Reading) (text done rest new after : List ℕ) �
     → IsShortPiece reading text new after
 parts_in_order reading text done rest new after h boundary is same =
     record { piece = h.chars; is = record { parts = h.parts ∙ ap (λ l. h.chars ++ l) (sym same); boundary = subst (BeginsAtBoundary reading) (sym same) boundary }; value = is ∙ h.value }
-
--- up to a boundary
-pub short_piece : (reading : Reading) (text done rest : List ℕ) → AreDecomposed text done rest → BeginsAtBoundary reading rest → IsShortPiece reading text done rest
-short_piece reading text done rest h boundary = record { piece = h.chars; is = record { parts = h.parts; boundary = boundary }; value = h.value }
 
 -- its elements
 pub piece_elements : (reading : Reading) (before text done rest : List ℕ) (es : List Element) → IsShortPiece reading text done rest → es ≡ elements_after reading before done

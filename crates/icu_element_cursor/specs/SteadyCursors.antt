@@ -2,7 +2,7 @@
 use Rattle.std.specs.Prelude.{ℕ, List, [], ◌++◌}
 use Rattle.icu_table_entries.specs.Elements.{Element}
 use Rattle.icu_text_encodings.specs.declared.encoded_text.EncodedText.{Ghosts}
-use Rattle.icu_text_decomposition.specs.short_text.LongTexts.{long_unread}
+use Rattle.icu_text_decomposition.specs.short_text.ArrayTexts.{array_unread}
 use Rattle.icu_text_decomposition.specs.MatchableTexts.{unread_text}
 use Rattle.icu_element_reading.specs.steady_elements.SteadyElements.{elements_left}
 use Rattle.icu_element_cursor.specs.declared.first_chars.FirstChars.{FirstChars}
@@ -15,7 +15,7 @@ use Rattle.icu_element_cursor.specs.inner.FirstChars.{first_chars}
 -- the elements that a piece still gives, where one was begun
 abbrev pub piece_gives : {T : Type 0} {encoded : Ghosts (FirstChars T)} → (T → List ℕ) → BegunPiece T encoded → List Element
 piece_gives text Ended = []
-piece_gives text (Long s) = elements_left long_unread s
+piece_gives text (Long s) = elements_left array_unread s
 piece_gives text (Steady s) = elements_left (unread_text (first_chars text)) s
 
 -- the elements that a steady cursor still gives: those of the piece that was begun, and those that come after it

@@ -1,23 +1,23 @@
 //! A long piece of a text, up to the next boundary: in an array where there is room for it, and else as it stands.
 
 ghost use Rattle.std.specs.Prelude.{◌≡◌, ◌<◌, ◌++◌, [], None, IfSome, length, option_to_list};
-ghost use Rattle.icu_text_decomposition.specs.short_text.LongTexts.{long_unread};
+ghost use Rattle.icu_text_decomposition.specs.short_text.ArrayTexts.{array_unread};
 ghost use Rattle.icu_text_decomposition.specs.MatchableTexts.{unread_text};
 ghost use Rattle.icu_element_reading.specs.steady_elements.SteadyElements.{elements_left};
 ghost use Rattle.icu_element_cursor.specs.Cursors.{cursor_reading};
 ghost use Rattle.icu_element_cursor.specs.SteadyCursors.{piece_gives};
 ghost use Rattle.icu_element_cursor.specs.inner.FirstChars.{first_chars};
 ghost use Rattle.icu_element_cursor.specs.inner.ReadCharacters.{context_read};
-ghost use Rattle.icu_element_cursor.specs.inner.Pieces.{IsShortPiece, IsPieceBegun};
+ghost use Rattle.icu_element_cursor.specs.inner.Pieces.{IsPieceBegun};
 
 use crate::cursor_tables::CursorTables;
 use crate::first_chars::FirstChars;
 use crate::last_characters::LastCharacters;
 use crate::piece::{read_piece, split_piece};
-use crate::short_piece::take_inside;
+use crate::short_piece::split_piece_of;
 use icu_element_reading::steady_elements::SteadyElements;
 use icu_table_entries::CollationElement;
-use icu_text_decomposition::short_text::LongText;
+use icu_text_decomposition::short_text::ArrayText;
 use icu_text_decomposition::{CountedText, MatchableText};
 use icu_text_encodings::EncodedText;
 
@@ -30,34 +30,13 @@ where
     /// None is left.
     Ended,
     /// Its characters stand in an array.
-    Long(SteadyElements<'d, LongText>),
+    Long(SteadyElements<'d, ArrayText<LONG>>),
     /// It is read as it stands in the text, since there are more.
     Steady(SteadyElements<'d, MatchableText<FirstChars<T>>>),
 }
 
-/// Decomposes the piece that a text begins with, and returns the text from its end on: it ends before the next
-/// character before which the text may be cut. `None` where the text is empty, or where the piece has more characters
-/// than there is room for.
-fn split_long<T: EncodedText>(tables: &CursorTables<'_>, text: T, piece: &mut LongText) -> Option<T>
-    ensures piece { IfSome result (λ rest. IsShortPiece (cursor_reading tables.now)
-        (T.text text) (long_unread piece.new) (T.text rest)) }
-    ensures rest { IfSome result (λ rest. length (T.text rest) < length (T.text text)) }
-{
-    piece.clear();
-    let (first, mut rest) = text.split_first_char()?;
-    if !piece.push(first) {
-        return None;
-    }
-    'chars: while let Some(c) = take_inside(tables, &mut rest) {
-        if !piece.push(c) {
-            return None;
-        }
-    }
-    if !piece.put_in_order() {
-        return None;
-    }
-    Some(rest)
-}
+/// How many characters stand in an array at most.
+const LONG: usize = 1024;
 
 /// Reads the piece that a text begins with after these characters, in an array, and returns the text from its end on.
 /// `None` where the text is empty, or where there is no room for the piece.
@@ -72,8 +51,9 @@ fn begin_long<'d, T: CountedText>(
         (context_read before) (T.text text) (piece_gives T.text piece.new) (T.text rest)) }
     ensures rest { IfSome result (λ rest. length (T.text rest) < length (T.text text)) }
 {
-    let mut long = LongText::new();
-    let rest = split_long(tables, text, &mut long)?;
+    let (first, behind) = text.split_first_char()?;
+    let mut long = ArrayText::new();
+    let rest = split_piece_of(tables, first, behind, &mut long)?;
     *piece = BegunPiece::Long(SteadyElements::after(before.recent(), long, tables.reading()));
     Some(rest)
 }

@@ -4,7 +4,7 @@ ghost use Rattle.std.specs.Prelude.{◌≡◌, ◌≤◌, ◌∷◌, ◌++◌, [
 ghost use Rattle.icu_table_entries.specs.Elements.{of_primary};
 ghost use Rattle.icu_element_facts.specs.FewElements.{few_elements};
 ghost use Rattle.icu_element_facts.specs.KeptFacts.{char_elements};
-ghost use Rattle.icu_text_decomposition.specs.short_text.ShortTexts.{short_unread};
+ghost use Rattle.icu_text_decomposition.specs.short_text.ArrayTexts.{array_unread};
 ghost use Rattle.icu_element_reading.specs.steady_elements.SteadyElements.{elements_left};
 ghost use Rattle.icu_element_matches.specs.steady_numbers.SteadyNumbers.{weights_left};
 ghost use Rattle.icu_element_cursor.specs.inner.Pieces.{IsPieceBegun};
@@ -16,31 +16,31 @@ use crate::char_elements::CharElements;
 use crate::cursor_tables::CursorTables;
 use crate::last_characters::LastCharacters;
 use crate::ready_place::ReadyPlace;
-use crate::short_piece::begin_short;
+use crate::short_piece::{SHORT, begin_short};
 use icu_element_facts::FewElements;
 use icu_element_matches::steady_numbers::SteadyNumber;
 use icu_element_reading::steady_elements::SteadyElements;
 use icu_element_reading::{RecentChars, TextReading};
 use icu_table_entries::CollationElement;
-use icu_text_decomposition::short_text::ShortText;
+use icu_text_decomposition::short_text::ArrayText;
 use icu_text_encodings::EncodedText;
 
 /// The elements that were read and not given yet: a few of a character, or those of a short piece or of a number.
 #[derive(Debug, Clone, Copy)]
 pub struct ReadyElements<'d> {
     pub(crate) few: CharElements,
-    pub(crate) piece: SteadyElements<'d, ShortText>,
+    pub(crate) piece: SteadyElements<'d, ArrayText<SHORT>>,
     /// Whether the piece may have some left.
     pub(crate) in_piece: bool,
     /// Whether some may be left. One flag, since it is asked before each element.
     pub(crate) may_be_left: bool,
-    ghost no_piece: { in_piece ≡ false → elements_left short_unread piece ≡ [] },
+    ghost no_piece: { in_piece ≡ false → elements_left array_unread piece ≡ [] },
     ghost none_left: { may_be_left ≡ false → HasNoneLeft few piece },
 }
 
 /// Gives the elements of a number next.
-fn give_number(piece: &mut SteadyElements<'_, ShortText>, number: &SteadyNumber)
-    ensures { elements_left short_unread piece.new ≡ map of_primary (weights_left number.now) }
+fn give_number(piece: &mut SteadyElements<'_, ArrayText<SHORT>>, number: &SteadyNumber)
+    ensures { elements_left array_unread piece.new ≡ map of_primary (weights_left number.now) }
 {
     piece.place.text.clear();
     piece.give_number(number);
@@ -57,7 +57,7 @@ impl<'d> ReadyElements<'d> {
     {
         ReadyElements {
             few: CharElements::none(),
-            piece: SteadyElements::after(RecentChars::new(), ShortText::new(), reading),
+            piece: SteadyElements::after(RecentChars::new(), ArrayText::new(), reading),
             in_piece: false,
             may_be_left: false,
         }

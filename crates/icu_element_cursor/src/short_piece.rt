@@ -1,7 +1,7 @@
 //! A short piece of a text, up to the next boundary.
 
 ghost use Rattle.std.specs.Prelude.{◌≡◌, ◌≤◌, ◌∷◌, [], None, IfSome, length};
-ghost use Rattle.icu_text_decomposition.specs.short_text.ShortTexts.{short_unread};
+ghost use Rattle.icu_text_decomposition.specs.short_text.ArrayTexts.{array_unread};
 ghost use Rattle.icu_element_reading.specs.steady_elements.SteadyElements.{elements_left};
 ghost use Rattle.icu_element_cursor.specs.Cursors.{cursor_reading};
 ghost use Rattle.icu_element_cursor.specs.inner.ReadCharacters.{context_read};
@@ -12,8 +12,11 @@ use crate::cursor_tables::CursorTables;
 use crate::last_characters::LastCharacters;
 use icu_element_reading::RecentChars;
 use icu_element_reading::steady_elements::SteadyElements;
-use icu_text_decomposition::short_text::ShortText;
+use icu_text_decomposition::short_text::ArrayText;
 use icu_text_encodings::EncodedText;
+
+/// How many characters a short piece has at most.
+pub(crate) const SHORT: usize = 64;
 
 /// Takes the next character of a text, where the text may not be cut before it.
 #[inline]
@@ -33,14 +36,14 @@ pub(crate) fn take_inside<T: EncodedText>(tables: &CursorTables<'_>, text: &mut 
 
 /// Decomposes the piece that a character begins, and returns the text from its end on: it ends before the next
 /// character before which the text may be cut. `None` where it has more characters than there is room for.
-fn split_short<T: EncodedText>(
+pub(crate) fn split_piece_of<const ROOM: usize, T: EncodedText>(
     tables: &CursorTables<'_>,
     first: char,
     text: T,
-    piece: &mut ShortText,
+    piece: &mut ArrayText<ROOM>,
 ) -> Option<T>
     ensures piece { IfSome result (λ rest. IsShortPiece (cursor_reading tables.now)
-        (first ∷ T.text text) (short_unread piece.new) (T.text rest)) }
+        (first ∷ T.text text) (array_unread piece.new) (T.text rest)) }
     ensures rest { IfSome result (λ rest. length (T.text rest) ≤ length (T.text text)) }
 {
     piece.clear();
@@ -53,6 +56,9 @@ fn split_short<T: EncodedText>(
             return None;
         }
     }
+    if !piece.put_in_order() {
+        return None;
+    }
     Some(rest)
 }
 
@@ -63,15 +69,15 @@ pub(crate) fn begin_short<'d, T: EncodedText>(
     before: LastCharacters,
     first: char,
     text: T,
-    piece: &mut SteadyElements<'d, ShortText>,
+    piece: &mut SteadyElements<'d, ArrayText<SHORT>>,
 ) -> Option<T>
     ensures begun { IfSome result (λ rest. IsPieceBegun (cursor_reading tables.now)
-        (context_read before) (first ∷ T.text text) (elements_left short_unread piece.new)
+        (context_read before) (first ∷ T.text text) (elements_left array_unread piece.new)
         (T.text rest)) }
     ensures rest { IfSome result (λ rest. length (T.text rest) ≤ length (T.text text)) }
-    ensures none { result ≡ None → elements_left short_unread piece.new ≡ [] }
+    ensures none { result ≡ None → elements_left array_unread piece.new ≡ [] }
 {
-    match split_short(tables, first, text, &mut piece.place.text) {
+    match split_piece_of(tables, first, text, &mut piece.place.text) {
         Some(rest) => {
             piece.restart(before.recent(), tables.reading());
             Some(rest)

@@ -1,3 +1,2 @@
-pub mod OrderPlaceLemmas
 pub mod CharRoomLemmas
 pub mod PartOrderLemmas

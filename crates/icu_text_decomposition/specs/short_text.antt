@@ -1,3 +1,2 @@
-pub mod LongTexts
-pub mod ShortTexts
+pub mod ArrayTexts
 pub mod inner

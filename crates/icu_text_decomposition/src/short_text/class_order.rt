@@ -5,9 +5,9 @@ ghost use Rattle.ucd_normal.specs.CanonicalCombiningClass.{canonical_combining_c
 ghost use Rattle.unicode_normalization.specs.Order.{is_ordered, canonical_order};
 ghost use Rattle.icu_text_decomposition.specs.inner.FrontMarks.{front_marks};
 ghost use Rattle.icu_text_decomposition.specs.inner.MarksLeft.{IsPass, class_limit, left_of_pass};
-ghost use Rattle.icu_text_decomposition.specs.short_text.LongTexts.{long_unread};
+ghost use Rattle.icu_text_decomposition.specs.short_text.ArrayTexts.{array_unread};
 
-use crate::short_text::long_text::LongText;
+use crate::short_text::array_text::ArrayText;
 use crate::short_text::order_place::is_reorderable;
 use unicode_normalization::char::canonical_combining_class;
 
@@ -50,10 +50,10 @@ fn next_above(next: Option<u8>, class: u8, own: u8) -> Option<u8>
 
 /// Appends a mark that has the class that is read, and no other one. Returns whether there was room for it.
 #[inline]
-fn push_of_class(text: &mut LongText, mark: char, class: u8, own: u8) -> bool
+fn push_of_class<const ROOM: usize>(text: &mut ArrayText<ROOM>, mark: char, class: u8, own: u8) -> bool
     ensures same { IsTrue result → own ≡ class
-        → long_unread text.new ≡ long_unread text.old ++ mark ∷ [] }
-    ensures other { own ≢ class → long_unread text.new ≡ long_unread text.old }
+        → array_unread text.new ≡ array_unread text.old ++ mark ∷ [] }
+    ensures other { own ≢ class → array_unread text.new ≡ array_unread text.old }
 {
     if own != class {
         return true;
@@ -71,15 +71,15 @@ pub(crate) struct PassEnd {
 }
 
 /// Appends the marks of a class, of the run with which the characters begin. `None` where there is no room for them.
-fn push_class(text: &mut LongText, chars: &[char], class: u8) -> Option<PassEnd>
+fn push_class<const ROOM: usize>(text: &mut ArrayText<ROOM>, chars: &[char], class: u8) -> Option<PassEnd>
     ensures pass { IfSome result (λ end.
         IsPass chars.now (drop end.count chars.now) class end.next) }
     ensures end { IfSome result (λ end. front_marks (drop end.count chars.now) ≡ []) }
     ensures inside { IfSome result (λ end. end.count ≤ length chars.now) }
     ensures class { class < 256 }
     ensures left { IfSome result (λ end.
-        long_unread text.new ++ left_of_pass chars.now (drop end.count chars.now) class
-        ≡ long_unread text.old ++ left_of_pass chars.now chars.now class) }
+        array_unread text.new ++ left_of_pass chars.now (drop end.count chars.now) class
+        ≡ array_unread text.old ++ left_of_pass chars.now chars.now class) }
 {
     let mut next = None;
     let mut count = 0usize;
@@ -100,10 +100,10 @@ fn push_class(text: &mut LongText, chars: &[char], class: u8) -> Option<PassEnd>
 
 /// Appends the run of marks with which the characters begin, class by class, and returns how many it has. `None` where
 /// there is no room for them.
-fn push_run(text: &mut LongText, chars: &[char]) -> Option<usize>
+fn push_run<const ROOM: usize>(text: &mut ArrayText<ROOM>, chars: &[char]) -> Option<usize>
     ensures left { IfSome result (λ count.
-        long_unread text.new ++ canonical_order (drop count chars.now)
-        ≡ long_unread text.old ++ canonical_order chars.now) }
+        array_unread text.new ++ canonical_order (drop count chars.now)
+        ≡ array_unread text.old ++ canonical_order chars.now) }
     ensures end { IfSome result (λ count. front_marks (drop count chars.now) ≡ []) }
     ensures inside { IfSome result (λ count. count ≤ length chars.now) }
 {
@@ -119,11 +119,11 @@ fn push_run(text: &mut LongText, chars: &[char]) -> Option<usize>
 
 /// Appends the starter or the run of marks with which the characters begin, and returns how many characters that is.
 /// `None` where there is no room for them.
-fn push_part(text: &mut LongText, chars: &[char]) -> Option<usize>
+fn push_part<const ROOM: usize>(text: &mut ArrayText<ROOM>, chars: &[char]) -> Option<usize>
     requires { 0 < length chars.now }
     ensures left { IfSome result (λ count.
-        long_unread text.new ++ canonical_order (drop count chars.now)
-        ≡ long_unread text.old ++ canonical_order chars.now) }
+        array_unread text.new ++ canonical_order (drop count chars.now)
+        ≡ array_unread text.old ++ canonical_order chars.now) }
     ensures some { IfSome result (λ count. (0 < count) × (count ≤ length chars.now)) }
 {
     let first = chars[0];
@@ -138,9 +138,9 @@ fn push_part(text: &mut LongText, chars: &[char]) -> Option<usize>
 }
 
 /// Appends characters, which go in canonical order. Returns whether there was room for them.
-pub(crate) fn push_in_order(text: &mut LongText, chars: &[char]) -> bool
+pub(crate) fn push_in_order<const ROOM: usize>(text: &mut ArrayText<ROOM>, chars: &[char]) -> bool
     ensures { IsTrue result
-        → long_unread text.new ≡ long_unread text.old ++ canonical_order chars.now }
+        → array_unread text.new ≡ array_unread text.old ++ canonical_order chars.now }
 {
     let mut at = 0usize;
     'parts: while at < chars.len() {

@@ -1,9 +1,8 @@
-//! Where a character goes in a text in canonical order.
+//! Which characters go before others in canonical order.
 
-ghost use Rattle.std.specs.Prelude.{◌≡◌, ℕ, ◌≤◌, ◌++◌, ◌∷◌, [], true, length};
-ghost use Rattle.std.specs.List.{insert};
+ghost use Rattle.std.specs.Prelude.{◌≡◌, ℕ};
 ghost use Rattle.ucd_normal.specs.CanonicalCombiningClass.{canonical_combining_class as class_of};
-ghost use Rattle.unicode_normalization.specs.Order.{is_ordered, is_reorderable, canonical_order};
+ghost use Rattle.unicode_normalization.specs.Order.{is_reorderable};
 
 use unicode_normalization::char::canonical_combining_class;
 
@@ -22,21 +21,4 @@ pub(crate) fn is_reorderable(a: char, b: char) -> bool
     ensures { result ≡ is_reorderable a b }
 {
     goes_before(a, canonical_combining_class(b))
-}
-
-/// Where a character goes that comes after a text in canonical order.
-pub(crate) fn place(out: &[char], c: char) -> usize
-    requires ordered { is_ordered out.now ≡ true }
-    ensures inside { result ≤ length out.now }
-    ensures place { canonical_order (out.now ++ c ∷ []) ≡ insert out.now result c }
-{
-    let class = canonical_combining_class(c);
-    let mut at = out.len();
-    'back: while at > 0 {
-        if !goes_before(out[at - 1], class) {
-            return at;
-        }
-        at -= 1;
-    }
-    at
 }

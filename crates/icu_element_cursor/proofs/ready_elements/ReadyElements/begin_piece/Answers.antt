@@ -1,5 +1,5 @@
 use Rattle.std.proofs.Common.{◌∷◌, refl}
-use Rattle.icu_text_decomposition.specs.short_text.ShortTexts.{short_unread}
+use Rattle.icu_text_decomposition.specs.short_text.ArrayTexts.{array_unread}
 use Rattle.icu_element_reading.specs.steady_elements.SteadyElements.{elements_left}
 use Rattle.icu_element_cursor.specs.Cursors.{cursor_reading}
 use Rattle.icu_element_cursor.specs.inner.ReadCharacters.{context_read}
@@ -16,4 +16,4 @@ invariant_of-self-in-None g c =
 pub returns-in-Some-clause-begun : goal.returns-in-Some-clause-begun
 returns-in-Some-clause-begun g c =
     begun_alone (cursor_reading c.args.tables.now) (context_read c.args.before) (c.args.first ∷ g.T.EncodedText.text c.args.text) (g.T.EncodedText.text c.in-Some.rest)
-    (elements_ready c.args.self.now.few) (elements_left short_unread c.begin_short.new.piece) (both_empty _ _ c.requires).0 c.in-Some.ensures.begun
+    (elements_ready c.args.self.now.few) (elements_left array_unread c.begin_short.new.piece) (both_empty _ _ c.requires).0 c.in-Some.ensures.begun

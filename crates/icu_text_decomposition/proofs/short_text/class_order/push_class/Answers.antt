@@ -4,13 +4,13 @@ use Rattle.icu_text_decomposition.proofs.short_text.PartOrderLemmas.{pass_goes_o
 use Rattle.icu_text_decomposition.proofs.short_text.class_order.push_class.Goals as goal
 
 pub returns-then-own-eq0-clause-end : goal.returns-then-own-eq0-clause-end
-returns-then-own-eq0-clause-end c =
+returns-then-own-eq0-clause-end g c =
     let is = c.canonical_combining_class-own.ensures in let none = c.if-own-eq0.true in
     let start : class_of c.index-chars-count.result ≤ 0 = omega arith in
     ends_at_starter c.args.chars.now c.marks.count _ c.index-chars-count.result c.marks-test.true c.index-chars-count.is start
 
 pub marks-preserved : goal.marks-preserved
-marks-preserved c =
+marks-preserved g c =
     let mark = c.index-chars-count.result in
     let is : c.canonical_combining_class-own.result ≡ class_of mark = c.canonical_combining_class-own.ensures in
     let some = c.if-own-eq0.false in
@@ -27,4 +27,4 @@ marks-preserved c =
     }
 
 pub returns-clause-end : goal.returns-clause-end
-returns-clause-end c = ends_at_end c.args.chars.now c.marks.count (omega (arith, c.marks-test.false))
+returns-clause-end g c = ends_at_end c.args.chars.now c.marks.count (omega (arith, c.marks-test.false))

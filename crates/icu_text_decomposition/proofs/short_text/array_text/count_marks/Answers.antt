@@ -1,7 +1,7 @@
 use Rattle.std.proofs.Common.{◌≡◌, ◌+◌, ◌∙◌, [], length, drop, ap, arith}
 use Rattle.std.proofs.lemmas.List.{drop_all}
 use Rattle.icu_text_decomposition.specs.UnreadTexts.{marks_up_to}
-use Rattle.icu_text_decomposition.proofs.short_text.short_text.count_marks.Goals as goal
+use Rattle.icu_text_decomposition.proofs.short_text.array_text.count_marks.Goals as goal
 
 pub returns : goal.returns
 unfolding marks_up_to
