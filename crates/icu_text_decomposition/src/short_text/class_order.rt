@@ -50,7 +50,12 @@ fn next_above(next: Option<u8>, class: u8, own: u8) -> Option<u8>
 
 /// Appends a mark that has the class that is read, and no other one. Returns whether there was room for it.
 #[inline]
-fn push_of_class<const ROOM: usize>(text: &mut ArrayText<ROOM>, mark: char, class: u8, own: u8) -> bool
+fn push_of_class<const ROOM: usize>(
+    text: &mut ArrayText<ROOM>,
+    mark: char,
+    class: u8,
+    own: u8,
+) -> bool
     ensures same { IsTrue result → own ≡ class
         → array_unread text.new ≡ array_unread text.old ++ mark ∷ [] }
     ensures other { own ≢ class → array_unread text.new ≡ array_unread text.old }
@@ -71,7 +76,11 @@ pub(crate) struct PassEnd {
 }
 
 /// Appends the marks of a class, of the run with which the characters begin. `None` where there is no room for them.
-fn push_class<const ROOM: usize>(text: &mut ArrayText<ROOM>, chars: &[char], class: u8) -> Option<PassEnd>
+fn push_class<const ROOM: usize>(
+    text: &mut ArrayText<ROOM>,
+    chars: &[char],
+    class: u8,
+) -> Option<PassEnd>
     ensures pass { IfSome result (λ end.
         IsPass chars.now (drop end.count chars.now) class end.next) }
     ensures end { IfSome result (λ end. front_marks (drop end.count chars.now) ≡ []) }
