@@ -89,6 +89,7 @@ kept_facts reading c l h = record {
   digit = some_is l.digit (λ d. IsNumberDigit reading c d) h.digit;
   begins = λ e. let b = h.begins e in ap starts_with_starter b.decomposes ∙ b.starter;
   boundary = λ e. let s = h.boundary e in ap (starts_at_boundary reading) s.decomposes ∙ boundary_tests reading s.first s.boundary;
+  head = h.head;
   leads = λ e. let p = h.leads e in
       ap (starts_with_primary reading l.leading_primary) p.decomposes
       ∙ both _ _ p.starter (both _ _ p.alone (ap (begins_with l.leading_primary) p.elements ∙ same p.element.primary l.leading_primary p.leading));
@@ -151,9 +152,10 @@ module _ (reading : Reading) (c : ℕ) where
     begins = λ e. starter_from _ refl (h.begins e);
     boundary = λ e. at_boundary_from _ refl (h.boundary e);
     leads = λ e. leads_from l.leading_primary _ refl (h.leads e);
+    head = h.head;
   }
 
 -- ---- of the texts that begin with the character
 
 pub facts_first : (reading : Reading) (c : ℕ) (l : CharFacts) → AreTrueFacts reading c l → AreFirstFacts reading c l
-facts_first reading c l h = record { begins = h.begins; boundary = h.boundary; leads = h.leads }
+facts_first reading c l h = record { base = h.base; begins = h.begins; boundary = h.boundary; leads = h.leads; head = h.head }

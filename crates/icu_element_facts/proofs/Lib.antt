@@ -10,4 +10,5 @@ pub mod KeptLemmas
 mod OwnFactsLemmas
 pub mod SyllableLemmas
 pub mod KeptBaseLemmas
+mod FollowerLemmas
 pub mod JoinedPairLemmas

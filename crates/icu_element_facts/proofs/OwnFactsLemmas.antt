@@ -1,7 +1,7 @@
 -- Facts of own characters.
-use Rattle.std.proofs.Common.{◌≡◌, ℕ, [], ◌∷◌, Option, None, IfSome, refl, sym, ap, subst, ◌∙◌, append-nil}
+use Rattle.std.proofs.Common.{◌≡◌, ℕ, true, [], ◌∷◌, Option, None, IfSome, refl, sym, ap, subst, ◌∙◌, append-nil}
 use Rattle.std.specs.List.{list_all}
-use Rattle.std.proofs.lemmas.Bool.{and_from}
+use Rattle.std.proofs.lemmas.Bool.{and_from, true≢false}
 use Rattle.unicode_normalization.specs.Order.{is_starter}
 use Rattle.icu_table_entries.specs.Elements.{Element}
 use Rattle.icu_element_reading.specs.TextElements.{Reading}
@@ -13,8 +13,8 @@ use Rattle.icu_element_facts.proofs.OwnLemmas.{own_begins}
 
 -- facts with the one element that its entry gives
 pub own_true : (reading : Reading) (c : ℕ) (l : CharFacts) (e : Element) → IsOwn reading c → elements_of_char reading.tables c ≡ e ∷ [] → char_elements l ≡ e ∷ [] → l.kind ≡ Starters
-    → l.digit ≡ None → l.leading_primary ≡ e.primary → AreTrueFacts reading c l
-own_true reading c l e h one given kind no_digit leading = record {
+    → l.digit ≡ None → l.leading_primary ≡ e.primary → l.has_boundary_before ≡ true → AreTrueFacts reading c l
+own_true reading c l e h one given kind no_digit leading cut = record {
   starters = λ _. record {
     stands = record {
       alone = ap (list_all (is_alone reading)) h.itself ∙ and_from _ _ h.alone refl;
@@ -39,4 +39,5 @@ own_true reading c l e h one given kind no_digit leading = record {
     elements = one;
     leading = sym leading;
   };
+  head = λ e. absurd (true≢false (sym cut ∙ e));
 }

@@ -13,7 +13,7 @@ use Rattle.icu_table_entries.specs.Elements.{Element}
 use Rattle.icu_element_reading.specs.TextElements.{Reading}
 use Rattle.icu_element_reading.specs.boundaries.Alone.{elements_by_char, elements_of_char, is_alone}
 use Rattle.icu_element_reading.specs.boundaries.Cuts.{IsBoundary}
-use Rattle.icu_element_facts.specs.KeptFacts.{AreFirstFacts, AreTrueFacts, HasLeadingPrimary, IsNumberDigit, StandByThemselves, char_elements}
+use Rattle.icu_element_facts.specs.KeptFacts.{AreFirstFacts, AreTrueFacts, HasLeadingPrimary, IsNumberDigit, StandByThemselves, char_elements, first_bits}
 use Rattle.icu_element_facts.specs.inner.ReadFacts.{IsOutline, LeadsBy}
 use Rattle.icu_element_facts.specs.inner.Syllables.{AreOwnFacts}
 use Rattle.icu_element_facts.specs.declared.char_facts.CharFacts.{CharFacts}
@@ -87,19 +87,24 @@ module _ (c n : ℕ) (low : n < 11172) (is : c ≡ 0xAC00 + n) where
 
 -- what is known of it is known of its only character
 pub own_outline : (reading : Reading) (c : ℕ) (l : CharFacts) → AreOwnFacts reading c l → IsOutline reading c l
+unfolding first_bits
 own_outline reading c l o = record {
   begins = λ e. former (is_starter c) true (ap (list_all is_starter) (sym o.itself) ∙ (o.is.starters o.kind).starters);
   boundary = λ e. let h = o.is.boundary e in subst (IsBoundary reading) (head_same _ _ _ _ (sym h.decomposes ∙ o.itself)) h.boundary;
   leads = λ e. let h = o.is.leads e in
       subst (λ x. LeadsBy reading x l.leading_primary) (head_same _ _ _ _ (sym h.decomposes ∙ o.itself))
       (record { element = h.element; rest = h.rest; starter = h.starter; alone = h.alone; elements = h.elements; leading = h.leading });
+  head = λ e. ap first_bits (sym o.itself) ∙ o.is.head e;
 }
 
 -- and of each that decomposes to it and others
 pub first_facts : (reading : Reading) (c first : ℕ) (more : List ℕ) (l : CharFacts) → decompose Nfd c ≡ first ∷ more → AreOwnFacts reading first l → AreFirstFacts reading c l
+unfolding first_bits
 first_facts reading c first more l dec o =
     let h = own_outline reading first l o in
     record {
+      base = λ e. absurd (cc (sym o.kind ∙ e));
+      head = λ e. ap first_bits dec ∙ h.head e;
       begins = λ e. record { first = first; more = more; decomposes = dec; starter = h.begins e };
       boundary = λ e. record { first = first; more = more; decomposes = dec; boundary = h.boundary e };
       leads = λ e. let k = h.leads e in record {
@@ -118,8 +123,8 @@ first_facts reading c first more l dec o =
 -- a character that decomposes to starters alone
 pub starter_facts : (reading : Reading) (c : ℕ) (known l : CharFacts) → AreFirstFacts reading c known → StandByThemselves reading (decompose Nfd c) (char_elements l)
     → l.kind ≡ Starters → l.digit ≡ None → l.has_boundary_before ≡ known.has_boundary_before → l.begins_with_starter ≡ known.begins_with_starter
-    → l.leading_primary ≡ known.leading_primary → AreTrueFacts reading c l
-starter_facts reading c known l h s kind no_digit boundary begins leads = record {
+    → l.leading_primary ≡ known.leading_primary → l.head ≡ known.head → AreTrueFacts reading c l
+starter_facts reading c known l h s kind no_digit boundary begins leads head = record {
   starters = λ e. record {
     stands = record { alone = s.alone; elements = s.elements };
     starters = s.starters;
@@ -131,4 +136,5 @@ starter_facts reading c known l h s kind no_digit boundary begins leads = record
   begins = λ e. h.begins (sym begins ∙ e);
   boundary = λ e. h.boundary (sym boundary ∙ e);
   leads = λ e. subst (HasLeadingPrimary reading c) (sym leads) (h.leads (λ z. e (leads ∙ z)));
+  head = λ e. h.head (sym boundary ∙ e) ∙ sym head;
 }

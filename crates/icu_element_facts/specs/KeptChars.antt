@@ -8,7 +8,7 @@ use Rattle.icu_element_reading.specs.TextElements.{Reading, continues_number}
 use Rattle.icu_element_reading.specs.boundaries.Alone.{elements_of_char, is_alone}
 use Rattle.icu_table_provider.specs.well_formed.MappingCharacters.{is_named, is_named_by_tailoring}
 use Rattle.icu_element_reading.specs.boundaries.Cuts.{has_prefix}
-use Rattle.icu_element_facts.specs.KeptFacts.{StandsAlone, HasStarters, IsLoneMark, IsBase, IsNumberDigit, rises_to}
+use Rattle.icu_element_facts.specs.KeptFacts.{StandsAlone, HasStarters, IsLoneMark, IsBase, IsNumberDigit, first_bits, rises_to}
 use Rattle.icu_element_facts.specs.declared.char_facts.CharFacts.{CharFacts}
 use Rattle.icu_element_facts.specs.declared.char_facts.FactsKind.TheVariants.{Starters, Marked, Mark, Base}
 
@@ -54,6 +54,7 @@ pub record KeptChar (reading : Reading) (c : ℕ) (l : CharFacts) : Type 0 where
   pub begins : IsTrue l.begins_with_starter → starts_with_starter (decompose Nfd c) ≡ true
   pub boundary : IsTrue l.has_boundary_before → starts_at_boundary reading (decompose Nfd c) ≡ true
   pub leads : l.leading_primary ≢ 0 → starts_with_primary reading l.leading_primary (decompose Nfd c) ≡ true
+  pub head : l.has_boundary_before ≡ false → first_bits (decompose Nfd c) ≡ l.head
 
 -- what is kept of characters from this one on, in order, is so
 abbrev pub AreFactsFrom : Reading → ℕ → List CharFacts → Type 0

@@ -1,5 +1,5 @@
 -- What is known of a character before it is read: how it may be read by itself, and where a text may be cut before it.
-use Rattle.std.specs.Prelude.{◌≡◌, ◌≢◌, ◌<◌, ℕ, Bool, true, ◌&&◌, ◌==◌, nat_le, List, [], ◌∷◌, ◌++◌, take, IsTrue, IfSome}
+use Rattle.std.specs.Prelude.{◌≡◌, ◌≢◌, ◌<◌, ◌%◌, ℕ, Bool, true, false, ◌&&◌, ◌==◌, nat_le, List, [], ◌∷◌, ◌++◌, take, IsTrue, IfSome}
 use Rattle.std.specs.List.{list_all}
 use Rattle.ucd_normal.specs.CanonicalCombiningClass.{canonical_combining_class as class_of}
 use Rattle.ucd_normal.specs.declared.forms.Form.TheVariants.{Nfd}
@@ -14,6 +14,7 @@ use Rattle.icu_element_reading.specs.TextElements.{Reading, continues_number, di
 use Rattle.icu_element_reading.specs.boundaries.Alone.{context_after, elements_by_char, elements_of_char, is_alone}
 use Rattle.icu_element_reading.specs.boundaries.Cuts.{IsBoundary}
 use Rattle.icu_element_reading.specs.boundaries.BoundaryTables.{HasBoundaryBefore}
+use Rattle.icu_element_facts.specs.Followers.{AreFollowers}
 use Rattle.icu_element_facts.specs.declared.char_facts.CharFacts.{CharFacts}
 use Rattle.icu_element_facts.specs.declared.char_facts.FactsKind.TheVariants.{Starters, Marked, Mark, Base}
 
@@ -70,9 +71,10 @@ pub record HasLeadingPrimary (reading : Reading) (c : ℕ) (primary : ℕ) : Typ
   pub elements : elements_of_char reading.tables first ≡ element ∷ rest
   pub leading : element.primary ≡ primary
 
--- it gives the elements kept as a text by itself, whatever stands before
+-- it gives the elements kept as a text by itself, whatever stands before, and goes on with the followers kept alone
 pub record IsBase (reading : Reading) (c : ℕ) (l : CharFacts) : Type 0 where
   pub at_end : (before : List ℕ) → elements_after reading before (nfd (c ∷ [])) ≡ char_elements l
+  pub goes_on : ∥ AreFollowers reading c l.class l.followers ∥₁
 
 -- a digit that decomposes to itself, has a digit's entry itself, goes on numbers, and has this value there
 pub record IsNumberDigit (reading : Reading) (c digit : ℕ) : Type 0 where
@@ -81,6 +83,11 @@ pub record IsNumberDigit (reading : Reading) (c digit : ℕ) : Type 0 where
   pub continues : continues_number reading.tables c ≡ true
   pub value : digit_of_char reading.tables c ≡ digit
   pub decimal : digit < 10
+
+-- the low six bits of the first of these characters
+unfoldable pub first_bits : List ℕ → ℕ
+first_bits [] = 0
+first_bits (d ∷ ds) = d % 64
 
 -- an own character: it decomposes to itself, gives the same elements wherever it stands, and a text may be cut before
 -- it
@@ -99,12 +106,15 @@ pub record AreTrueFacts (reading : Reading) (c : ℕ) (l : CharFacts) : Type 0 w
   pub begins : IsTrue l.begins_with_starter → BeginsWithStarter c
   pub boundary : IsTrue l.has_boundary_before → HasBoundaryBefore reading c
   pub leads : l.leading_primary ≢ 0 → HasLeadingPrimary reading c l.leading_primary
+  pub head : l.has_boundary_before ≡ false → first_bits (decompose Nfd c) ≡ l.head
 
 -- what is known of texts that begin with a character, by the first character of its decomposition, is so
 pub record AreFirstFacts (reading : Reading) (c : ℕ) (l : CharFacts) : Type 0 where
+  pub base : l.kind ≡ Base → IsBase reading c l
   pub begins : IsTrue l.begins_with_starter → BeginsWithStarter c
   pub boundary : IsTrue l.has_boundary_before → HasBoundaryBefore reading c
   pub leads : l.leading_primary ≢ 0 → HasLeadingPrimary reading c l.leading_primary
+  pub head : l.has_boundary_before ≡ false → first_bits (decompose Nfd c) ≡ l.head
 
 -- starters that stand alone, whose elements these are
 pub record StandByThemselves (reading : Reading) (cs : List ℕ) (es : List Element) : Type 0 where

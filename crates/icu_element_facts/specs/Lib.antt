@@ -1,4 +1,5 @@
 pub mod FewElements
+pub mod Followers
 pub mod KeptFacts
 pub mod KeptChars
 pub mod CharWords

@@ -14,6 +14,7 @@ ghost use Rattle.icu_element_reading.specs.boundaries.BoundaryTables.{boundary_r
 use crate::char_facts::{CharFacts, FactsKind};
 use crate::digit_values::digit_at;
 use crate::few_elements::FewElements;
+use crate::followers::followers_of;
 use crate::read_char::{facts_of, with_elements};
 use icu_element_reading::boundaries::Boundaries;
 use icu_element_reading::steady_elements::SteadyElements;
@@ -85,8 +86,11 @@ fn with_base(places: &Boundaries<'_>, c: char, facts: CharFacts) -> CharFacts
     if facts.kind != FactsKind::Unknown || !is_base(places, c, &facts) {
         return facts;
     }
+    let followers = followers_of(places, c);
+    let mut known = facts;
+    known.followers = followers.bits;
     match elements_of_chars(places, &[c]) {
-        Some(few) => with_elements(facts, few, (FactsKind::Base, 0)),
+        Some(few) => with_elements(known, few, (FactsKind::Base, followers.class)),
         None => facts,
     }
 }

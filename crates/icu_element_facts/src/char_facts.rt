@@ -19,8 +19,8 @@ pub enum FactsKind {
     /// no later mark of its run has a lower class.
     Mark,
     /// Its decomposition begins with a character that begins contractions, and its elements are those that it gives as
-    /// a text by itself, whatever stands before it: it may be read by itself at the end of a text, and before a
-    /// character before which texts may be cut.
+    /// a text by itself, whatever stands before it: it may be read by itself at the end of a text, before a character
+    /// before which texts may be cut, and before marks and a starter that go on nothing that it begins.
     Base,
 }
 
@@ -34,7 +34,8 @@ pub struct CharFacts {
     pub count: u8,
     /// How it may be read by itself.
     pub kind: FactsKind,
-    /// The canonical combining class of the last character of its decomposition, where its kind is `Marked` or `Mark`.
+    /// The canonical combining class of the last character of its decomposition, where its kind is `Marked` or `Mark`,
+    /// or `Base` with followers that are known.
     pub class: u8,
     /// Whether a text may be cut before it. Where this is false, that is not known.
     pub has_boundary_before: bool,
@@ -45,5 +46,10 @@ pub struct CharFacts {
     /// The value that it has in a number, from 0 to 9, where it is a digit below U+00C0 and digits may be read as
     /// numbers (UTS #35 part 5, "Setting Options"). Where this is `None`, that is not known.
     pub digit: Option<u8>,
+    /// The low six bits of the first character of its decomposition.
+    pub head: u8,
+    /// Where its kind is `Base`: for each character that may go on what it begins, the bit that its low six bits
+    /// number. Where a bit is set, nothing is known.
+    pub followers: u64,
     ghost at_most_three: { count ≤ 3 },
 }

@@ -13,11 +13,13 @@ ghost use Rattle.icu_element_reading.specs.TextElements.{Reading};
 ghost use Rattle.icu_element_reading.specs.boundaries.BoundaryTables.{boundary_reading};
 ghost use Rattle.icu_element_facts.specs.FactsTables.{AreFacts};
 ghost use Rattle.icu_element_facts.specs.FewElements.{few_elements};
+ghost use Rattle.icu_element_facts.specs.Followers.{BeginsContractions};
 ghost use Rattle.icu_element_facts.specs.KeptFacts.{IsPair};
 ghost use Rattle.icu_element_facts.specs.KeptPairs.{ArePairs};
-ghost use Rattle.icu_element_facts.specs.inner.JoinedPairs.{AreJoined, BeginsPairs, IsMappingOf, NamesAlone};
+ghost use Rattle.icu_element_facts.specs.inner.JoinedPairs.{AreJoined, IsMappingOf, NamesAlone};
 
 use crate::bases::elements_of_chars;
+use crate::contractions::plain_contractions_of;
 use crate::facts_table::KeptFacts;
 use crate::few_elements::FewElements;
 use crate::own::is_plain;
@@ -85,25 +87,6 @@ fn names_alone(context: FoundContext<'_>, x: char) -> bool
     }
 }
 
-/// The mappings of a character that begins contractions, where it is a starter that decomposes to itself, and no
-/// diacritic.
-#[tactic(auto, unfolding(icu_element_reading::specs::boundaries::BoundaryTables::boundary_reading))]
-fn contractions_of<'d>(places: &Boundaries<'d>, c: char) -> Option<FoundContext<'d>>
-    ensures begins { IfSome result (λ context.
-        BeginsPairs (boundary_reading places.now) c (found_context context)) }
-    ensures ascending { IfSome result (λ context.
-        IsTrue (has_ascending_mappings (found_context context))) }
-{
-    if !is_plain(c) || places.reading.tables.secondary_of_diacritic(c).is_some() {
-        return None;
-    }
-    let (home, ce32) = places.reading.tables.homed_entry(c);
-    match ce32.kind() {
-        EntryKind::Contraction => Some(home.get_context(ce32.index())),
-        _ => None,
-    }
-}
-
 /// Appends a pair with its elements, where there are three at most.
 fn push_joined(
     places: &Boundaries<'_>,
@@ -134,7 +117,7 @@ fn push_pair(
     suffix: &[char],
     pairs: &mut Vec<KeptPair>,
 ) -> Result<(), AllocError>
-    requires begins { BeginsPairs (boundary_reading places.now) c (found_context context) }
+    requires begins { BeginsContractions (boundary_reading places.now) c (found_context context) }
     requires ascending { IsTrue (has_ascending_mappings (found_context context)) }
     ensures { OnOk result (ArePairs (boundary_reading places.now) pairs.old.items
         → ArePairs (boundary_reading places.now) pairs.new.items) }
@@ -152,7 +135,7 @@ fn push_pairs(
     context: FoundContext<'_>,
     pairs: &mut Vec<KeptPair>,
 ) -> Result<(), AllocError>
-    requires begins { BeginsPairs (boundary_reading places.now) c (found_context context) }
+    requires begins { BeginsContractions (boundary_reading places.now) c (found_context context) }
     requires ascending { IsTrue (has_ascending_mappings (found_context context)) }
     ensures { OnOk result (ArePairs (boundary_reading places.now) pairs.old.items
         → ArePairs (boundary_reading places.now) pairs.new.items) }
@@ -178,7 +161,7 @@ fn push_pairs_at(
     let Some(c) = char::from_u32(code) else {
         return Ok(());
     };
-    match contractions_of(places, c) {
+    match plain_contractions_of(places, c) {
         Some(context) => push_pairs(places, c, context, pairs),
         None => Ok(()),
     }

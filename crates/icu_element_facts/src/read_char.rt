@@ -50,6 +50,8 @@ fn outline(places: &Boundaries<'_>, first: char, leading_primary: u32) -> CharFa
         begins_with_starter: canonical_combining_class(first) == 0,
         leading_primary,
         digit: None,
+        head: (first as u32 % 64) as u8,
+        followers: !0,
     }
 }
 
@@ -63,6 +65,8 @@ pub(crate) fn with_elements(known: CharFacts, all: FewElements, shape: (FactsKin
     ensures boundary { result.has_boundary_before ≡ known.has_boundary_before }
     ensures begins { result.begins_with_starter ≡ known.begins_with_starter }
     ensures leads { result.leading_primary ≡ known.leading_primary }
+    ensures head { result.head ≡ known.head }
+    ensures followers { result.followers ≡ known.followers }
     ensures first { (reading : Reading) (first : ℕ) → IsOutline reading first known
         → IsOutline reading first result }
 {
@@ -75,10 +79,13 @@ pub(crate) fn with_elements(known: CharFacts, all: FewElements, shape: (FactsKin
         begins_with_starter: known.begins_with_starter,
         leading_primary: known.leading_primary,
         digit: None,
+        head: known.head,
+        followers: known.followers,
     }
 }
 
 /// What is known of a character whose decomposition begins with one that stands alone, by its elements.
+#[tactic(auto, unfolding(crate::specs::KeptFacts::first_bits))]
 fn facts_with(
     places: &Boundaries<'_>,
     c: char,
@@ -101,6 +108,7 @@ fn facts_with(
 }
 
 /// What is known of a character that decomposes to these, the first and the others.
+#[tactic(auto, unfolding(crate::specs::KeptFacts::first_bits))]
 fn facts_from(places: &Boundaries<'_>, c: char, first: char, more: &[char]) -> CharFacts
     requires { decompose Nfd c ≡ first ∷ more.now }
     ensures { AreTrueFacts (boundary_reading places.now) c result }
@@ -126,6 +134,8 @@ fn facts_of_one(element: CollationElement) -> CharFacts
         begins_with_starter: true,
         leading_primary: element.primary(),
         digit: None,
+        head: 0,
+        followers: !0,
     }
 }
 

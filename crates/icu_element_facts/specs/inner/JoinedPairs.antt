@@ -1,5 +1,5 @@
 -- Two characters that a mapping of the first joins.
-use Rattle.std.specs.Prelude.{◌≡◌, ◌≢◌, ℕ, true, List, [], ◌∷◌, Some, None, slice_get}
+use Rattle.std.specs.Prelude.{◌≡◌, ◌≢◌, ℕ, true, [], ◌∷◌, Some, None, slice_get}
 use Rattle.ucd_normal.specs.declared.forms.Form.TheVariants.{Nfd}
 use Rattle.unicode_normalization.specs.Decompose.{decompose}
 use Rattle.unicode_normalization.specs.Order.{is_starter}
@@ -24,14 +24,6 @@ pub record IsMappingOf (context : Context) (index x : ℕ) : Type 0 where
   pub at : slice_get context.mappings index ≡ Some mapping
   pub chars : mapping.chars ≡ x ∷ []
   pub no_digit : kind_of mapping.entry ≢ Digit
-
--- a starter that decomposes to itself, is no diacritic, and begins the contractions of a context
-pub record BeginsPairs (reading : Reading) (c : ℕ) (context : Context) : Type 0 where
-  pub itself : decompose Nfd c ≡ c ∷ []
-  pub starter : is_starter c ≡ true
-  pub no_diacritic : diacritic_of reading.tables c ≡ None
-  pub begins : kind_of (entry_of reading.tables c).entry ≡ Contraction
-  pub same : context ≡ context_of (entry_of reading.tables c)
 
 -- starters that decompose to themselves, of which the first begins contractions, and a mapping of it names the second
 -- alone

@@ -1,5 +1,5 @@
 -- What a decomposition, its first character and the others, shows by itself.
-use Rattle.std.specs.Prelude.{◌≡◌, ◌≢◌, ℕ, true, IsTrue, List, [], ◌∷◌}
+use Rattle.std.specs.Prelude.{◌≡◌, ◌≢◌, ◌%◌, ℕ, true, false, IsTrue, List, [], ◌∷◌}
 use Rattle.std.specs.List.{list_all}
 use Rattle.ucd_normal.specs.CanonicalCombiningClass.{canonical_combining_class as class_of}
 use Rattle.unicode_normalization.specs.Order.{is_starter}
@@ -36,3 +36,4 @@ pub record IsOutline (reading : Reading) (first : ℕ) (l : CharFacts) : Type 0 
   pub begins : IsTrue l.begins_with_starter → is_starter first ≡ true
   pub boundary : IsTrue l.has_boundary_before → IsBoundary reading first
   pub leads : l.leading_primary ≢ 0 → LeadsBy reading first l.leading_primary
+  pub head : l.has_boundary_before ≡ false → first % 64 ≡ l.head

@@ -1,4 +1,4 @@
-use Rattle.std.proofs.Common.{◌≡◌, ◌<◌, ℕ, false, is_some, ap, rules}
+use Rattle.std.proofs.Common.{◌≡◌, ◌<◌, false, is_some, ap, rules}
 use Rattle.icu_table_data.specs.Data.{HomedEntry}
 use Rattle.icu_table_data.proofs.ViolationLemmas.{weaker_some}
 use Rattle.icu_table_provider.specs.Tables.{diacritic_of}

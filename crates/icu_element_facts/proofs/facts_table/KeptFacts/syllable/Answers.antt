@@ -12,4 +12,4 @@ returns c = λ reading are.
     let made = c.with_elements.ensures in
     starter_facts reading c.args.c c.in_ok-leading.leading.now c.with_elements.result (c.in_ok-leading.ensures reading are)
     (subst (λ (es : List Element). StandByThemselves reading (decompose Nfd c.args.c) es) (sym made.elements) (c.in_ok-few.ensures reading are))
-    made.kind.0 made.digit made.boundary made.begins made.leads
+    made.kind.0 made.digit made.boundary made.begins made.leads made.head

@@ -6,7 +6,7 @@ use Rattle.icu_table_data.specs.Data.{Data, homed}
 use Rattle.icu_table_data.specs.StoredData.{data_of}
 use Rattle.icu_element_matches.proofs.MatchLemmas.{contraction_inside}
 use Rattle.icu_element_facts.proofs.KeptBaseLemmas.{own_entry}
-use Rattle.icu_element_facts.proofs.joined_pairs.contractions_of.Goals as goal
+use Rattle.icu_element_facts.proofs.contractions.contractions_of.Goals as goal
 
 pub get_context-requires : goal.get_context-requires
 get_context-requires c =

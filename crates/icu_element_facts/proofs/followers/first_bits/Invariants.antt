@@ -1,0 +1,12 @@
+use Rattle.std.proofs.Common.{◌≡◌, ℕ, ◌<◌, Some}
+use Rattle.std.specs.Prelude.{slice_get}
+use Rattle.icu_table_data.specs.Data.{Mapping}
+use Rattle.icu_table_data.specs.StoredData.{found_context}
+use Rattle.icu_element_reading.specs.inner.StepsTaken.{FirstDiffers}
+use Rattle.icu_element_facts.specs.Followers.{HasNoBit}
+use Rattle.icu_element_facts.proofs.followers.first_bits.Given as goal
+
+-- no mapping so far begins with a character that has no bit
+abbrev pub invariant-loop-index : goal.invariant-loop-index
+invariant-loop-index l =
+    (k : ℕ) (m : Mapping) → k < l.index → slice_get (found_context l.context).mappings k ≡ Some m → (d : ℕ) → HasNoBit l.bits d → FirstDiffers d m.chars
