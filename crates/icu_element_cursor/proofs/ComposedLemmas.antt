@@ -3,7 +3,7 @@
 use Rattle.std.proofs.Common.{◌≡◌, ◌≢◌, ℕ, ◌≤◌, ◌<◌, Bool, true, false, ◌&&◌, nat_eq, nat_le, nat_lt, List, [], ◌∷◌, ◌++◌, length, drop, append-nil, append_assoc, Option, Some, None, refl, sym, ap, ◌∙◌, inl, inr, arith, flat_map, subst, eq-eqb, rules}
 use Rattle.std.specs.Prelude.{bytes_eq, ⊤}
 use Rattle.std.specs.List.{starts_with}
-use Rattle.std.proofs.lemmas.Bool.{cases_Bool, and_parts, lt-ltb, ne_eqb, true≢false}
+use Rattle.std.proofs.lemmas.Bool.{cases_Bool, cases_eq, and_parts, lt-ltb, ne_eqb, true≢false}
 use Rattle.std.proofs.Math.Bool.{and-false}
 use Rattle.icu_element_facts.proofs.JoinedPairLemmas.{no_secondary}
 use Rattle.ucd_normal.specs.CanonicalCombiningClass.{canonical_combining_class as class_of}
@@ -15,7 +15,7 @@ use Rattle.unicode_normalization.proofs.OrderLemmas.{canonical_order-cons, is_re
 use Rattle.icu_table_entries.specs.declared.entry.EntryKind.TheVariants.{Digit}
 use Rattle.icu_table_entries.specs.Elements.{Element}
 use Rattle.icu_table_entries.specs.Entries.{kind_of}
-use Rattle.icu_table_data.specs.Data.{Mapping, Context, Data, homed, plain_of, context_of, mapping_entry, is_longer, longest_from}
+use Rattle.icu_table_data.specs.Data.{Mapping, Context, Data, homed, plain_of, context_of, mapping_entry, is_longer, longest_from, longest_mapping}
 use Rattle.icu_table_data.specs.Final.{final_elements}
 use Rattle.icu_table_provider.specs.Tables.{entry_of, diacritic_of}
 use Rattle.icu_element_matches.specs.Matches.{Match, after_prefix, is_blocked, with_marks, contracted, match_of}
@@ -23,15 +23,16 @@ use Rattle.icu_element_matches.proofs.ChoiceLemmas.{either, digit_by}
 use Rattle.icu_element_matches.proofs.ReadAheadLemmas.{match_of-contraction}
 use Rattle.icu_element_reading.specs.TextElements.{Reading, Step, entry_step, matched_step, consumed, last_two, elements_after}
 use Rattle.icu_element_reading.proofs.StepLemmas.{elements_after_cons, elements_after_nil}
-use Rattle.icu_element_reading.specs.boundaries.Alone.{context_after, stays_first, all_stay}
+use Rattle.icu_element_reading.specs.boundaries.Alone.{context_after, stays_first, all_stay, rises_from}
 use Rattle.icu_element_reading.proofs.boundaries.NfdLemmas.{nfd-nil, nfd-begins, nfd-stay, stays_first-rises}
+use Rattle.icu_element_facts.specs.Followers.{IsComposed, NoneBeginsWithBoth, DiffersFromPair}
 use Rattle.icu_element_facts.proofs.KeptBaseLemmas.{own_entry}
 use Rattle.icu_element_cursor.specs.inner.MarkRuns.{Rises}
 use Rattle.icu_element_reading.specs.boundaries.Places.{MayBeCut}
 use Rattle.icu_element_cursor.specs.inner.Standing.{StandsBefore}
 use Rattle.icu_element_cursor.proofs.StandLemmas.{cut_stands, nothing_rises, one_in_run, or_true}
-use Rattle.icu_element_cursor.specs.inner.Unjoined.{BeginsNone, IsHead}
-use Rattle.icu_element_cursor.specs.inner.Composed.{AreLowerMarks, AreLowerMarksBefore, IsComposed}
+use Rattle.icu_element_cursor.specs.inner.Unjoined.{BeginsNone, GoesOnNone, IsUnjoined, IsHead}
+use Rattle.icu_element_cursor.specs.inner.Composed.{AreLowerMarks, AreLowerMarksBefore}
 use Rattle.icu_element_cursor.proofs.UnjoinedLemmas.{none_whole, begins_whole, first_none, no_lead}
 
 -- ---- order
@@ -147,14 +148,63 @@ exact_from best (mapping ∷ mappings) m found small h is =
       ])
     ]
 
+-- ---- mappings that begin with the mark
+
+-- what begins with no two characters of a text begins it where it begins the first of them
+begun_alike : (x d : ℕ) (ds chars : List ℕ) → DiffersFromPair x d chars → starts_with nat_eq (x ∷ d ∷ ds) chars ≡ starts_with nat_eq (x ∷ []) chars
+begun_alike x d ds [] h = refl
+begun_alike x d ds (y ∷ []) h = refl
+begun_alike x d ds (y ∷ (z ∷ zs)) h =
+    elim (cases_eq y x) [
+      | inl same ↦ ap (λ b. nat_eq y x && (b && starts_with nat_eq ds zs)) (ne_eqb z d (h same))
+      | inr other ↦ ap (λ b. b && (nat_eq z d && starts_with nat_eq ds zs)) (ne_eqb y x other) ∙ sym (ap (λ b. b && false) (ne_eqb y x other))
+    ]
+
+longest_past : (best : Option Mapping) (mappings : List Mapping) (x d : ℕ) (ds : List ℕ) → NoneBeginsWithBoth mappings x d
+    → longest_from best mappings (x ∷ d ∷ ds) ≡ longest_from best mappings (x ∷ [])
+unfolding longest_from
+longest_past best [] x d ds h = refl
+longest_past best (mapping ∷ mappings) x d ds h =
+    let alike = begun_alike x d ds mapping.chars h.0 in
+    elim (cases_Bool (starts_with nat_eq (x ∷ []) mapping.chars && is_longer mapping best)) [
+      | inl taken ↦ rw (alike, taken) (longest_past (Some mapping) mappings x d ds h.1)
+      | inr other ↦ rw (alike, other) (longest_past best mappings x d ds h.1)
+    ]
+
+not_both : (x d : ℕ) (chars : List ℕ) → DiffersFromPair x d chars → bytes_eq chars (x ∷ d ∷ []) ≡ false
+not_both x d [] h = refl
+not_both x d (y ∷ []) h = and-false (nat_eq y x)
+not_both x d (y ∷ (z ∷ zs)) h =
+    elim (cases_eq y x) [
+      | inl same ↦ ap (λ b. nat_eq y x && (b && bytes_eq zs [])) (ne_eqb z d (h same)) ∙ and-false (nat_eq y x)
+      | inr other ↦ ap (λ b. b && (nat_eq z d && bytes_eq zs [])) (ne_eqb y x other)
+    ]
+
+none_of_both : (mappings : List Mapping) (x d : ℕ) → NoneBeginsWithBoth mappings x d → mapping_entry mappings (x ∷ d ∷ []) ≡ None
+unfolding mapping_entry
+none_of_both [] x d h = refl
+none_of_both (mapping ∷ mappings) x d h = rw (not_both x d mapping.chars h.0) (none_of_both mappings x d h.1)
+
+-- no mark joins the mark
+none_joins_both : (mappings : List Mapping) (entry x : ℕ) (passed text : List ℕ) → GoesOnNone (NoneBeginsWithBoth mappings x) text
+    → with_marks mappings entry (x ∷ []) passed text ≡ joined_match entry (x ∷ []) (passed ++ text)
+unfolding with_marks GoesOnNone
+none_joins_both mappings entry x passed [] h = ap (joined_match entry (x ∷ [])) (sym (append-nil passed))
+none_joins_both mappings entry x passed (m ∷ ms) h =
+    elim (cases_Bool (is_starter m)) [
+      | inl starter ↦ rw starter refl
+      | inr mark ↦
+          let is : Match → Type 0 = λ n. n ≡ joined_match entry (x ∷ []) (passed ++ m ∷ ms) in
+          let over : with_marks mappings entry (x ∷ []) (passed ++ m ∷ []) ms ≡ joined_match entry (x ∷ []) (passed ++ m ∷ ms) =
+          none_joins_both mappings entry x (passed ++ m ∷ []) ms (h.1 mark) ∙ ap (joined_match entry (x ∷ [])) (append_assoc passed (m ∷ []) ms) in
+          rw mark (either is (is_blocked passed m) _ _ over (rw (none_of_both mappings x m h.0) over))
+    ]
+
 -- ---- the step
 
-module _ (reading : Reading) (c : ℕ) (context : Context) (k : ℕ) (h : IsComposed reading c context k) where
+module _ (reading : Reading) (c : ℕ) (context : Context) (mark : ℕ) (h : IsComposed reading c context mark) (no_numbers : reading.numeric ≡ None) where
   abbrev base : ℕ
   base = h.base
-
-  abbrev mark : ℕ
-  mark = h.mark
 
   abbrev entry : ℕ
   entry = h.joins.mapping.entry
@@ -172,20 +222,24 @@ module _ (reading : Reading) (c : ℕ) (context : Context) (k : ℕ) (h : IsComp
   step_of text es = record { elements = es; suffix = mark ∷ []; rest = text }
 
   nonstarter : is_starter mark ≡ false
-  nonstarter = ne_eqb (class_of mark) 0 (λ e. h.some (sym h.class ∙ e))
+  nonstarter = ne_eqb (class_of mark) 0 h.some
 
   exact : mapping_entry context.mappings (mark ∷ []) ≡ Some entry
   unfolding IsSmall
   exact = exact_from None context.mappings mark h.joins.mapping tt h.joins.joined (ap (λ (l : List ℕ). bytes_eq l (mark ∷ [])) h.joins.chars ∙ same_one mark)
 
+  contracted_by : (ds : List ℕ) → longest_mapping context.mappings (mark ∷ ds) ≡ Some h.joins.mapping → contracted context (mark ∷ ds) ≡ with_marks context.mappings entry (mark ∷ []) [] ds
+  unfolding contracted
+  contracted_by ds longest =
+      ap (λ (o : Option Mapping). elim o as (λ _. Match) [
+        | Some mapping ↦ with_marks context.mappings mapping.entry mapping.chars [] (drop (length mapping.chars) (mark ∷ ds))
+        | None ↦ with_marks context.mappings context.default [] [] (mark ∷ ds)
+      ]) longest
+      ∙ ap (λ (l : List ℕ). with_marks context.mappings entry l [] (drop (length l) (mark ∷ ds))) h.joins.chars
+
   contracted_behind : (ds : List ℕ) → AreLowerMarks context (class_of mark) ds → contracted context (ds ++ mark ∷ []) ≡ joined_match entry (mark ∷ []) ds
   unfolding contracted AreLowerMarks with_marks is_blocked
-  contracted_behind [] below =
-      ap (λ (o : Option Mapping). elim o as (λ _. Match) [
-        | Some mapping ↦ with_marks context.mappings mapping.entry mapping.chars [] (drop (length mapping.chars) (mark ∷ []))
-        | None ↦ with_marks context.mappings context.default [] [] (mark ∷ [])
-      ]) h.joins.joined
-      ∙ ap (λ (l : List ℕ). with_marks context.mappings entry l [] (drop (length l) (mark ∷ []))) h.joins.chars
+  contracted_behind [] below = contracted_by [] h.joins.joined
   contracted_behind (d ∷ ds) below =
       ap (λ (o : Option Mapping). elim o as (λ _. Match) [
         | Some mapping ↦ with_marks context.mappings mapping.entry mapping.chars [] (drop (length mapping.chars) (d ∷ ds ++ mark ∷ []))
@@ -193,31 +247,37 @@ module _ (reading : Reading) (c : ℕ) (context : Context) (k : ℕ) (h : IsComp
       ]) (first_none context d (ds ++ mark ∷ []) below.0.none)
       ∙ joins_behind context context.default entry mark [] (d ∷ ds) nonstarter exact refl below
 
-  matched : (before ds : List ℕ) → AreLowerMarks context (class_of mark) ds → match_of (entry_of reading.tables base) before (ds ++ mark ∷ []) ≡ joined_match entry (mark ∷ []) ds
-  matched before ds below =
+  longest_before : (ds : List ℕ) → GoesOnNone (NoneBeginsWithBoth context.mappings mark) ds → longest_mapping context.mappings (mark ∷ ds) ≡ Some h.joins.mapping
+  unfolding GoesOnNone
+  longest_before [] goes = h.joins.joined
+  longest_before (d ∷ ds) goes = longest_past None context.mappings mark d ds goes.0 ∙ h.joins.joined
+
+  contracted_before : (ds : List ℕ) → GoesOnNone (NoneBeginsWithBoth context.mappings mark) ds → contracted context (mark ∷ ds) ≡ joined_match entry (mark ∷ []) ds
+  contracted_before ds goes = contracted_by ds (longest_before ds goes) ∙ none_joins_both context.mappings entry mark [] ds goes
+
+  matched : (before text left : List ℕ) → contracted context text ≡ joined_match entry (mark ∷ []) left → match_of (entry_of reading.tables base) before text ≡ joined_match entry (mark ∷ []) left
+  matched before text left is =
       let at = entry_of reading.tables base in
-      let text = ds ++ mark ∷ [] in
       let own : after_prefix at before ≡ at.entry = own_entry at before h.has.begins in
       match_of-contraction at before text (ap kind_of own ∙ h.has.begins)
       ∙ ap (λ e. contracted (context_of (homed at.home e)) text) own
       ∙ ap (λ (x : Context). contracted x text) (sym h.has.same)
-      ∙ contracted_behind ds below
+      ∙ is
 
   stepped : (ds : List ℕ) → entry_step reading home base (joined_match entry (mark ∷ []) ds) ≡ step_of ds given
   unfolding entry_step
-  stepped ds = digit_by (step_of ds) (kind_of entry) _ _ _ _ (λ is. no_lead reading.numeric _ _ h.has.no_numbers) refl
+  stepped ds = digit_by (step_of ds) (kind_of entry) _ _ _ _ (λ is. no_lead reading.numeric _ _ no_numbers) refl
 
   undiacritic : (text ds : List ℕ) → matched_step reading base text (joined_match entry (mark ∷ []) ds) ≡ step_of ds given
   unfolding matched_step
   undiacritic text ds = no_secondary (diacritic_of reading.tables base) _ _ h.has.no_diacritic ∙ stepped ds
 
-  read_on : (before ds : List ℕ) → AreLowerMarks context (class_of mark) ds
-      → elements_after reading before (base ∷ ds ++ mark ∷ []) ≡ given ++ elements_after reading (last_two before (base ∷ mark ∷ [])) ds
-  read_on before ds below =
-      let text = ds ++ mark ∷ [] in
+  read_on : (before text left : List ℕ) → contracted context text ≡ joined_match entry (mark ∷ []) left
+      → elements_after reading before (base ∷ text) ≡ given ++ elements_after reading (last_two before (base ∷ mark ∷ [])) left
+  read_on before text left is =
       elements_after_cons reading before base text
       ∙ ap (λ (s : Step). s.elements ++ elements_after reading (last_two before (consumed base s)) s.rest)
-      (ap (matched_step reading base text) (matched before ds below) ∙ undiacritic text ds)
+      (ap (matched_step reading base text) (matched before text left is) ∙ undiacritic text left)
 
   decomposed_so : (front : List ℕ) → AreLowerMarks context (class_of mark) (nfd front) → nfd (c ∷ front) ≡ base ∷ nfd front ++ mark ∷ []
   unfolding normalize decomposed
@@ -225,33 +285,49 @@ module _ (reading : Reading) (c : ℕ) (context : Context) (k : ℕ) (h : IsComp
       nfd-begins c base (mark ∷ []) front h.decomposes (eq-eqb (class_of base) 0 h.starter)
       ∙ ap (λ (l : List ℕ). base ∷ l) (canonical_order-cons mark (flat_map (decompose Nfd) front) ∙ sinks_below context mark (nfd front) below)
 
+  decomposed_before : (front : List ℕ) → Rises (class_of mark) front → nfd (c ∷ front) ≡ base ∷ mark ∷ nfd front
+  unfolding all_stay
+  decomposed_before front rises =
+      let rest = flat_map (decompose Nfd) front in
+      let starter : is_starter base ≡ true = eq-eqb (class_of base) 0 h.starter in
+      let stays : stays_first mark rest ≡ true = stays_first-rises mark rest rises in
+      let stay : all_stay (base ∷ mark ∷ []) rest ≡ true = rw (starter, stays) (or_true (is_starter mark)) in
+      nfd-stay c (base ∷ mark ∷ []) front h.decomposes stay
+
   context_same : (before : List ℕ) → last_two before (base ∷ mark ∷ []) ≡ context_after before (decompose Nfd c)
   unfolding context_after
   context_same before = ap (context_after before) (sym h.decomposes)
 
-  -- before such marks it gives what it gives by itself
-  pub composed_stands : (front : List ℕ) → AreLowerMarks context (class_of mark) (nfd front) → (es : List Element) → StandsBefore reading c es [] → StandsBefore reading c es front
-  unfolding AreLowerMarks
-  composed_stands front below es stands = λ before.
+  -- before a text of which it takes its mark alone it gives what it gives by itself
+  stands_taking : (front text : List ℕ) → nfd (c ∷ front) ≡ base ∷ text → contracted context text ≡ joined_match entry (mark ∷ []) (nfd front)
+      → (es : List Element) → StandsBefore reading c es [] → StandsBefore reading c es front
+  unfolding rises_from with_marks
+  stands_taking front text split is es stands = λ before.
       let after = context_after [] (decompose Nfd c) in
       let own : given ≡ es =
       sym (append-nil given)
       ∙ ap (λ (xs : List Element). given ++ xs) (sym (elements_after_nil reading (last_two [] (base ∷ mark ∷ []))))
-      ∙ sym (read_on [] [] tt)
-      ∙ ap (elements_after reading []) (sym (decomposed_so [] (subst (AreLowerMarks context (class_of mark)) (sym nfd-nil) tt) ∙ ap (λ (l : List ℕ). base ∷ l ++ mark ∷ []) nfd-nil))
+      ∙ sym (read_on [] (mark ∷ []) [] (contracted_by [] h.joins.joined))
+      ∙ ap (elements_after reading []) (sym (decomposed_before [] refl ∙ ap (λ (l : List ℕ). base ∷ mark ∷ l) nfd-nil))
       ∙ stands []
       ∙ ap (λ (t : List ℕ). es ++ elements_after reading after t) nfd-nil
       ∙ ap (λ (xs : List Element). es ++ xs) (elements_after_nil reading after)
       ∙ append-nil es in
-      ap (elements_after reading before) (decomposed_so front below)
-      ∙ read_on before (nfd front) below
+      ap (elements_after reading before) split
+      ∙ read_on before text (nfd front) is
       ∙ ap (λ (xs : List Element). xs ++ elements_after reading (last_two before (base ∷ mark ∷ [])) (nfd front)) own
       ∙ ap (λ (b : List ℕ). es ++ elements_after reading b (nfd front)) (context_same before)
 
-  pub composed_stands_before : (text : List ℕ) → AreLowerMarksBefore reading context k 0 text → (es : List Element) → StandsBefore reading c es [] → StandsBefore reading c es text
+  -- so it is behind marks of lower classes
+  pub composed_stands_before : (text : List ℕ) → AreLowerMarksBefore reading context (class_of mark) 0 text → (es : List Element) → StandsBefore reading c es [] → StandsBefore reading c es text
   composed_stands_before text b es stands =
       cut_stands reading c es text b.front b.rest b.parts b.boundary
-      (composed_stands b.front (subst (λ n. AreLowerMarks context n (nfd b.front)) (sym h.class) b.below) es stands)
+      (stands_taking b.front (nfd b.front ++ mark ∷ []) (decomposed_so b.front b.below) (contracted_behind (nfd b.front) b.below) es stands)
+
+  -- and before a text of which no mapping has a beginning behind the mark
+  pub composed_goes : (front : List ℕ) → IsUnjoined (NoneBeginsWithBoth context.mappings mark) (class_of mark) front → (es : List Element) → StandsBefore reading c es [] → StandsBefore reading c es front
+  composed_goes front u es stands =
+      stands_taking front (mark ∷ nfd front) (decomposed_before front u.rises) (contracted_before (nfd front) u.goes_on) es stands
 
 -- ---- texts that may be cut behind such marks
 

@@ -2,6 +2,7 @@ pub mod ReadCharacterLemmas
 pub mod StandLemmas
 pub mod UnjoinedLemmas
 pub mod ComposedLemmas
+pub mod KeptServesLemmas
 pub mod PieceLemmas
 pub mod ReadyLemmas
 pub mod NumberLemmas

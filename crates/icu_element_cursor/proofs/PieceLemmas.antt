@@ -1,20 +1,16 @@
 -- Texts that are read piece by piece.
-use Rattle.std.proofs.Common.{◌≡◌, ℕ, ◌+◌, true, List, [], ◌∷◌, ◌++◌, drop, flat_map, refl, sym, ap, subst, ◌∙◌, append-nil, append_assoc}
+use Rattle.std.proofs.Common.{◌≡◌, ℕ, ◌+◌, List, [], ◌∷◌, ◌++◌, drop, flat_map, refl, sym, ap, subst, ◌∙◌, append-nil, append_assoc}
 use Rattle.std.proofs.lemmas.List.{drop-drop}
 use Rattle.ucd_normal.specs.declared.forms.Form.TheVariants.{Nfd}
 use Rattle.unicode_normalization.specs.Decompose.{decompose}
 use Rattle.unicode_normalization.specs.Forms.{nfd, normalize, decomposed}
-use Rattle.unicode_normalization.specs.Order.{is_ordered, canonical_order}
-use Rattle.unicode_normalization.proofs.OrderLemmas.{canonical_order-front, canonical_order-nil, is_ordered-canonical_order}
+use Rattle.unicode_normalization.specs.Order.{canonical_order}
+use Rattle.unicode_normalization.proofs.OrderLemmas.{canonical_order-front, canonical_order-nil}
 use Rattle.std.proofs.lemmas.Grind.{flat_map-append}
 use Rattle.icu_table_entries.specs.Elements.{Element}
 use Rattle.icu_element_reading.specs.TextElements.{Reading, elements_after}
-use Rattle.icu_element_reading.proofs.StepLemmas.{elements_after_nil}
-use Rattle.icu_element_reading.proofs.boundaries.CutLemmas.{boundary_cut, boundary_start}
 use Rattle.icu_element_reading.proofs.boundaries.NfdLemmas.{nfd-nil}
-use Rattle.icu_element_reading.specs.boundaries.BoundaryTables.{HasBoundaryBefore}
-use Rattle.icu_element_reading.specs.boundaries.Places.{MayBeCut, BeginsAtBoundary}
-use Rattle.icu_element_reading.specs.boundaries.Places.{IsPiece}
+use Rattle.icu_element_reading.specs.boundaries.Places.{BeginsAtBoundary}
 use Rattle.icu_element_cursor.specs.inner.Pieces.{AreDecomposed, IsShortPiece, IsPieceBegun}
 
 -- the characters behind the first of those that are left

@@ -21,14 +21,10 @@ use Rattle.icu_element_reading.proofs.boundaries.NfdLemmas.{stays_first-rises}
 use Rattle.icu_element_facts.specs.declared.char_facts.CharFacts.{CharFacts}
 use Rattle.icu_element_facts.specs.declared.few_elements.FewElements.{FewElements}
 use Rattle.icu_element_facts.specs.FewElements.{few_elements}
-use Rattle.icu_element_facts.proofs.KeptLemmas.{some_is}
-use Rattle.icu_element_facts.specs.CharWords.{IsKept}
-use Rattle.icu_element_facts.specs.declared.char_words.Kept.{Kept}
-use Rattle.icu_element_facts.specs.declared.char_words.Kept.TheVariants.{Own, Facts, Nothing}
-use Rattle.icu_element_facts.specs.KeptFacts.{char_elements, IsOwn, StandsAlone, HasStarters, IsMarkedStarter, IsLoneMark, IsBase, IsNumberDigit, AreTrueFacts, StandByThemselves, IsPair, rises_to}
+use Rattle.icu_element_facts.specs.KeptFacts.{char_elements, IsOwn, StandsAlone, HasStarters, IsMarkedStarter, IsLoneMark, StandByThemselves, IsPair, rises_to}
 use Rattle.icu_element_reading.specs.boundaries.Places.{BeginsAtBoundary}
 use Rattle.icu_element_cursor.specs.inner.MarkRuns.{Rises, EndsRuns, IsInRun, IsMarkItself}
-use Rattle.icu_element_cursor.specs.inner.Standing.{StandsBefore, Serves, StandsAnywhere, KeptServes}
+use Rattle.icu_element_cursor.specs.inner.Standing.{StandsBefore, StandsAnywhere}
 
 -- ---- runs of marks
 
@@ -124,12 +120,6 @@ module _ (reading : Reading) (c : ℕ) (l : CharFacts) (text : List ℕ) where
       let stay : all_stay (c ∷ []) rest ≡ true = rw stays (or_true (is_starter c)) in
       stays_alone h.stands (ap (λ ds. all_stay ds rest) h.itself ∙ stay)
 
--- a character before a boundary gives what it gives at the end of a text
-pub base_stands : (reading : Reading) (c : ℕ) (l : CharFacts) (text : List ℕ) → IsBase reading c l → BeginsAtBoundary reading text → StandsBefore reading c (char_elements l) text
-base_stands reading c l text h boundary = λ before.
-    let after = context_after before (decompose Nfd c) in
-    parted reading before after (c ∷ []) text boundary ∙ ap (λ (es : List Element). es ++ elements_after reading after (nfd text)) (h.at_end before)
-
 -- before a text that may be cut it gives what it gives before the first part
 pub cut_stands : (reading : Reading) (c : ℕ) (es : List Element) (text front rest : List ℕ) → text ≡ front ++ rest → BeginsAtBoundary reading rest
     → StandsBefore reading c es front → StandsBefore reading c es text
@@ -154,44 +144,19 @@ own_serves reading c h = record {
   boundary = may_be_cut reading c (record { first = c; more = []; decomposes = h.itself; boundary = h.boundary });
 }
 
-pub serves : (reading : Reading) (c : ℕ) (l : CharFacts) → AreTrueFacts reading c l → Serves reading c l
-serves reading c l h = record {
-  starters = λ kind text. starters_stand reading c l text (h.starters kind);
-  marked = λ kind text. marked_stand reading c l text (h.marked kind);
-  mark = λ kind text. marks_stand reading c l text (h.mark kind);
-  lone = λ kind. let m = h.mark kind in record { itself = m.itself; class = m.class };
-  base = λ kind text boundary. base_stands reading c l text (h.base kind) boundary;
-  digit = some_is l.digit (λ d. IsNumberDigit reading c d) h.digit;
-  begins = λ begins. let b = h.begins begins in ends_runs c b.first b.more b.decomposes b.starter;
-  boundary = λ boundary. may_be_cut reading c (h.boundary boundary);
-}
-
 -- ---- what is kept is hidden in a collator's tables
 
-elements_set : IsSet (List Element)
+pub elements_set : IsSet (List Element)
 elements_set = is_set (hlevel props)
 
-characters_set : IsSet (List ℕ)
+pub characters_set : IsSet (List ℕ)
 characters_set = is_set (hlevel props)
-
-pub Serves-prop : (reading : Reading) (c : ℕ) (l : CharFacts) → IsProp (Serves reading c l)
-Serves-prop reading c l = hlevel (props, elements_set, characters_set)
-
-pub KeptServes-prop : (reading : Reading) (c : ℕ) (k : Kept) → IsProp (KeptServes reading c k)
-KeptServes-prop reading c Own = hlevel (props, elements_set)
-KeptServes-prop reading c (Facts l) = Serves-prop reading c l.now
-KeptServes-prop reading c Nothing = hlevel props
 
 pub few_stand-prop : (reading : Reading) (c : ℕ) (few : FewElements) → IsProp ((text : List ℕ) → StandsBefore reading c (few_elements few) text)
 few_stand-prop reading c few = hlevel (props, elements_set)
 
 pub IsPair-prop : (reading : Reading) (c x : ℕ) (es : List Element) → IsProp (IsPair reading c x es)
 IsPair-prop reading c x es = hlevel (props, elements_set)
-
-pub kept_serves : (reading : Reading) (c : ℕ) (k : Kept) → IsKept reading c k → KeptServes reading c k
-kept_serves reading c Own h = own_serves reading c h
-kept_serves reading c (Facts l) h = serves reading c l.now h
-kept_serves reading c Nothing h = tt
 
 -- what is found there serves
 pub found : {A X : Type 0} → ∥ A ∥₁ → (o : Option X) (P Q : X → Type 0) → ((x : X) → IsProp (Q x)) → ((x : X) → P x → Q x) → (A → IfSome o P) → IfSome o Q

@@ -24,11 +24,12 @@ use Rattle.icu_element_reading.proofs.MappingHeadLemmas.{none_by_head, decided_b
 use Rattle.icu_element_reading.proofs.StepLemmas.{elements_after_cons, elements_after_nil}
 use Rattle.icu_element_reading.specs.boundaries.Alone.{context_after, stays_first, all_stay}
 use Rattle.icu_element_reading.proofs.boundaries.NfdLemmas.{nfd-starters, nfd-nil, nfd-begins, nfd-stay, stays_first-rises}
+use Rattle.icu_element_facts.specs.Followers.{BeginsContractions}
 use Rattle.icu_element_facts.proofs.KeptBaseLemmas.{own_entry}
 use Rattle.icu_element_cursor.specs.inner.MarkRuns.{IsMarkItself}
 use Rattle.icu_element_reading.specs.boundaries.Places.{MayBeCut}
 use Rattle.icu_element_cursor.specs.inner.Standing.{StandsBefore}
-use Rattle.icu_element_cursor.specs.inner.Unjoined.{BeginsNone, GoesOnNone, IsUnjoined, IsUnjoinedBefore, BeginsContractions, HeadsRun, IsHead}
+use Rattle.icu_element_cursor.specs.inner.Unjoined.{BeginsNone, GoesOnNone, IsUnjoined, IsUnjoinedBefore, HeadsRun, IsHead}
 use Rattle.icu_element_cursor.proofs.StandLemmas.{ends_runs, one_in_run, nothing_rises, or_true}
 
 -- ---- mappings
@@ -93,7 +94,7 @@ abbrev lone_match : ℕ → List ℕ → Match
 lone_match entry text = record { entry = entry; suffix = []; rest = text }
 
 -- no mark joins nothing
-none_joins : (context : Context) (entry : ℕ) (passed text : List ℕ) → GoesOnNone context text → with_marks context.mappings entry [] passed text ≡ lone_match entry (passed ++ text)
+none_joins : (context : Context) (entry : ℕ) (passed text : List ℕ) → GoesOnNone (BeginsNone context) text → with_marks context.mappings entry [] passed text ≡ lone_match entry (passed ++ text)
 unfolding with_marks GoesOnNone
 none_joins context entry passed [] h = ap (lone_match entry) (sym (append-nil passed))
 none_joins context entry passed (m ∷ ms) h =
@@ -106,7 +107,7 @@ none_joins context entry passed (m ∷ ms) h =
           rw mark (either is (is_blocked passed m) _ _ over (rw (none_whole context.mappings m h.0.none) over))
     ]
 
-contracted_none : (context : Context) (text : List ℕ) → longest_mapping context.mappings text ≡ None → GoesOnNone context text → contracted context text ≡ lone_match context.default text
+contracted_none : (context : Context) (text : List ℕ) → longest_mapping context.mappings text ≡ None → GoesOnNone (BeginsNone context) text → contracted context text ≡ lone_match context.default text
 unfolding contracted
 contracted_none context text none h =
     ap (λ (o : Option Mapping). elim o as (λ _. Match) [
@@ -124,7 +125,7 @@ pub no_lead : (o : Option ℕ) (f : ℕ → Step) (y : Step) → o ≡ None → 
 no_lead (Some lead) f y h = cc
 no_lead None f y h = refl
 
-module _ (reading : Reading) (c : ℕ) (context : Context) (h : BeginsContractions reading c context) where
+module _ (reading : Reading) (c : ℕ) (context : Context) (h : BeginsContractions reading c context) (no_numbers : reading.numeric ≡ None) where
   abbrev home : Data
   home = (entry_of reading.tables c).home
 
@@ -137,7 +138,7 @@ module _ (reading : Reading) (c : ℕ) (context : Context) (h : BeginsContractio
   abbrev step_of : List ℕ → List Element → Step
   step_of text es = record { elements = es; suffix = []; rest = text }
 
-  matched : (before text : List ℕ) → longest_mapping context.mappings text ≡ None → GoesOnNone context text → match_of (entry_of reading.tables c) before text ≡ lone_match context.default text
+  matched : (before text : List ℕ) → longest_mapping context.mappings text ≡ None → GoesOnNone (BeginsNone context) text → match_of (entry_of reading.tables c) before text ≡ lone_match context.default text
   matched before text none goes =
       let entry = entry_of reading.tables c in
       let own : after_prefix entry before ≡ entry.entry = own_entry entry before h.begins in
@@ -148,16 +149,16 @@ module _ (reading : Reading) (c : ℕ) (context : Context) (h : BeginsContractio
 
   stepped : (text : List ℕ) → entry_step reading home c (lone_match context.default text) ≡ step_of text given
   unfolding entry_step
-  stepped text = digit_by (step_of text) (kind_of context.default) _ _ _ _ (λ is. no_lead reading.numeric _ _ h.no_numbers) refl
+  stepped text = digit_by (step_of text) (kind_of context.default) _ _ _ _ (λ is. no_lead reading.numeric _ _ no_numbers) refl
 
   undiacritic : (text : List ℕ) → matched_step reading c text (lone_match context.default text) ≡ step_of text given
   unfolding matched_step
   undiacritic text = no_secondary (diacritic_of reading.tables c) _ _ h.no_diacritic ∙ stepped text
 
-  taken : (before text : List ℕ) → longest_mapping context.mappings text ≡ None → GoesOnNone context text → step reading before c text ≡ step_of text given
+  taken : (before text : List ℕ) → longest_mapping context.mappings text ≡ None → GoesOnNone (BeginsNone context) text → step reading before c text ≡ step_of text given
   taken before text none goes = ap (matched_step reading c text) (matched before text none goes) ∙ undiacritic text
 
-  read_on : (before text : List ℕ) → longest_mapping context.mappings text ≡ None → GoesOnNone context text
+  read_on : (before text : List ℕ) → longest_mapping context.mappings text ≡ None → GoesOnNone (BeginsNone context) text
       → elements_after reading before (c ∷ text) ≡ given ++ elements_after reading (last_two before (c ∷ [])) text
   read_on before text none goes =
       elements_after_cons reading before c text
@@ -188,7 +189,7 @@ module _ (reading : Reading) (c : ℕ) (context : Context) (h : BeginsContractio
       ∙ ap (λ (xs : List Element). es ++ xs) (elements_after_nil reading after)
       ∙ append-nil es
 
-  stands_by : (es : List Element) (text left : List ℕ) → nfd text ≡ left → StandsBefore reading c es [] → GoesOnNone context left → StandsBefore reading c es text
+  stands_by : (es : List Element) (text left : List ℕ) → nfd text ≡ left → StandsBefore reading c es [] → GoesOnNone (BeginsNone context) left → StandsBefore reading c es text
   unfolding GoesOnNone
   stands_by es text [] is stands goes = λ before.
       ap (elements_after reading before) (decomposed text ∙ ap (λ (l : List ℕ). c ∷ l) is ∙ sym alone_decomposed)
@@ -203,24 +204,24 @@ module _ (reading : Reading) (c : ℕ) (context : Context) (h : BeginsContractio
       ∙ ap (λ (t : List ℕ). es ++ elements_after reading (context_after before (decompose Nfd c)) t) (sym is)
 
   -- a text that goes on none of its contractions changes nothing
-  pub unjoined_stands : (text : List ℕ) → IsUnjoined context 0 text → (es : List Element) → StandsBefore reading c es [] → StandsBefore reading c es text
-  unjoined_stands text unjoined es stands = stands_by es text (nfd text) refl stands unjoined.goes_on
+  pub unjoined_stands : (text : List ℕ) (least : ℕ) → IsUnjoined (BeginsNone context) least text → (es : List Element) → StandsBefore reading c es [] → StandsBefore reading c es text
+  unjoined_stands text least unjoined es stands = stands_by es text (nfd text) refl stands unjoined.goes_on
 
 -- ---- runs of marks
 
-module _ (context : Context) where
-  pub ended_unjoined : (least : ℕ) → IsUnjoined context least []
+module _ (is_none : ℕ → Type 0) where
+  pub ended_unjoined : (least : ℕ) → IsUnjoined is_none least []
   unfolding GoesOnNone
-  ended_unjoined least = record { rises = nothing_rises least; goes_on = subst (GoesOnNone context) (sym nfd-nil) tt }
+  ended_unjoined least = record { rises = nothing_rises least; goes_on = subst (GoesOnNone is_none) (sym nfd-nil) tt }
 
-  pub starter_unjoined : (least c d : ℕ) (text : List ℕ) → HeadsRun c d → is_starter d ≡ true → BeginsNone context d → IsUnjoined context least (c ∷ text)
+  pub starter_unjoined : (least c d : ℕ) (text : List ℕ) → HeadsRun c d → is_starter d ≡ true → is_none d → IsUnjoined is_none least (c ∷ text)
   unfolding GoesOnNone
   starter_unjoined least c d text h starter none = record {
     rises = ends_runs c d h.more h.decomposes starter least text;
-    goes_on = subst (GoesOnNone context) (sym (nfd-begins c d h.more text h.decomposes starter)) (none, λ mark. absurd (true≢false (sym starter ∙ mark)));
+    goes_on = subst (GoesOnNone is_none) (sym (nfd-begins c d h.more text h.decomposes starter)) (none, λ mark. absurd (true≢false (sym starter ∙ mark)));
   }
 
-  pub mark_unjoined : (least c d : ℕ) (text : List ℕ) → HeadsRun c d → class_of d ≢ 0 → least ≤ class_of d → BeginsNone context d → IsUnjoined context (class_of d) text → IsUnjoined context least (c ∷ text)
+  pub mark_unjoined : (least c d : ℕ) (text : List ℕ) → HeadsRun c d → class_of d ≢ 0 → least ≤ class_of d → is_none d → IsUnjoined is_none (class_of d) text → IsUnjoined is_none least (c ∷ text)
   unfolding GoesOnNone all_stay
   mark_unjoined least c d text h other fits none left =
       let mark : is_starter d ≡ false = ne_eqb (class_of d) 0 other in
@@ -230,7 +231,7 @@ module _ (context : Context) where
       let stay : all_stay (d ∷ []) rest ≡ true = rw stays (or_true (is_starter d)) in
       record {
         rises = (one_in_run c d split).goes_on other least text fits left.rises;
-        goes_on = subst (GoesOnNone context) (sym (nfd-stay c (d ∷ []) text split stay)) (none, λ _. left.goes_on);
+        goes_on = subst (GoesOnNone is_none) (sym (nfd-stay c (d ∷ []) text split stay)) (none, λ _. left.goes_on);
       }
 
 -- ---- texts that may be cut behind such a run
@@ -239,30 +240,30 @@ module _ (context : Context) where
 pub mark_heads : (c class : ℕ) → IsMarkItself c class → IsHead c c class
 mark_heads c class h = record { heads = record { more = []; decomposes = h.itself; alone = λ _. refl }; class = h.class }
 
-module _ (reading : Reading) (context : Context) where
-  pub ended_before : (least : ℕ) → IsUnjoinedBefore reading context least []
-  ended_before least = record { front = []; rest = []; parts = refl; unjoined = ended_unjoined context least; boundary = tt }
+module _ (reading : Reading) (is_none : ℕ → Type 0) where
+  pub ended_before : (least : ℕ) → IsUnjoinedBefore reading is_none least []
+  ended_before least = record { front = []; rest = []; parts = refl; unjoined = ended_unjoined is_none least; boundary = tt }
 
-  pub cut_before : (least c : ℕ) (text : List ℕ) → MayBeCut reading c → IsUnjoinedBefore reading context least (c ∷ text)
-  cut_before least c text cut = record { front = []; rest = c ∷ text; parts = refl; unjoined = ended_unjoined context least; boundary = cut }
+  pub cut_before : (least c : ℕ) (text : List ℕ) → MayBeCut reading c → IsUnjoinedBefore reading is_none least (c ∷ text)
+  cut_before least c text cut = record { front = []; rest = c ∷ text; parts = refl; unjoined = ended_unjoined is_none least; boundary = cut }
 
-  pub starter_before : (least c d class : ℕ) (text : List ℕ) → IsHead c d class → class ≡ 0 → BeginsNone context d → IsUnjoinedBefore reading context least (c ∷ text)
+  pub starter_before : (least c d class : ℕ) (text : List ℕ) → IsHead c d class → class ≡ 0 → is_none d → IsUnjoinedBefore reading is_none least (c ∷ text)
   starter_before least c d class text h zero none = record {
     front = c ∷ text;
     rest = [];
     parts = sym (append-nil (c ∷ text));
-    unjoined = starter_unjoined context least c d text h.heads (eq-eqb (class_of d) 0 (h.class ∙ zero)) none;
+    unjoined = starter_unjoined is_none least c d text h.heads (eq-eqb (class_of d) 0 (h.class ∙ zero)) none;
     boundary = tt;
   }
 
-  pub mark_before : (least c d class : ℕ) (text : List ℕ) → IsHead c d class → class ≢ 0 → least ≤ class → BeginsNone context d
-      → IsUnjoinedBefore reading context class text → IsUnjoinedBefore reading context least (c ∷ text)
+  pub mark_before : (least c d class : ℕ) (text : List ℕ) → IsHead c d class → class ≢ 0 → least ≤ class → is_none d
+      → IsUnjoinedBefore reading is_none class text → IsUnjoinedBefore reading is_none least (c ∷ text)
   mark_before least c d class text h other fits none left =
       let same : class_of d ≡ class = h.class in record {
         front = c ∷ left.front;
         rest = left.rest;
         parts = ap (λ (l : List ℕ). c ∷ l) left.parts;
-        unjoined = mark_unjoined context least c d left.front h.heads (λ e. other (sym same ∙ e)) (subst (λ (n : ℕ). least ≤ n) (sym same) fits) none
-            (subst (λ (n : ℕ). IsUnjoined context n left.front) (sym same) left.unjoined);
+        unjoined = mark_unjoined is_none least c d left.front h.heads (λ e. other (sym same ∙ e)) (subst (λ (n : ℕ). least ≤ n) (sym same) fits) none
+            (subst (λ (n : ℕ). IsUnjoined is_none n left.front) (sym same) left.unjoined);
         boundary = left.boundary;
       }

@@ -1,9 +1,9 @@
 -- What a cursor over a text still gives.
-use Rattle.std.specs.Prelude.{ℕ, List, ◌++◌}
+use Rattle.std.specs.Prelude.{◌≡◌, ℕ, List, ◌∷◌, ◌++◌}
 use Rattle.unicode_normalization.specs.Forms.{nfd}
 use Rattle.icu_table_entries.specs.Elements.{Element}
 use Rattle.icu_element_reading.specs.boundaries.BoundaryTables.{boundary_reading}
-use Rattle.icu_element_reading.specs.TextElements.{Reading, elements_after}
+use Rattle.icu_element_reading.specs.TextElements.{Reading, elements_after, elements_of}
 use Rattle.icu_element_cursor.specs.declared.char_elements.CharElements.{CharElements}
 use Rattle.icu_element_cursor.specs.declared.cursor.ElementCursor.{ElementCursor}
 use Rattle.icu_element_cursor.specs.declared.cursor_tables.CursorTables.{CursorTables}
@@ -31,3 +31,10 @@ cursor_gives text c = gives_with all_ready text c
 -- of a lone one
 abbrev pub lone_gives : {T : Type 0} → (T → List ℕ) → ElementCursor T CharElements → List Element
 lone_gives text c = gives_with elements_ready text c
+
+-- the elements of a text begin with this primary weight
+pub record BeginsWithPrimary (reading : Reading) (text : List ℕ) (primary : ℕ) : Type 0 where
+  pub element : Element
+  pub rest : List Element
+  pub elements : elements_of reading (nfd text) ≡ element ∷ rest
+  pub leading : element.primary ≡ primary

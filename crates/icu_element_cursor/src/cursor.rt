@@ -17,7 +17,7 @@ use crate::last_characters::LastCharacters;
 use crate::ready_elements::ReadyElements;
 use crate::ready_place::ReadyPlace;
 use crate::stands::{read_behind, stands_before};
-use crate::unjoined::{is_cut_before_ascii, is_plainly_unjoined, is_unjoined};
+use crate::unjoined::{goes_on_none, is_unjoined};
 use crate::{CharFacts, FactsKind, Kept};
 use icu_element_facts::FewElements;
 use icu_table_entries::CollationElement;
@@ -121,7 +121,7 @@ impl<'c, 'd, T: EncodedText, R: ReadyPlace> ElementCursor<'c, 'd, T, R> {
         let c = char::from(byte);
         let tables = self.tables;
         match tables.kept(c) {
-            Kept::Facts(facts) if is_base_of_one(facts) && is_cut_before_ascii(tables, rest) => {
+            Kept::Facts(facts) if is_base_of_one(facts) && goes_on_none(tables, facts, rest) => {
                 self.take_one(c, facts, rest)
             }
             kept => self.take_kept(c, kept, rest),
@@ -288,11 +288,8 @@ impl<'c, 'd, T: EncodedText, R: ReadyPlace> ElementCursor<'c, 'd, T, R> {
         ensures next { gives_with R.ready T.text self.old
             ≡ option_to_list result ++ gives_with R.ready T.text self.new }
     {
-        if let Some(unjoined) = is_plainly_unjoined(self.tables, c, rest) {
-            if unjoined {
-                return self.take_alone(c, facts, rest);
-            }
-            return None;
+        if goes_on_none(self.tables, facts, rest) {
+            return self.take_alone(c, facts, rest);
         }
         let (x, after) = rest.split_first_char()?;
         match self.tables.pair(c, x) {

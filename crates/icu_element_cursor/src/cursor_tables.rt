@@ -1,20 +1,22 @@
 //! What texts are read by, character by character.
 
-ghost use Rattle.std.specs.Prelude.{◌≡◌, ◌∷◌, [], ℕ, List, IfSome, IsTrue};
+ghost use Rattle.std.specs.Prelude.{◌≡◌, ◌≢◌, ◌∷◌, [], ℕ, List, IfSome, IsTrue};
 ghost use Rattle.icu_element_reading.specs.Reading.{reading_of};
 ghost use Rattle.icu_element_reading.specs.boundaries.Alone.{elements_of_char};
 ghost use Rattle.icu_element_facts.specs.FewElements.{few_elements};
-ghost use Rattle.icu_element_facts.specs.KeptFacts.{IsNumberDigit, IsPair};
+ghost use Rattle.icu_element_facts.specs.KeptFacts.{AreFirstFacts, IsNumberDigit, IsPair};
 ghost use Rattle.icu_element_facts.specs.FactsTables.{AreFacts};
 ghost use Rattle.icu_element_reading.specs.boundaries.BoundaryTables.{boundary_reading};
 ghost use Rattle.icu_element_reading.specs.boundaries.Places.{MayBeCut};
 ghost use Rattle.icu_element_cursor.specs.inner.MarkRuns.{EndsRuns, IsInRun};
 ghost use Rattle.icu_element_cursor.specs.inner.Standing.{KeptServes, Serves, StandsBefore};
 
+use crate::unjoined::goes_on_none;
 use crate::{Boundaries, CharFacts, FactsKind, Kept, KeptFacts};
 use icu_element_facts::{FewElements, own_element, own_elements};
 use icu_element_reading::TextReading;
 use icu_table_entries::CollationElement;
+use icu_text_encodings::EncodedText;
 use std::alloc::Global;
 use unicode_normalization::Form;
 use unicode_normalization::char::{canonical_combining_class, decomposition};
@@ -28,7 +30,7 @@ pub struct CursorTables<'d> {
 }
 
 impl<'d> CursorTables<'d> {
-    ghost use Rattle.icu_element_cursor.specs.Cursors.{cursor_reading};
+    ghost use Rattle.icu_element_cursor.specs.Cursors.{BeginsWithPrimary, cursor_reading};
 
     /// Texts are read as those are whose boundaries these are, and with facts of characters that were worked out for
     /// them. Does not allocate.
@@ -129,6 +131,20 @@ impl<'d> CursorTables<'d> {
         ensures { IfSome result (λ few. IsPair (cursor_reading self.now) c x (few_elements few)) }
     {
         self.kept_facts.pair(c, x)
+    }
+
+    /// The primary weight that the elements of a text begin with whose first character has these facts, and goes on
+    /// nothing that it begins, or 0 where that is not known.
+    #[inline(never)]
+    pub fn first_primary<T: EncodedText>(&self, facts: &CharFacts, rest: T) -> u32
+        ensures { (c : ℕ) → AreFirstFacts (cursor_reading self.now) c facts.now → result ≢ 0
+            → BeginsWithPrimary (cursor_reading self.now) (c ∷ T.text rest) result }
+    {
+        if facts.kind == FactsKind::Base && facts.count > 0 && goes_on_none(self, facts, rest) {
+            facts.elements[0].primary()
+        } else {
+            0
+        }
     }
 
     /// What is known of a character of which nothing is kept.

@@ -15,7 +15,7 @@ use crate::cursor_tables::CursorTables;
 use crate::digit_run::read_weight;
 use crate::ready_place::ReadyPlace;
 use crate::stands::{begins_at_boundary, read_behind, stands_at_once};
-use crate::unjoined::{is_plainly_unjoined, is_unjoined};
+use crate::unjoined::{goes_on_none, is_unjoined};
 use crate::{CharFacts, FactsKind, Kept};
 use icu_element_facts::FewElements;
 use icu_table_entries::CollationElement;
@@ -270,11 +270,8 @@ impl<'c, 'd, T: EncodedText> FactsCursor<'c, 'd, T> {
         requires base { facts.now.kind ≡ FactsKind.Base }
         ensures { IfSome result (λ e. GoesOn T.text self.old e self.new) }
     {
-        if let Some(unjoined) = is_plainly_unjoined(self.tables, c, rest) {
-            if unjoined {
-                return self.begin_alone(c, facts, rest);
-            }
-            return None;
+        if goes_on_none(self.tables, facts, rest) {
+            return self.begin_alone(c, facts, rest);
         }
         let (x, after) = rest.split_first_char()?;
         match self.tables.pair(c, x) {

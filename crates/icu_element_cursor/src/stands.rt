@@ -8,6 +8,7 @@ ghost use Rattle.icu_element_cursor.specs.inner.MarkRuns.{Rises};
 ghost use Rattle.icu_element_cursor.specs.inner.Standing.{Serves, StandsBefore};
 
 use crate::cursor_tables::CursorTables;
+use crate::unjoined::goes_on_none;
 use crate::{CharFacts, FactsKind, Kept};
 use icu_text_encodings::EncodedText;
 
@@ -171,6 +172,6 @@ pub(crate) fn stands_before<T: EncodedText>(
         FactsKind::Unknown => false,
         FactsKind::Starters => true,
         FactsKind::Marked | FactsKind::Mark => rises(tables, facts.class, text),
-        FactsKind::Base => begins_at_boundary(tables, text),
+        FactsKind::Base => goes_on_none(tables, facts, text),
     }
 }

@@ -1,23 +1,20 @@
 //! Characters that begin contractions, where none of these goes on.
 
-ghost use Rattle.std.specs.Prelude.{◌≡◌, ◌≢◌, ◌∷◌, [], ℕ, List, IfSome, IsTrue, true};
-ghost use Rattle.ucd_normal.specs.declared.forms.Form.TheVariants.{Nfd};
-ghost use Rattle.unicode_normalization.specs.Decompose.{decompose};
-ghost use Rattle.unicode_normalization.specs.Order.{is_starter};
+ghost use Rattle.std.specs.Prelude.{◌≡◌, ◌%◌, [], List, IsTrue};
+ghost use Rattle.std.specs.Int.{bit_at};
 ghost use Rattle.icu_table_data.specs.Contexts.{has_ascending_mappings};
 ghost use Rattle.icu_table_data.specs.StoredData.{found_context};
 ghost use Rattle.icu_table_entries.specs.Elements.{Element};
 ghost use Rattle.icu_element_cursor.specs.Cursors.{cursor_reading};
-ghost use Rattle.icu_element_reading.specs.boundaries.Places.{BeginsAtBoundary};
 ghost use Rattle.icu_element_cursor.specs.inner.Standing.{StandsBefore};
 ghost use Rattle.icu_element_reading.specs.TextElements.{Reading};
-ghost use Rattle.icu_element_reading.specs.inner.StepsTaken.{FirstIsEarlier, FirstIsLater, NoneBeginsWith};
-ghost use Rattle.icu_element_cursor.specs.inner.Unjoined.{BeginsContractions, BeginsNone, IsFollower, IsHead, IsUnjoinedBefore};
+ghost use Rattle.icu_element_facts.specs.Followers.{HasNoBit};
+ghost use Rattle.icu_element_cursor.specs.inner.Unjoined.{BeginsNone, IsFollower, IsUnjoinedBefore};
 
-use crate::composed::{contractions_of, stands_composed};
+use crate::composed::stands_composed;
 use crate::cursor_tables::CursorTables;
-use crate::{FactsKind, Kept};
-use icu_element_facts::is_plain;
+use crate::{CharFacts, FactsKind, Kept};
+use icu_element_facts::plain_contractions_of;
 use icu_element_matches::{find_longest, mapping_goes_on};
 use icu_element_reading::mapping_heads::none_begins_with;
 use icu_table_data::FoundContext;
@@ -27,21 +24,6 @@ use unicode_normalization::char::{canonical_combining_class, decomposition};
 
 /// How many characters are looked at behind one that begins contractions, at most.
 const CHARS_AHEAD: u32 = 7;
-
-/// The mappings of a character that begins contractions, where it is a starter that decomposes to itself, and no
-/// diacritic, and digits aren't read as numbers.
-fn mappings_of<'d>(tables: &CursorTables<'d>, c: char) -> Option<FoundContext<'d>>
-    ensures begins { IfSome result (λ context.
-        BeginsContractions (cursor_reading tables.now) c (found_context context)) }
-    ensures ascending { IfSome result (λ context.
-        IsTrue (has_ascending_mappings (found_context context))) }
-{
-    if is_plain(c) {
-        contractions_of(tables, c)
-    } else {
-        None
-    }
-}
 
 /// Whether no mapping of a context begins with a character, by what a bisection finds.
 #[inline(never)]
@@ -136,7 +118,7 @@ fn joins_none<T: EncodedText>(
 ) -> bool
     requires { IsTrue (has_ascending_mappings (found_context context)) }
     ensures { IsTrue result → IsUnjoinedBefore (cursor_reading tables.now)
-        (found_context context.entry) least (T.text text) }
+        (BeginsNone (found_context context.entry)) least (T.text text) }
 {
     let mut last = least;
     let mut rest = text;
@@ -172,64 +154,94 @@ pub(crate) fn is_unjoined<T: EncodedText>(tables: &CursorTables<'_>, c: char, te
         → StandsBefore (cursor_reading tables.now) c es []
         → StandsBefore (cursor_reading tables.now) c es (T.text text) }
 {
-    match mappings_of(tables, c) {
-        Some(context) => joins_none(tables, context, 0, text),
-        None => false,
-    }
-}
-
-/// Whether a character that begins contractions is joined with none of the marks behind it, the first of which
-/// decomposes to this one of this class, which isn't 0. False says nothing.
-#[inline(always)]
-fn joins_no_mark<T: EncodedText>(
-    tables: &CursorTables<'_>,
-    c: char,
-    head: (char, u8),
-    rest: T,
-) -> bool
-    ensures { IsTrue result → (x : ℕ) → IsHead x head.0 head.1 → head.1 ≢ 0 → (es : List Element)
-        → StandsBefore (cursor_reading tables.now) c es []
-        → StandsBefore (cursor_reading tables.now) c es (x ∷ T.text rest) }
-{
-    match mappings_of(tables, c) {
-        Some(context) => begins_none(context, head.0) && joins_none(tables, context, head.1, rest),
-        None => stands_composed(tables, c, head, rest),
-    }
-}
-
-/// Whether a text begins with an ASCII character before which it may be cut. False says nothing.
-#[inline(always)]
-pub(crate) fn is_cut_before_ascii<T: EncodedText>(tables: &CursorTables<'_>, text: T) -> bool
-    ensures { IsTrue result → BeginsAtBoundary (cursor_reading tables.now) (T.text text) }
-{
-    let Some((byte, _)) = text.split_first_ascii() else {
+    if tables.reading().numeric_primary.is_some() {
         return false;
-    };
-    match tables.facts(char::from(byte)) {
-        Some(facts) => facts.has_boundary_before,
-        None => false,
+    }
+    match plain_contractions_of(tables.places(), c) {
+        Some(context) => joins_none(tables, context, 0, text),
+        None => is_unjoined_composed(tables, c, text),
     }
 }
 
-/// Whether a character that begins contractions gives before a text what it gives at the end of one, as `is_unjoined`
-/// has it, by one look at the next character: at the end and before a boundary it does, and before marks if none of
-/// them is joined. `None` where another character follows. `Some(false)` and `None` say nothing.
-#[inline(always)]
-pub(crate) fn is_plainly_unjoined<T: EncodedText>(
-    tables: &CursorTables<'_>,
-    c: char,
-    text: T,
-) -> Option<bool>
-    ensures { IfSome result (λ yes. IsTrue yes → (es : List Element)
+/// Whether a composed letter gives before a text what it gives at the end of one, as `is_unjoined` has it. False says
+/// nothing.
+fn is_unjoined_composed<T: EncodedText>(tables: &CursorTables<'_>, c: char, text: T) -> bool
+    ensures { IsTrue result → (es : List Element)
         → StandsBefore (cursor_reading tables.now) c es []
-        → StandsBefore (cursor_reading tables.now) c es (T.text text)) }
+        → StandsBefore (cursor_reading tables.now) c es (T.text text) }
 {
     let Some((x, rest)) = text.split_first_char() else {
-        return Some(true);
+        return true;
     };
     match kept_follower(tables, x) {
-        Follower::Boundary => Some(true),
-        Follower::Head(d, class) if class != 0 => Some(joins_no_mark(tables, c, (d, class), rest)),
-        _ => None,
+        Follower::Head(d, class) if class != 0 => stands_composed(tables, c, (d, class), rest),
+        _ => false,
     }
+}
+
+/// Whether a character doesn't go on what another one begins, by its first bits.
+#[inline(always)]
+fn is_no_follower(facts: &CharFacts, next: &CharFacts) -> bool
+    ensures { IsTrue result → bit_at facts.now.followers (next.now.head % 64) ≡ 0 }
+{
+    (facts.followers >> (next.head % 64)) & 1 == 0
+}
+
+/// Whether a text goes on nothing that the character with these facts begins, by what is kept of the text's first
+/// character and of the marks behind it. False says nothing.
+#[inline(always)]
+pub(crate) fn goes_on_none<T: EncodedText>(
+    tables: &CursorTables<'_>,
+    facts: &CharFacts,
+    text: T,
+) -> bool
+    ensures { IsTrue result → IsUnjoinedBefore (cursor_reading tables.now)
+        (HasNoBit facts.now.followers) facts.now.class (T.text text) }
+{
+    let Some((x, _)) = text.split_first_char() else {
+        return true;
+    };
+    match tables.kept(x) {
+        Kept::Own => true,
+        Kept::Facts(next) => {
+            next.has_boundary_before
+                || (is_no_follower(facts, next)
+                    && (next.begins_with_starter || marks_go_on_none(tables, facts, text)))
+        }
+        Kept::Nothing => tables.has_boundary_before(x),
+    }
+}
+
+/// Whether the marks that a text begins with, and the character behind them, go on nothing that the character with
+/// these facts begins. False says nothing.
+#[inline(never)]
+fn marks_go_on_none<T: EncodedText>(tables: &CursorTables<'_>, facts: &CharFacts, text: T) -> bool
+    ensures { IsTrue result → IsUnjoinedBefore (cursor_reading tables.now)
+        (HasNoBit facts.now.followers) facts.now.class (T.text text) }
+{
+    let mut last = facts.class;
+    let mut rest = text;
+    'marks: for _ in 0..CHARS_AHEAD {
+        let Some((c, after)) = rest.split_first_char() else {
+            return true;
+        };
+        let Some(next) = tables.facts(c) else {
+            return tables.has_boundary_before(c);
+        };
+        if next.has_boundary_before {
+            return true;
+        }
+        if !is_no_follower(facts, next) {
+            return false;
+        }
+        if next.begins_with_starter {
+            return true;
+        }
+        if next.kind != FactsKind::Mark || next.class == 0 || next.class < last {
+            return false;
+        }
+        last = next.class;
+        rest = after;
+    }
+    false
 }

@@ -1,5 +1,5 @@
 -- What is kept of a character serves for reading.
-use Rattle.std.specs.Prelude.{◌≡◌, ℕ, List, ◌∷◌, ◌++◌, Some, IsTrue, ⊤}
+use Rattle.std.specs.Prelude.{◌≡◌, ℕ, true, false, List, ◌∷◌, ◌++◌, Some, IsTrue, ⊤}
 use Rattle.ucd_normal.specs.declared.forms.Form.TheVariants.{Nfd}
 use Rattle.unicode_normalization.specs.Decompose.{decompose}
 use Rattle.unicode_normalization.specs.Forms.{nfd}
@@ -8,11 +8,14 @@ use Rattle.icu_element_reading.specs.TextElements.{Reading, elements_after}
 use Rattle.icu_element_reading.specs.boundaries.Alone.{context_after, elements_of_char}
 use Rattle.icu_element_facts.specs.declared.char_facts.CharFacts.{CharFacts}
 use Rattle.icu_element_facts.specs.declared.char_facts.FactsKind.TheVariants.{Starters, Marked, Mark, Base}
-use Rattle.icu_element_facts.specs.KeptFacts.{char_elements, IsNumberDigit}
+use Rattle.icu_element_facts.specs.KeptFacts.{char_elements, first_bits, IsNumberDigit}
+use Rattle.icu_element_facts.specs.KeptChars.{starts_with_starter}
+use Rattle.icu_element_facts.specs.Followers.{HasNoBit}
 use Rattle.icu_element_facts.specs.declared.char_words.Kept.{Kept}
 use Rattle.icu_element_facts.specs.declared.char_words.Kept.TheVariants.{Own, Facts, Nothing}
-use Rattle.icu_element_reading.specs.boundaries.Places.{MayBeCut, BeginsAtBoundary}
+use Rattle.icu_element_reading.specs.boundaries.Places.{MayBeCut}
 use Rattle.icu_element_cursor.specs.inner.MarkRuns.{Rises, EndsRuns, IsMarkItself}
+use Rattle.icu_element_cursor.specs.inner.Unjoined.{IsUnjoinedBefore}
 
 -- a character gives these elements before a text, whatever stands before, and the text gives what it gives after it
 abbrev pub StandsBefore : Reading → ℕ → List Element → List ℕ → Type 0
@@ -20,16 +23,18 @@ StandsBefore reading c es text =
     (before : List ℕ) → elements_after reading before (nfd (c ∷ text)) ≡ es ++ elements_after reading (context_after before (decompose Nfd c)) (nfd text)
 
 -- what is kept of a character says when it stands by itself, what it is worth in a number, that runs of marks end
--- before it, and that texts may be cut there
+-- before it, that texts may be cut there, and with which bits its decomposition begins
 pub record Serves (reading : Reading) (c : ℕ) (l : CharFacts) : Type 0 where
   pub starters : l.kind ≡ Starters → (text : List ℕ) → StandsBefore reading c (char_elements l) text
   pub marked : l.kind ≡ Marked → (text : List ℕ) → Rises l.class text → StandsBefore reading c (char_elements l) text
   pub mark : l.kind ≡ Mark → (text : List ℕ) → Rises l.class text → StandsBefore reading c (char_elements l) text
   pub lone : l.kind ≡ Mark → IsMarkItself c l.class
-  pub base : l.kind ≡ Base → (text : List ℕ) → BeginsAtBoundary reading text → StandsBefore reading c (char_elements l) text
+  pub base : l.kind ≡ Base → (text : List ℕ) → IsUnjoinedBefore reading (HasNoBit l.followers) l.class text → StandsBefore reading c (char_elements l) text
   pub digit : (d : ℕ) → l.digit ≡ Some d → IsNumberDigit reading c d
   pub begins : IsTrue l.begins_with_starter → EndsRuns c
+  pub starter : IsTrue l.begins_with_starter → starts_with_starter (decompose Nfd c) ≡ true
   pub boundary : IsTrue l.has_boundary_before → MayBeCut reading c
+  pub head : l.has_boundary_before ≡ false → first_bits (decompose Nfd c) ≡ l.head
 
 -- a character gives the elements of its entry wherever it stands, runs of marks end before it, and texts may be cut
 -- there

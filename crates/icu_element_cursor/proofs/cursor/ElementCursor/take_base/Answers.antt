@@ -1,7 +1,6 @@
-use Rattle.std.proofs.Common.{[], rules}
-use Rattle.icu_element_facts.specs.KeptFacts.{char_elements}
+use Rattle.std.proofs.Common.{rules}
 use Rattle.icu_element_cursor.proofs.cursor.ElementCursor.take_base.Goals as goal
 
 pub take_alone-requires-clause-stands : goal.take_alone-requires-clause-stands
 take_alone-requires-clause-stands g c =
-    c.in-Some.ensures (search rules) (char_elements c.args.facts.now) (c.requires.facts.base c.requires.base [] tt)
+    c.requires.facts.base c.requires.base (g.T.EncodedText.text c.args.rest) (c.goes_on_none.ensures (search rules))

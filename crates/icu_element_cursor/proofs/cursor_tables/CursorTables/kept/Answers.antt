@@ -1,6 +1,6 @@
 use Rattle.std.proofs.Math.Logic.{∥∥₁_elim}
 use Rattle.icu_element_cursor.specs.Cursors.{cursor_reading}
-use Rattle.icu_element_cursor.proofs.StandLemmas.{kept_serves, KeptServes-prop}
+use Rattle.icu_element_cursor.proofs.KeptServesLemmas.{kept_serves, KeptServes-prop}
 use Rattle.icu_element_cursor.proofs.cursor_tables.CursorTables.kept.Goals as goal
 
 pub returns : goal.returns

@@ -1,7 +1,7 @@
 -- What was worked out serves.
 use Rattle.std.proofs.Math.Logic.{∥∥₁_elim}
 use Rattle.icu_element_cursor.specs.Cursors.{cursor_reading}
-use Rattle.icu_element_cursor.proofs.StandLemmas.{serves, Serves-prop}
+use Rattle.icu_element_cursor.proofs.KeptServesLemmas.{serves, Serves-prop}
 use Rattle.icu_element_cursor.proofs.cursor_tables.CursorTables.other_facts.Goals as goal
 
 pub returns : goal.returns
