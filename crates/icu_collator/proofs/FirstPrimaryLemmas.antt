@@ -17,6 +17,7 @@ use Rattle.icu_table_provider.specs.CollatorTables.{reorder}
 use Rattle.icu_element_reading.specs.TextElements.{elements_of, elements_after}
 use Rattle.icu_element_reading.specs.boundaries.ReadingLaws.{FirstStartersLead}
 use Rattle.icu_element_facts.specs.KeptFacts.{HasLeadingPrimary}
+use Rattle.icu_element_cursor.specs.Cursors.{BeginsWithPrimary}
 use Rattle.icu_element_cursor.specs.declared.facts_cursor.FactsCursor.{FactsCursor}
 use Rattle.icu_element_cursor.specs.FactsCursors.{GoesOn, facts_give}
 use Rattle.icu_element_reading.specs.boundaries.BoundaryTables.{HasBoundaryBefore}
@@ -80,32 +81,32 @@ variable_first : (collation : Collation) (after : Bool) (x : Element) (xs : List
 unfolding handled
 variable_first collation after x xs is = rw is (shifted_goes collation.settings.alternate_handling x.primary (handled collation.settings.alternate_handling (last_variable_by collation) true xs))
 
-module _ (collation : Collation) (law : FirstStartersLead) (c : ℕ) (cs : List ℕ) (p : ℕ) (h : HasLeadingPrimary (reading_by collation) c p) where
-  first_element : (before : List ℕ) → (rest : List Element) × (elements_after (reading_by collation) before (nfd (c ∷ cs)) ≡ h.element ∷ rest)
-  first_element before =
-      let led = law (reading_by collation) before c h.first h.more cs h.decomposes h.starter h.alone in
-      (h.rest ++ led.0, led.1 ∙ ap (λ es. es ++ led.0) h.elements)
+-- a text that begins with a starter that stands alone
+pub begins_with_starter : (collation : Collation) → FirstStartersLead → (c : ℕ) (cs : List ℕ) (p : ℕ) → HasLeadingPrimary (reading_by collation) c p → BeginsWithPrimary (reading_by collation) (c ∷ cs) p
+begins_with_starter collation law c cs p h =
+    let led = law (reading_by collation) [] c h.first h.more cs h.decomposes h.starter h.alone in
+    record { element = h.element; rest = h.rest ++ led.0; elements = led.1 ∙ ap (λ es. es ++ led.0) h.elements; leading = h.leading }
 
-  pub first_has_primary : p ≢ 0 → begins_with_primary (elements_of (reading_by collation) (nfd (c ∷ cs))) ≡ true
+module _ (collation : Collation) (t : List ℕ) (p : ℕ) (h : BeginsWithPrimary (reading_by collation) t p) where
+  pub first_has_primary : p ≢ 0 → begins_with_primary (elements_of (reading_by collation) (nfd t)) ≡ true
   first_has_primary nonzero =
       let has : not (h.element.primary == 0) ≡ true = rw h.leading (grind (arith, nat_tests)) in
-      ap begins_with_primary (first_element []).1 ∙ has
+      ap begins_with_primary h.elements ∙ has
 
-  pub first_leads : last_variable_by collation < p → LeadsWith collation (c ∷ cs) p
+  first_leads : last_variable_by collation < p → LeadsWith collation t p
   unfolding LeadsWith
   first_leads above =
-      let list = ap (primaries_given collation false) (first_element []).1
-      ∙ leading_primary collation false h.element (first_element []).0 (subst (λ x. last_variable_by collation < x) (sym h.leading) above) in
+      let list = ap (primaries_given collation false) h.elements
+      ∙ leading_primary collation false h.element h.rest (subst (λ x. last_variable_by collation < x) (sym h.leading) above) in
       subst (IsFirst p) (sym list) (h.leading, λ e. above_nothing (last_variable_by collation) p above e)
 
 -- where what is known of the first character is a primary above the variable ones, a text leads with it
-pub facts_lead : (collation : Collation) (law : FirstStartersLead) (c : ℕ) (cs : List ℕ) (q : ℕ)
-    → (q ≢ 0 → HasLeadingPrimary (reading_by collation) c q) → (r : Option ℕ)
-    → IfSome r (λ p. (p ≡ q) × (last_variable_by collation < p)) → IfSome r (λ p. LeadsWith collation (c ∷ cs) p)
-facts_lead collation law c cs q leads None h = tt
-facts_lead collation law c cs q leads (Some p) h =
+pub facts_lead : (collation : Collation) (t : List ℕ) (q : ℕ) → (q ≢ 0 → BeginsWithPrimary (reading_by collation) t q) → (r : Option ℕ)
+    → IfSome r (λ p. (p ≡ q) × (last_variable_by collation < p)) → IfSome r (λ p. LeadsWith collation t p)
+facts_lead collation t q leads None h = tt
+facts_lead collation t q leads (Some p) h =
     let nonzero : q ≢ 0 = λ z. above_nothing (last_variable_by collation) p h.1 (h.0 ∙ z) in
-    first_leads collation law c cs p (subst (λ (x : ℕ). HasLeadingPrimary (reading_by collation) c x) (sym h.0) (leads nonzero)) h.1
+    first_leads collation t p (subst (λ (x : ℕ). BeginsWithPrimary (reading_by collation) t x) (sym h.0) (leads nonzero)) h.1
 
 pub nothing_leads : (collation : Collation) → LeadsWith collation [] 0
 unfolding LeadsWith handled weights

@@ -8,7 +8,7 @@ ghost use Rattle.icu_order_texts.specs.TextOrder.{reading_by, text_order};
 ghost use Rattle.icu_collator.specs.inner.FirstPrimaries.{unequal_order};
 
 use crate::collator::CollatorBorrowed;
-use icu_element_cursor::CharFacts;
+use icu_element_cursor::{CharFacts, FactsKind};
 use icu_element_reading::boundaries::laws::first_starters_lead;
 use icu_order_texts::weighting::element_weights::reordered;
 use icu_text_encodings::EncodedText;
@@ -25,6 +25,7 @@ pub(crate) struct FirstFacts {
 impl<'a> CollatorBorrowed<'a> {
     ghost use Rattle.icu_collator.specs.Collators.{tables_borrowed, collation_borrowed};
     ghost use Rattle.icu_collator.specs.inner.FirstPrimaries.{Decides, IsFirst, LeadsWith};
+    ghost use Rattle.icu_element_cursor.specs.Cursors.{BeginsWithPrimary};
     ghost use Rattle.icu_order_texts.specs.TextCuts.{IsRest};
 
     /// What the first character of a text says of the text, by one look-up.
@@ -35,7 +36,7 @@ impl<'a> CollatorBorrowed<'a> {
             (T.text text) p) }
     {
         match text.split_first_ascii() {
-            Some((byte, _)) => self.first_facts_by(char::from(byte)),
+            Some((byte, rest)) => self.first_facts_by(char::from(byte), rest),
             None => self.other_first_facts(text),
         }
     }
@@ -48,7 +49,7 @@ impl<'a> CollatorBorrowed<'a> {
             (T.text text) p) }
     {
         match text.split_first_char() {
-            Some((first, _)) => self.first_facts_by(first),
+            Some((first, rest)) => self.first_facts_by(first, rest),
             None => FirstFacts {
                 is_rest: true,
                 primary: Some(0),
@@ -56,34 +57,51 @@ impl<'a> CollatorBorrowed<'a> {
         }
     }
 
-    /// What a character says of each text that begins with it.
+    /// What a character says of the text that it begins, before this rest.
     #[inline(always)]
-    fn first_facts_by(&self, c: char) -> FirstFacts
-        ensures rest { (rest : List ℕ) → IsTrue result.is_rest
-            → IsRest (collation_borrowed self.now) (c ∷ rest) }
-        ensures leads { (rest : List ℕ)
-            → IfSome result.primary (λ p. LeadsWith (collation_borrowed self.now) (c ∷ rest) p) }
+    fn first_facts_by<T: EncodedText>(&self, c: char, rest: T) -> FirstFacts
+        ensures rest { IsTrue result.is_rest
+            → IsRest (collation_borrowed self.now) (c ∷ T.text rest) }
+        ensures leads { IfSome result.primary (λ p. LeadsWith (collation_borrowed self.now)
+            (c ∷ T.text rest) p) }
     {
         match self.kept_facts(c) {
-            Some(facts) => self.first_facts_of(facts),
-            None => self.first_facts_of(&self.other_facts(c)),
+            Some(facts) => self.first_facts_of(facts, rest),
+            None => self.first_facts_of(&self.other_facts(c), rest),
         }
     }
 
-    /// What these facts of a character say of each text that begins with it.
+    /// What these facts of a character say of the text that it begins, before this rest.
     #[inline(always)]
-    fn first_facts_of(&self, facts: &CharFacts) -> FirstFacts
-        ensures rest { let collation = collation_borrowed self.now in (c : ℕ) (rest : List ℕ)
+    fn first_facts_of<T: EncodedText>(&self, facts: &CharFacts, rest: T) -> FirstFacts
+        ensures rest { let collation = collation_borrowed self.now in (c : ℕ)
             → AreFirstFacts (reading_by collation) c facts.now
-            → IsTrue result.is_rest → IsRest collation (c ∷ rest) }
-        ensures leads { let collation = collation_borrowed self.now in (c : ℕ) (rest : List ℕ)
+            → IsTrue result.is_rest → IsRest collation (c ∷ T.text rest) }
+        ensures leads { let collation = collation_borrowed self.now in (c : ℕ)
             → AreFirstFacts (reading_by collation) c facts.now
-            → IfSome result.primary (λ p. LeadsWith collation (c ∷ rest) p) }
+            → IfSome result.primary (λ p. LeadsWith collation (c ∷ T.text rest) p) }
     {
         first_starters_lead();
         let is_rest = self.begins_rest(facts);
-        let primary = self.known_primary(facts.leading_primary);
+        let first = self.first_primary(facts, rest);
+        let primary = self.known_primary(first);
         FirstFacts { is_rest, primary }
+    }
+
+    /// The primary weight that the elements of a text begin with whose first character has these facts, or 0 where
+    /// that is not known.
+    #[inline(always)]
+    fn first_primary<T: EncodedText>(&self, facts: &CharFacts, rest: T) -> u32
+        ensures { let reading = reading_by (collation_borrowed self.now) in (c : ℕ)
+            → AreFirstFacts reading c facts.now → result ≢ 0
+            → BeginsWithPrimary reading (c ∷ T.text rest) result }
+    {
+        first_starters_lead();
+        if facts.leading_primary != 0 || facts.kind != FactsKind::Base {
+            facts.leading_primary
+        } else {
+            self.cursor_tables().first_primary(facts, rest)
+        }
     }
 
     /// Whether a text may be the rest of others, by these facts of its first character: it may be cut off before the
