@@ -2,4 +2,5 @@ mod StateLemmas
 pub mod TouchedRuleLemmas
 mod RuleLoopLemmas
 mod ContractionEnds
+mod CharacterCountLemmas
 mod WeightMakerLemmas

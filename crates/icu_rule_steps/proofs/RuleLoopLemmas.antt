@@ -13,8 +13,8 @@ use Rattle.icu_rule_meaning.specs.Steps.{TailoringState, first_state, rule_step,
 use Rattle.icu_rule_steps.specs.declared.rule_step_error.RuleStepError.{RuleStepError}
 use Rattle.icu_rule_steps.specs.declared.rule_step_error.RuleStepError.TheVariants as steps
 use Rattle.icu_rule_steps.specs.declared.tailoring_error.TailoringErrorKind.{TailoringErrorKind}
-use Rattle.icu_rule_steps.specs.RuleFaults.{or_fault, rule_fault, first_fault, placed_error, or_error, first_error}
-use Rattle.icu_rule_steps.specs.ReadRules.{IsError, IsReason, ReadsRule, ReadsRules}
+use Rattle.icu_rule_steps.specs.RuleFaults.{or_fault, rule_fault, first_fault, or_error, first_rule_error}
+use Rattle.icu_rule_steps.specs.ReadRules.{IsReason, ReadsRule, ReadsRules}
 
 -- rules were read up to some of them
 pub record IsReadTo (root : Root) (old : TailoringState) (rules : List Rule) (now : TailoringState) (rest : List Rule) : Type 0 where
@@ -103,7 +103,7 @@ read_same root old now next rules rest rest' e same to = record {
   fault = ap (λ s. first_fault root s rest') same ∙ sym (ap (first_fault root now) e) ∙ to.fault;
 }
 
-pub handed_on : {T : Type 0} (r : Result T RuleStepError) (e : RuleStepError) (P : RuleStepError → Type 0)
+pub handed_on : {T E : Type 0} (r : Result T E) (e : E) (P : E → Type 0)
     → IsErrAnd r (λ x. x ≡ e) → P e → IfErr r P
 handed_on (Ok x) e P is p = tt
 handed_on (Err x) e P is p = subst P (sym is) p
@@ -146,13 +146,13 @@ range_next strength ranges i d small =
 -- statements were read up to some of them
 pub record IsPlacedTo (root : Root) (placed : List PlacedStatement) (now : TailoringState) (rest : List PlacedStatement) : Type 0 where
   pub state : state_after root now (rules_of rest) ≡ state_after root (first_state root) (rules_of placed)
-  pub error : first_error root now rest ≡ first_error root (first_state root) placed
+  pub error : first_rule_error root now rest ≡ first_rule_error root (first_state root) placed
 
 pub none_placed : (root : Root) (placed : List PlacedStatement) (now : TailoringState) → now ≡ first_state root
     → IsPlacedTo root placed now placed
 none_placed root placed now is = record {
   state = ap (λ s. state_after root s (rules_of placed)) is;
-  error = ap (λ s. first_error root s placed) is;
+  error = ap (λ s. first_rule_error root s placed) is;
 }
 
 pub one_placed : (root : Root) (placed : List PlacedStatement) (now next : TailoringState) (rest rest' : List PlacedStatement)
@@ -164,24 +164,7 @@ one_placed root placed now next rest rest' p e to read = record {
       ∙ sym (after_both root now (statement_rules p.statement) (rules_of rest'))
       ∙ sym (ap (λ ps. state_after root now (rules_of ps)) e) ∙ to.state;
   error =
-      ap (λ s. first_error root s rest') read.state
-      ∙ sym (ap (λ f. or_error p f (first_error root (state_after root now (statement_rules p.statement)) rest')) read.sound)
-      ∙ sym (ap (first_error root now) e) ∙ to.error;
+      ap (λ s. first_rule_error root s rest') read.state
+      ∙ sym (ap (λ f. or_error p f (first_rule_error root (state_after root now (statement_rules p.statement)) rest')) read.sound)
+      ∙ sym (ap (first_rule_error root now) e) ∙ to.error;
 }
-
-pub all_placed : (root : Root) (placed : List PlacedStatement) (now : TailoringState) (rest : List PlacedStatement) → rest ≡ []
-    → IsPlacedTo root placed now rest → now ≡ state_after root (first_state root) (rules_of placed)
-all_placed root placed now rest e to = sym (ap (λ ps. state_after root now (rules_of ps)) e) ∙ to.state
-
-pub none_refused : (root : Root) (placed : List PlacedStatement) (now : TailoringState) (rest : List PlacedStatement) → rest ≡ []
-    → IsPlacedTo root placed now rest → first_error root (first_state root) placed ≡ None
-none_refused root placed now rest e to = sym to.error ∙ ap (first_error root now) e
-
-pub placed_refused : (root : Root) (placed : List PlacedStatement) (now : TailoringState) (rest rest' : List PlacedStatement)
-    (p : PlacedStatement) (error : RuleStepError) → rest ≡ p ∷ rest' → IsPlacedTo root placed now rest
-    → IsReason (first_fault root now (statement_rules p.statement)) error
-    → IsError (first_error root (first_state root) placed) (placed_error p.place p.import error)
-placed_refused root placed now rest rest' p steps.NoMemory e to is = tt
-placed_refused root placed now rest rest' p (steps.Refused kind) e to is =
-    sym to.error ∙ ap (first_error root now) e
-    ∙ ap (λ f. or_error p f (first_error root (state_after root now (statement_rules p.statement)) rest')) is

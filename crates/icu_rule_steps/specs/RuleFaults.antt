@@ -1,12 +1,15 @@
 -- Which rules are refused, and why (UTS #35 part 5, "Collation Tailorings").
-use Rattle.std.specs.Prelude.{ℕ, Bool, true, false, ◌+◌, ◌==◌, ◌&&◌, ◌||◌, nat_le, nat_lt, if◌then◌else◌, List, [], ◌∷◌, length, Option, Some, None}
+use Rattle.std.specs.Prelude.{ℕ, Bool, true, false, ◌+◌, ◌==◌, ◌&&◌, ◌||◌, nat_le, nat_lt, if◌then◌else◌, List, [], ◌∷◌, length, flat_map, Option, Some, None}
+use Rattle.std.specs.Option.{option_or}
 use Rattle.unicode_normalization.specs.Forms.{nfd}
 use Rattle.icu_options.specs.declared.settings.Strength.{Strength}
 use Rattle.icu_options.specs.declared.settings.Strength.TheVariants.{Identical}
 use Rattle.icu_rule_parser.specs.declared.statement.LogicalPosition.{LogicalPosition}
 use Rattle.icu_rule_parser.specs.declared.statement.LogicalPosition.TheVariants.{LastImplicit, FirstTrailing, LastTrailing}
+use Rattle.icu_rule_parser.specs.declared.statement.Statement.{Statement}
+use Rattle.icu_rule_parser.specs.declared.statement.Statement.TheVariants as statements
 use Rattle.icu_rule_parser.specs.declared.rules.PlacedStatement.{PlacedStatement}
-use Rattle.icu_rule_meaning.specs.Rules.{ResetPlace, at_string, at_position, Rule, reset, relation, suppression, setting, level_of, statement_rules}
+use Rattle.icu_rule_meaning.specs.Rules.{ResetPlace, at_string, at_position, Rule, reset, relation, suppression, setting, characters_of, level_of, statement_rules}
 use Rattle.icu_rule_meaning.specs.declared.symbolic.SymbolicWeight.{SymbolicWeight}
 use Rattle.icu_rule_meaning.specs.declared.symbolic.SymbolicWeight.TheVariants.{Rooted, Tailored}
 use Rattle.icu_rule_meaning.specs.declared.symbolic.SymbolicElement.{SymbolicElement}
@@ -19,7 +22,7 @@ use Rattle.icu_rule_steps.specs.symbolic_mappings.KeptMappings.{count_with}
 use Rattle.icu_rule_steps.specs.declared.rule_step_error.RuleStepError.{RuleStepError}
 use Rattle.icu_rule_steps.specs.declared.rule_step_error.RuleStepError.TheVariants as steps
 use Rattle.icu_rule_steps.specs.declared.tailoring_error.TailoringErrorKind.{TailoringErrorKind}
-use Rattle.icu_rule_steps.specs.declared.tailoring_error.TailoringErrorKind.TheVariants.{Position, TooManyElements, BeforeIgnorable, BeforeFirst, AfterIgnorable, NoWeight, LongPrefix, JamoContraction, TooManyMappings}
+use Rattle.icu_rule_steps.specs.declared.tailoring_error.TailoringErrorKind.TheVariants.{Position, TooManyElements, BeforeIgnorable, BeforeFirst, AfterIgnorable, NoWeight, LongPrefix, JamoContraction, TooManyMappings, TooManyRelations}
 use Rattle.icu_rule_steps.specs.declared.tailoring_error.TailoringError.{TailoringError}
 use Rattle.icu_rule_steps.specs.declared.tailoring_error.TailoringError.TheVariants.{NoMemory, Refused}
 
@@ -179,9 +182,33 @@ abbrev pub or_error : PlacedStatement → Option TailoringErrorKind → Option T
 or_error placed (Some kind) other = Some (Refused placed.place placed.import kind)
 or_error placed None other = other
 
--- the error of the first statement that is refused
-abbrev pub first_error : Root → TailoringState → List PlacedStatement → Option TailoringError
-first_error root state [] = None
-first_error root state (placed ∷ statements) =
+-- the error of the first statement of which a rule is refused
+abbrev pub first_rule_error : Root → TailoringState → List PlacedStatement → Option TailoringError
+first_rule_error root state [] = None
+first_rule_error root state (placed ∷ statements) =
     let rules = statement_rules placed.statement in
-    or_error placed (first_fault root state rules) (first_error root (state_after root state rules) statements)
+    or_error placed (first_fault root state rules) (first_rule_error root (state_after root state rules) statements)
+
+-- ---- relations in all
+
+-- how many relations rules may have, with those of imports
+abbrev pub most_relations : ℕ
+most_relations = 250000
+
+-- how many relations a statement says: a starred one says one for each of its characters
+abbrev pub relation_count : Statement → ℕ
+relation_count (statements.Relation r) = 1
+relation_count (statements.Starred r) = length (flat_map characters_of r.ranges.items)
+relation_count _ = 0
+
+-- the error of the first statement with which there are too many relations, where there were some before
+abbrev pub count_error : ℕ → List PlacedStatement → Option TailoringError
+count_error before [] = None
+count_error before (placed ∷ statements) =
+    let count = before + relation_count placed.statement in
+    if nat_lt most_relations count then Some (Refused placed.place placed.import TooManyRelations)
+    else count_error count statements
+
+-- the error of statements: that of too many relations, or else that of the first rule that is refused
+abbrev pub first_error : Root → TailoringState → List PlacedStatement → Option TailoringError
+first_error root state statements = option_or (count_error 0 statements) (first_rule_error root state statements)

@@ -4,6 +4,7 @@
 mod decomposing;
 mod faults;
 pub mod held_relations;
+mod relation_counts;
 mod rule_step_error;
 pub mod statement_place;
 pub mod symbolic_mappings;

@@ -4,6 +4,7 @@ use crate::faults::{
     MOST_MAPPINGS, are_too_many, before_fault, difference_fault, is_reserved_position, scalar_of,
     string_fault,
 };
+use crate::relation_counts::refuse_too_many;
 use crate::rule_step_error::RuleStepError;
 use crate::symbolic_mappings::{Mappings, RootMappings, cased_elements};
 use crate::tailoring_error::{TailoringError, TailoringErrorKind};
@@ -423,7 +424,8 @@ impl<'r, R: RootWeights + RootMappings> SymbolicTailoring<'r, R> {
 
     /// What statements of rules say, one after another.
     ///
-    /// An error has the place of the first statement that is refused, and why it is.
+    /// An error has the place of the statement by which there are more than 250,000 relations, with those of imports,
+    /// or else of the first one that is refused, and why it is. Relations are counted before any is read.
     pub fn of_statements(
         alloc: Global,
         root: &'r R,
@@ -441,6 +443,7 @@ impl<'r, R: RootWeights + RootMappings> SymbolicTailoring<'r, R> {
         ensures touched { IfOk result (λ t.
             HasTouched root.now (rules_of statements.now) (kept_mappings t)) }
     {
+        refuse_too_many(statements)?;
         let mut tailoring = SymbolicTailoring::new(alloc, root);
         for placed in statements {
             if let Err(error) = tailoring.read_statement(alloc, root, &placed.statement) {
@@ -452,7 +455,7 @@ impl<'r, R: RootWeights + RootMappings> SymbolicTailoring<'r, R> {
 
     /// What rules say.
     ///
-    /// An error has the place of the first statement that is refused, and why it is.
+    /// An error is that of [`SymbolicTailoring::of_statements`].
     pub fn of_rules(
         alloc: Global,
         root: &'r R,

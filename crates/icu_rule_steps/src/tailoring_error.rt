@@ -32,6 +32,9 @@ pub enum TailoringErrorKind {
     /// A relation that gives a character more than 1,024 mappings, which depend on what stands around it.
     #[error("expected at most 1024 prefixes and contractions of a character")]
     TooManyMappings,
+    /// More than 250,000 relations, with those of imports and one for each character of a starred relation.
+    #[error("expected at most 250000 relations, with those of imports")]
+    TooManyRelations,
 }
 
 /// Why rules make no tailoring.

@@ -1,4 +1,5 @@
 //! The statements by which tailored weights are made.
+use crate::relation_counts::refuse_too_many;
 use crate::statement_place::StatementPlace;
 use crate::symbolic_mappings::RootMappings;
 use crate::symbolic_tailoring::SymbolicTailoring;
@@ -30,6 +31,7 @@ impl<'r, R: RootWeights + RootMappings> SymbolicTailoring<'r, R> {
             let root = root_in R.root R.mappings_of root.now in
             IsError (first_error root (first_state root) rules.now.statements.items)) }
     {
+        refuse_too_many(rules.statements.as_slice())?;
         let mut tailoring = SymbolicTailoring::new(alloc, root);
         for placed in &rules.statements {
             if let Err(error) = tailoring.read_statement(alloc, root, &placed.statement) {

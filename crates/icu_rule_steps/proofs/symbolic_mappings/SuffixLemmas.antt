@@ -1,5 +1,6 @@
 -- A suffix with one more mark.
-use Rattle.std.proofs.Common.{◌≡◌, ℕ, false, ◌&&◌, ◌==◌, List, [], ◌∷◌, ◌++◌, bytes_eq, refl, sym, ap, ◌∙◌}
+use Rattle.std.proofs.Common.{◌≡◌, ◌≢◌, ℕ, false, ◌&&◌, ◌==◌, List, [], ◌∷◌, ◌++◌, bytes_eq, refl, sym, ap, ◌∙◌}
+use Rattle.std.proofs.lemmas.Bool.{ne_eqb}
 use Rattle.std.proofs.Math.Bool.{and-false}
 use Rattle.icu_element_matches.proofs.steady_matches.BegunLemmas.{and_assoc}
 
@@ -25,3 +26,10 @@ equal_behind longer front suffix last mark is = ap (λ l. bytes_eq l (suffix ++ 
 -- nothing doesn't end so
 pub equal_nothing : (longer suffix : List ℕ) (mark : ℕ) → longer ≡ [] → bytes_eq longer (suffix ++ mark ∷ []) ≡ false
 equal_nothing longer suffix mark is = ap (λ l. bytes_eq l (suffix ++ mark ∷ [])) is ∙ none_equal suffix mark
+
+-- a list that ends with another mark
+pub unequal_behind : (longer front suffix : List ℕ) (last mark : ℕ) → longer ≡ front ++ last ∷ [] → last ≢ mark
+    → bytes_eq longer (suffix ++ mark ∷ []) ≡ false
+unequal_behind longer front suffix last mark is other =
+    equal_behind longer front suffix last mark is
+    ∙ ap (λ e. e && bytes_eq front suffix) (ne_eqb last mark other)

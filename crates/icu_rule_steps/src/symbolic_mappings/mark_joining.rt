@@ -1,6 +1,7 @@
 //! Marks that join a match.
 
-ghost use Rattle.std.specs.Prelude.{◌≡◌, ◌∷◌, ◌++◌, [], bytes_eq, Some};
+ghost use Rattle.std.specs.Prelude.{◌≡◌, ◌<◌, ◌∷◌, ◌++◌, ℕ, [], bytes_eq, false, None, Some};
+ghost use Rattle.ucd_normal.specs.CanonicalCombiningClass.{canonical_combining_class as class_of};
 ghost use Rattle.icu_rule_meaning.specs.TailoredMappings.{joined_marks, mapping_with};
 ghost use Rattle.icu_element_matches.specs.Texts.{unread};
 ghost use Rattle.icu_rule_steps.specs.symbolic_mappings.StoredMappings.{symbolic_mapping};
@@ -40,9 +41,38 @@ fn mapping_with_mark<'m>(
     None
 }
 
+/// The class of the mark by which a suffix is longer than another one; 0 if it isn't longer by one character.
+fn class_of_longer(longer: &[char], suffix: &[char]) -> u8
+    ensures { (m : ℕ) → result < class_of m
+        → bytes_eq longer.now (suffix.now ++ m ∷ []) ≡ false }
+{
+    match longer.split_last() {
+        Some((last, front)) => {
+            if front.len() == suffix.len() {
+                canonical_combining_class(*last)
+            } else {
+                0
+            }
+        }
+        None => 0,
+    }
+}
+
+/// The greatest class that a mark may have by which a mapping has a longer suffix: no mark of a greater one joins.
+fn greatest_joining(mappings: &[&SymbolicMapping], suffix: &[char]) -> u8
+    ensures { (m : ℕ) → result < class_of m
+        → mapping_with (lent_mappings mappings.now) (suffix.now ++ m ∷ []) ≡ None }
+{
+    let mut greatest = 0;
+    for mapping in mappings {
+        greatest = greatest.max(class_of_longer(mapping.suffix.as_slice(), suffix));
+    }
+    greatest
+}
+
 /// The marks up to the next starter join the mapping one by one, and leave the text, where they aren't blocked and the
 /// suffix with them has a mapping. A mark is blocked if its class isn't above the greatest class of those that were
-/// passed over.
+/// passed over. No mark is looked at once none can join.
 pub(crate) fn join_marks<'m>(
     mappings: &[&'m SymbolicMapping],
     begun: &'m SymbolicMapping,
@@ -55,7 +85,11 @@ pub(crate) fn join_marks<'m>(
     let mut found = begun;
     let mut passed = 0;
     let mut greatest = 0;
-    'marks: while let Some(mark) = text.get(passed) {
+    let mut joining = greatest_joining(mappings, begun.suffix.as_slice());
+    'marks: while greatest < joining {
+        let Some(mark) = text.get(passed) else {
+            return found;
+        };
         let class = canonical_combining_class(mark);
         if class == 0 {
             return found;
@@ -63,6 +97,7 @@ pub(crate) fn join_marks<'m>(
         if class > greatest {
             if let Some(longer) = mapping_with_mark(mappings, found.suffix.as_slice(), mark) {
                 found = longer;
+                joining = greatest_joining(mappings, longer.suffix.as_slice());
                 text.remove(passed);
                 continue;
             }

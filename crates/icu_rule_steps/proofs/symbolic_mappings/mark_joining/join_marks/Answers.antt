@@ -12,13 +12,20 @@ use Rattle.icu_element_matches.proofs.MarkLemmas.{one_more, blocked_by_greatest,
 use Rattle.icu_rule_meaning.specs.TailoredMappings.{SymbolicMapping, SymbolicMatch, is_blocked_by, joined_marks, mapping_with}
 use Rattle.icu_rule_steps.specs.symbolic_mappings.StoredMappings.{symbolic_mapping}
 use Rattle.icu_rule_steps.specs.symbolic_mappings.inner.Tiers.{lent_mappings, maybe_lent}
-use Rattle.icu_rule_steps.proofs.symbolic_mappings.JoinLemmas.{same_blocking, ends_at_starter, passes_blocked, joins_longer, passes_other, ends_with_text}
+use Rattle.icu_rule_steps.proofs.symbolic_mappings.JoinLemmas.{NoneJoins, as_found, same_blocking, ends_at_starter, passes_blocked, joins_longer, none_joins, passes_other, ends_with_text}
 use Rattle.icu_rule_steps.proofs.symbolic_mappings.mark_joining.join_marks.Goals as goal
 use Rattle.icu_rule_steps.proofs.symbolic_mappings.mark_joining.join_marks.Goals.{then-class-greatest+in_default-mapping_with_mark, else-class-greatest}
 
 pub marks-init : goal.marks-init
 unfolding greatest_class
-marks-init c = record { inside = omega arith; greatest = refl; whole = refl }
+marks-init c = record {
+  inside = omega arith;
+  greatest = refl;
+  joining = λ m (above : c.greatest_joining-joining.result < class_of m).
+      ap (λ (s : List ℕ). mapping_with (lent_mappings c.args.mappings.now) (s ++ m ∷ [])) (sym c.as_slice.ensures.value)
+      ∙ c.greatest_joining-joining.ensures m above;
+  whole = refl;
+}
 
 pub returns-then-class-eq0 : goal.returns-then-class-eq0
 returns-then-class-eq0 c =
@@ -65,7 +72,7 @@ marks-preserved-in-Some-mapping_with_mark c =
     let found : SymbolicMapping = symbolic_mapping l.found.now in
     let longer : SymbolicMapping = symbolic_mapping c.in-Some-mapping_with_mark.longer.now in
     let joined : mapping_with mappings (found.suffix ++ m ∷ []) ≡ Some longer =
-    sym (sym (ap maybe_lent c.in-Some-mapping_with_mark.is) ∙ c.mapping_with_mark.ensures ∙ ap (λ (s : List ℕ). mapping_with mappings (s ++ m ∷ [])) c.as_slice.ensures.value) in
+    sym (sym (ap maybe_lent c.in-Some-mapping_with_mark.is) ∙ c.mapping_with_mark.ensures ∙ ap (λ (s : List ℕ). mapping_with mappings (s ++ m ∷ [])) c.as_slice-then-class-greatest.ensures.value) in
     let new : List ℕ = unread c.remove.new.self in
     let before : take l.passed new ≡ take l.passed text = removed_before text l.passed new within c.remove.ensures.rest in
     let after : drop l.passed new ≡ drop (l.passed + 1) text = removed_after text l.passed new within c.remove.ensures.rest in
@@ -74,6 +81,9 @@ marks-preserved-in-Some-mapping_with_mark c =
     record {
       inside = omega (arith, long, length-take-le l.passed text (omega (arith, within)));
       greatest = l.invariant.greatest ∙ ap greatest_class (sym before);
+      joining = λ n (over : c.greatest_joining-joining-in-Some-mapping_with_mark.result < class_of n).
+          ap (λ (s : List ℕ). mapping_with mappings (s ++ n ∷ [])) (sym c.as_slice-in-Some-mapping_with_mark.ensures.value)
+          ∙ c.greatest_joining-joining-in-Some-mapping_with_mark.ensures n over;
       whole =
           ap₂ (joined_marks mappings longer) before after
           ∙ sym (joins_longer mappings found (take l.passed text) text l.passed m is longer starter free joined)
@@ -119,7 +129,7 @@ marks-preserved c =
       | then-class-greatest+in_default-mapping_with_mark w ↦
           let free : is_blocked_by passed m ≡ false = blocking ∙ lt-leb _ _ (omega (arith, w.if-class-greatest.true, class, l.invariant.greatest)) in
           let none : mapping_with mappings (found.suffix ++ m ∷ []) ≡ None =
-          sym (sym (ap maybe_lent w.in_default-mapping_with_mark.is) ∙ w.mapping_with_mark.ensures ∙ ap (λ (s : List ℕ). mapping_with mappings (s ++ m ∷ [])) w.as_slice.ensures.value) in
+          sym (sym (ap maybe_lent w.in_default-mapping_with_mark.is) ∙ w.mapping_with_mark.ensures ∙ ap (λ (s : List ℕ). mapping_with mappings (s ++ m ∷ [])) w.as_slice-then-class-greatest.ensures.value) in
           passes_other mappings found passed text l.passed m is starter free none
       | else-class-greatest w ↦
           let blocked : is_blocked_by passed m ≡ true = blocking ∙ le-leb _ _ (omega (arith, w.if-class-greatest.false, class, l.invariant.greatest)) in
@@ -128,11 +138,12 @@ marks-preserved c =
     record {
       inside = omega (arith, within);
       greatest = greatest ∙ sym (ap greatest_class more ∙ greatest_more passed m);
+      joining = l.invariant.joining;
       whole = ap (λ (p : List ℕ). joined_marks mappings found p rest) more ∙ sym turn ∙ l.invariant.whole;
     }
 
-pub returns : goal.returns
-returns c =
+pub returns-in_default : goal.returns-in_default
+returns-in_default c =
     let l = c.marks in
     let text : List ℕ = unread l.text in
     let none : slice_get text l.passed ≡ None = search rules in
@@ -142,3 +153,15 @@ returns c =
     let whole : take l.passed text ≡ text =
     sym (append-nil (take l.passed text)) ∙ (ap (λ (r : List ℕ). take l.passed text ++ r) (sym (drop_of_length-le text past)) ∙ take-append-drop l.passed text) in
     ap ended (sym whole) ∙ (sym (ends_with_text (lent_mappings c.args.mappings.now) found (take l.passed text) text l.passed past) ∙ l.invariant.whole)
+
+pub returns : goal.returns
+returns c =
+    let mappings : List SymbolicMapping = lent_mappings c.args.mappings.now in
+    let l = c.marks in
+    let text : List ℕ = unread l.text in
+    let passed : List ℕ = take l.passed text in
+    let found : SymbolicMapping = symbolic_mapping l.found.now in
+    let none : NoneJoins mappings found passed =
+    λ m (above : greatest_class passed < class_of m). l.invariant.joining m (omega (arith, above, l.invariant.greatest, c.marks-test.false)) in
+    ap (as_found found) (sym (take-append-drop l.passed text))
+    ∙ sym (none_joins mappings found passed (drop l.passed text) none) ∙ l.invariant.whole
