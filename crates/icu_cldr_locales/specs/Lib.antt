@@ -2,3 +2,4 @@ pub mod Subtags
 pub mod LanguageTags
 pub mod Keywords
 pub mod locale_rules
+pub mod resolution

@@ -8,6 +8,7 @@ mod keywords;
 pub mod language_tag;
 pub mod letter_case;
 pub mod locale_rules;
+pub mod resolution;
 pub mod subtag;
 mod subtag_forms;
 pub mod tag_error;

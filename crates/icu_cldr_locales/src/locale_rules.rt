@@ -1,5 +1,4 @@
-//! The rules of a locale's collation, by CLDR's files of collations: which collation a language tag names and takes,
-//! and its rules, with those that they import.
+//! The rules of a locale's collation, by CLDR's files of collations, with those that they import.
 pub mod collation_name;
 mod imported_rules;
 pub mod locale_rules;
@@ -7,6 +6,6 @@ mod tag_places;
 pub mod tag_rules;
 
 pub use collation_name::{CollationName, file_name_of};
-pub use locale_rules::{rules_of_collation, taken_collation};
+pub use locale_rules::rules_of_collation;
 pub use tag_places::import_tags;
 pub use tag_rules::{with_backward, with_reordering};

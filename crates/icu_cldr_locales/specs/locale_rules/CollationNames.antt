@@ -1,31 +1,23 @@
--- Which collation a language tag names (UTS #35 part 1, "Unicode Language and Locale Identifiers"; part 5, "Collation
--- Tailorings").
-use Rattle.std.specs.Prelude.{◌≡◌, ℕ, ◌||◌, List, Option, option_map, unwrap_or, bytes_eq, string_bytes, codes, if◌then◌else◌}
+-- Which collation a tag names that rules import (UTS #35 part 1, "Unicode Language and Locale Identifiers"; part 5,
+-- "Collation Tailorings").
+use Rattle.std.specs.Prelude.{◌≡◌, ℕ, List, Option, option_map, unwrap_or, bytes_eq, string_bytes, codes, if◌then◌else◌}
 use Rattle.icu_cldr_locales.specs.declared.subtag.Subtag.{Subtag}
 use Rattle.icu_cldr_locales.specs.Keywords.{joined, locale_of, type_of}
 use Rattle.icu_cldr_files.specs.CollationTypes.{type_named}
 use Rattle.icu_cldr_locales.specs.declared.locale_rules.collation_name.CollationName.{CollationName}
 
--- The name of the file of a locale, by the parts of its tag. An old code stands for the one that has replaced it, and a
--- region that is written in another script than the language mostly is for that script: of the locales whose order that
--- changes. Files write variants in capitals, of which there is one.
+-- The name of the file of a locale that rules import, by the parts of its tag: the root's has a name of its own, and
+-- files write variants in capitals, of which there is one. An import names its file: no code stands for another one.
 unfoldable pub file_name_of : List ℕ → List ℕ
 file_name_of locale =
     if bytes_eq locale (codes "und") then codes "root"
-    else (if bytes_eq locale (codes "zh_TW") || (bytes_eq locale (codes "zh_HK") || bytes_eq locale (codes "zh_MO")) then codes "zh_Hant"
-    else (if bytes_eq locale (codes "sr_ME") || bytes_eq locale (codes "sh") then codes "sr_Latn"
-    else (if bytes_eq locale (codes "iw") then codes "he"
-    else (if bytes_eq locale (codes "in") then codes "id"
-    else (if bytes_eq locale (codes "ji") then codes "yi"
-    else (if bytes_eq locale (codes "mo") then codes "ro"
-    else (if bytes_eq locale (codes "tl") then codes "fil"
-    else (if bytes_eq locale (codes "en_US_posix") then codes "en_US_POSIX" else locale))))))))
+    else (if bytes_eq locale (codes "en_US_posix") then codes "en_US_POSIX" else locale)
 
 -- the type that the keyword `co` of a tag names, as files name it
 abbrev pub named_type : List Subtag → Option (List ℕ)
 named_type subtags = option_map (λ parts. type_named (joined (codes "-") parts)) (type_of (codes "co") subtags)
 
--- the collation that a tag names
+-- the collation that an imported tag names
 pub record NamesCollation (subtags : List Subtag) (name : CollationName) : Type 0 where
   pub locale : string_bytes name.locale ≡ file_name_of (joined (codes "_") (locale_of subtags))
   pub collation_type : option_map string_bytes name.collation_type ≡ named_type subtags

@@ -1,10 +1,8 @@
--- Which collation a locale and a type take, and what its rules say (UTS #35 part 5, "Collation Type Fallback" and
--- "Collation Tailorings").
-use Rattle.std.specs.Prelude.{◌≡◌, ℕ, List, map, Option, Some, MatchOption, chars, string_bytes}
+-- What the rules of a collation say, with those that they import (UTS #35 part 5, "Collation Tailorings").
+use Rattle.std.specs.Prelude.{◌≡◌, ℕ, List, map, Some, chars, string_bytes}
 use Rattle.icu_cldr_files.specs.declared.collation.Collation.{Collation}
 use Rattle.icu_cldr_files.specs.declared.locale_files.LocaleFile.{LocaleFile}
-use Rattle.icu_cldr_files.specs.LocaleFiles.{FindsUp, IsDefaultOf, collation_at}
-use Rattle.icu_cldr_files.specs.CollationTypes.{FindsFirst, FindsType, types_in_turn}
+use Rattle.icu_cldr_files.specs.LocaleFiles.{FindsUp, collation_at}
 use Rattle.icu_cldr_locales.specs.declared.subtag.Subtag.{Subtag}
 use Rattle.icu_cldr_locales.specs.LanguageTags.{language_tag_of, texts_of}
 use Rattle.icu_rule_parser.specs.declared.rules.PlacedStatement.{PlacedStatement}
@@ -12,19 +10,6 @@ use Rattle.icu_rule_parser.specs.Statements.{SpellStatements}
 use Rattle.icu_rule_parser.specs.Imports.{Resolve}
 use Rattle.icu_cldr_locales.specs.declared.locale_rules.collation_name.CollationName.{CollationName}
 use Rattle.icu_cldr_locales.specs.locale_rules.CollationNames.{NamesCollation, type_or_standard}
-
--- the type that is looked for first: the one that is named, or else the default type of the locale
-abbrev pub IsWantedType : List LocaleFile → CollationName → List ℕ → Type 0
-IsWantedType files name wanted = MatchOption name.collation_type
-    (IsDefaultOf files (string_bytes name.locale) wanted) (λ named. wanted ≡ string_bytes named)
-
--- the collation that a name takes, by files: that of the first type in turn of which one is found
-pub record TakesCollation (files : List LocaleFile) (name : CollationName) (found : Option (LocaleFile × Collation)) : Type 0 where
-  pub wanted : List ℕ
-  pub is_wanted : IsWantedType files name wanted
-  pub default_type : List ℕ
-  pub is_default : IsDefaultOf files (string_bytes name.locale) default_type
-  pub first : FindsFirst (FindsType files (string_bytes name.locale)) (types_in_turn wanted default_type) found
 
 -- What rules import by a tag: the rules of the collation that it names, on the way from its locale to the root. No
 -- other type stands in for one that isn't there.

@@ -6,7 +6,7 @@ use crate::LanguageTag;
 use icu_cldr_files::type_named;
 use std::alloc::{AllocError, Global};
 
-/// The collation that a language tag names: a locale and a type, as CLDR's files name them.
+/// The collation that a tag names which rules import: a locale and a type, as CLDR's files name them.
 #[derive(Drop)]
 pub struct CollationName {
     /// The locale, by the name of its file: `zh_Hant`, and `root` where the tag is `und`.
@@ -15,29 +15,21 @@ pub struct CollationName {
     pub collation_type: Option<String>,
 }
 
-/// The name of the file of a locale, by the parts of its tag: `root` for `und`; the code that has replaced an old one;
-/// where a region is written in another script than the language mostly is, the file of that script; and the one name
-/// of a file that has a variant, which files write in capitals.
+/// The name of the file of a locale that rules import, by the parts of its tag: `root` for `und`, and the one name of a
+/// file that has a variant, which files write in capitals. An import names its file: no code stands for another one.
 #[tactic(auto, unfolding(crate::specs::locale_rules::CollationNames::file_name_of))]
 pub fn file_name_of(locale: &str) -> &str
     ensures { result.now ≡ file_name_of locale.now }
 {
     match locale {
         "und" => "root",
-        "zh_TW" | "zh_HK" | "zh_MO" => "zh_Hant",
-        "sr_ME" | "sh" => "sr_Latn",
-        "iw" => "he",
-        "in" => "id",
-        "ji" => "yi",
-        "mo" => "ro",
-        "tl" => "fil",
         "en_US_posix" => "en_US_POSIX",
         _ => locale,
     }
 }
 
 /// The type that a tag names, as the files name it.
-fn type_of_tag(alloc: Global, tag: &LanguageTag) -> Result<Option<String>, AllocError>
+pub(crate) fn type_of_tag(alloc: Global, tag: &LanguageTag) -> Result<Option<String>, AllocError>
     ensures { IfOk result (λ found.
         option_map string_bytes found ≡ named_type tag.now.subtags.items) }
 {
@@ -51,7 +43,7 @@ fn type_of_tag(alloc: Global, tag: &LanguageTag) -> Result<Option<String>, Alloc
 }
 
 impl CollationName {
-    /// The collation that a tag names.
+    /// The collation that an imported tag names.
     pub fn of_tag(alloc: Global, tag: &LanguageTag) -> Result<CollationName, AllocError>
         ensures { IfOk result (NamesCollation tag.now.subtags.items) }
     {
