@@ -1,3 +1,4 @@
+pub mod GivenWords
 pub mod Inputs
 pub mod NamedErrors
 pub mod PartialWrites

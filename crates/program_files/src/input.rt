@@ -1,14 +1,9 @@
-//! The inputs that lines are read from.
+//! How inputs are put one behind another.
 
-ghost use Rattle.std.specs.Prelude.{◌≡◌, ◌++◌, List, ℕ, IfErr, OnOk};
-ghost use Rattle.program_files.specs.ProgramErrors.{IsUnread};
-ghost use Rattle.program_files.specs.Inputs.{TakesWhole};
+ghost use Rattle.std.specs.Prelude.{◌≡◌, ◌++◌, OnOk};
 ghost use Rattle.program_files.specs.Inputs.{ended, ends_in};
 
-use crate::input_read::read_whole;
-use crate::program_error::ProgramError;
-use std::alloc::{AllocError, Global};
-use std::io::Read;
+use std::alloc::AllocError;
 
 /// Whether bytes end with a separator; no bytes count as ended.
 #[tactic(auto, using(crate::proofs::EndLemmas::last_end, crate::proofs::EndLemmas::no_end))]
@@ -43,21 +38,16 @@ fn append_ended(input: &mut Vec<u8>, bytes: Vec<u8>) -> Result<(), AllocError>
     input.extend_from_slice(bytes.as_slice())
 }
 
-/// Reads an input to its end, and puts what it has behind what was read before: its last line is ended, so that the
-/// lines of the whole are those of each input in turn.
-pub fn append_input<R: Read>(
-    alloc: Global,
+/// Puts what an input has behind what was read before: its last line is ended, so that the lines of the whole are those
+/// of each input in turn.
+pub(crate) fn append_input(
     input: &mut Vec<u8>,
-    reader: &mut R,
+    bytes: Vec<u8>,
     separator: u8,
-) -> Result<(), ProgramError>
-    ensures ok { OnOk result ((bytes : List ℕ)
-        × TakesWhole (R.remaining reader.old) (R.remaining reader.new) bytes
-        × (input.new.items ≡ input.old.items ++ ended separator bytes)) }
-    ensures error { IfErr result IsUnread }
+) -> Result<(), AllocError>
+    ensures { OnOk result (input.new.items ≡ input.old.items ++ ended separator bytes.items) }
 {
-    let mut bytes = read_whole(alloc, reader)?;
+    let mut bytes = bytes;
     end_last(&mut bytes, separator)?;
-    append_ended(input, bytes)?;
-    Ok(())
+    append_ended(input, bytes)
 }

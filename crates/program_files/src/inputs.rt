@@ -1,126 +1,171 @@
 //! What lines are read from.
 
+use crate::byte_order_marks::{MARK, refuse_wide, take_mark};
 use crate::input::append_input;
-use crate::named_errors::refused;
+use crate::input_read::read_whole;
+use crate::named_errors::{refused, refused_by_system};
 use crate::program_error::ProgramError;
 use crate::progress::{ProgressReader, RunProgress};
+use crate::word_bytes::name_of_word;
 use std::fs;
 use std::io::{Read, Write};
 use std::rt::{Clock, Files};
 
-/// Reads from a reader behind what was read before, and says how far that has come.
-fn append_read<R: Clock + AllocGlobal, I: Read, E: Write>(
+/// The name of standard input in messages.
+const STANDARD: &str = "standard input";
+
+/// Lines that were read from one input or from several.
+#[derive(Drop)]
+pub struct InputText {
+    bytes: Vec<u8>,
+    is_marked: bool,
+}
+
+impl InputText {
+    /// The lines. Each has its end.
+    pub fn as_slice(&self) -> &[u8] {
+        self.bytes.as_slice()
+    }
+
+    /// The byte order mark with which the first input began, if it did: it goes before the lines if they are printed.
+    pub fn mark(&self) -> &'static [u8] {
+        if self.is_marked { MARK } else { &[] }
+    }
+}
+
+/// Reads a reader to its end, and says how far that has come.
+fn read_watched<R: Clock + AllocGlobal, I: Read, E: Write>(
     rt: &R,
-    separator: u8,
-    input: &mut Vec<u8>,
+    name: &str,
     reader: &mut I,
     progress: &mut RunProgress,
     errors: &mut E,
-) -> Result<(), ProgramError> {
+) -> Result<Vec<u8>, ProgramError> {
     let mut watched = ProgressReader {
         rt,
         reader,
         progress,
         errors,
+        failure: None,
     };
-    append_input(rt.alloc(), input, &mut watched, separator)
+    let bytes = match read_whole(rt.alloc(), &mut watched) {
+        Err(ProgramError::ReadFailed) => {
+            return Err(match watched.failure {
+                Some(error) => refused_by_system(rt.alloc(), name, &error),
+                None => ProgramError::ReadFailed,
+            });
+        }
+        read => read?,
+    };
+    refuse_wide(rt.alloc(), name, bytes.as_slice())?;
+    Ok(bytes)
 }
 
-/// Reads a file behind what was read before.
-fn append_file<R: Files + Clock + AllocGlobal, E: Write>(
+/// Why a file isn't opened whose name isn't UTF-8, and what to do.
+const NOT_TEXT: &str = "its name isn't UTF-8; give it as standard input";
+
+/// Reads a file by its name.
+fn read_file_by_word<R: Files + Clock + AllocGlobal, E: Write>(
     rt: &R,
-    file: &str,
-    separator: u8,
-    input: &mut Vec<u8>,
+    word: &str,
     progress: &mut RunProgress,
     errors: &mut E,
-) -> Result<(), ProgramError> {
-    let Ok(mut opened) = fs::open(rt, file) else {
-        return Err(refused(rt.alloc(), file, "not opened"));
+) -> Result<Vec<u8>, ProgramError> {
+    let Some(name) = name_of_word(rt.alloc(), word)? else {
+        return Err(refused(rt.alloc(), word, NOT_TEXT));
     };
-    match append_read(rt, separator, input, &mut opened, progress, errors) {
-        Err(ProgramError::ReadFailed) => Err(refused(rt.alloc(), file, "read failed")),
-        done => done,
+    match fs::open(rt, name.as_str()) {
+        Ok(opened) => {
+            let mut opened = opened;
+            read_watched(rt, word, &mut opened, progress, errors)
+        }
+        Err(error) => Err(refused_by_system(rt.alloc(), word, &error)),
     }
 }
 
-/// Reads a file by its name behind what was read before, or standard input for the name `-`.
-fn append_named<R: Files + Clock + AllocGlobal, I: Read, E: Write>(
+/// Reads a file by its name, or standard input for the name `-`.
+fn read_named<R: Files + Clock + AllocGlobal, I: Read, E: Write>(
     rt: &R,
-    file: &str,
-    separator: u8,
-    input: &mut Vec<u8>,
+    word: &str,
     standard: &mut I,
     progress: &mut RunProgress,
     errors: &mut E,
-) -> Result<(), ProgramError> {
-    if file == "-" {
-        append_read(rt, separator, input, standard, progress, errors)
+) -> Result<Vec<u8>, ProgramError> {
+    if word == "-" {
+        read_watched(rt, STANDARD, standard, progress, errors)
     } else {
-        append_file(rt, file, separator, input, progress, errors)
+        read_file_by_word(rt, word, progress, errors)
     }
 }
 
-/// Reads the file that is named, or standard input for the name `-`. Its last line is ended by the separator.
+/// Reads the file that is named, or standard input for the name `-`. Its last line is ended by the separator. A byte
+/// order mark of UTF-8 is left where it is.
 ///
 /// # Errors
 ///
-/// Fails where an allocation does, where a read of standard input does, or with a line that names the file, where it
-/// isn't opened or a read of it fails.
+/// Fails where an allocation does, or with a line that names the file and says why it isn't opened or read, or that it
+/// begins with a mark of UTF-16 and what makes UTF-8 of it.
 pub fn read_input<R: Files + Clock + AllocGlobal, I: Read, E: Write>(
     rt: &R,
-    file: &str,
+    word: &str,
     separator: u8,
     standard: &mut I,
     progress: &mut RunProgress,
     errors: &mut E,
 ) -> Result<Vec<u8>, ProgramError> {
-    let mut input = Vec::new(rt.alloc());
-    let read = append_named(rt, file, separator, &mut input, standard, progress, errors);
+    let read = read_named(rt, word, standard, progress, errors);
     progress.end_reading(rt, errors);
-    read?;
+    let mut input = Vec::new(rt.alloc());
+    append_input(&mut input, read?, separator)?;
     Ok(input)
 }
 
-/// Reads files one behind another, and standard input for the name `-`.
+/// Reads files one behind another, and standard input for the name `-`, each without its byte order mark.
 fn read_files<R: Files + Clock + AllocGlobal, I: Read, E: Write>(
     rt: &R,
-    files: &[&str],
+    words: &[&str],
     separator: u8,
     standard: &mut I,
     progress: &mut RunProgress,
     errors: &mut E,
-) -> Result<Vec<u8>, ProgramError> {
+) -> Result<InputText, ProgramError> {
     let mut input = Vec::new(rt.alloc());
-    for file in files {
-        append_named(rt, file, separator, &mut input, standard, progress, errors)?;
+    let mut is_marked = false;
+    for (index, word) in words.iter().enumerate() {
+        let mut bytes = read_named(rt, word, standard, progress, errors)?;
+        let has_mark = take_mark(&mut bytes);
+        is_marked = is_marked || has_mark && index == 0;
+        append_input(&mut input, bytes, separator)?;
     }
-    Ok(input)
+    Ok(InputText {
+        bytes: input,
+        is_marked,
+    })
 }
 
 /// What is read where no file is named.
 static STANDARD_ALONE: [&str; 1] = ["-"];
 
 /// Reads the files that are named one behind another, or standard input where none is, and for the name `-`. The last
-/// line of each is ended by the separator.
+/// line of each is ended by the separator. A byte order mark at the beginning of one belongs to no line.
 ///
 /// # Errors
 ///
 /// Those of `read_input`.
 pub fn read_inputs<R: Files + Clock + AllocGlobal, I: Read, E: Write>(
     rt: &R,
-    files: &[&str],
+    words: &[&str],
     separator: u8,
     standard: &mut I,
     progress: &mut RunProgress,
     errors: &mut E,
-) -> Result<Vec<u8>, ProgramError> {
-    let files = if files.is_empty() {
+) -> Result<InputText, ProgramError> {
+    let words = if words.is_empty() {
         STANDARD_ALONE.as_slice()
     } else {
-        files
+        words
     };
-    let read = read_files(rt, files, separator, standard, progress, errors);
+    let read = read_files(rt, words, separator, standard, progress, errors);
     progress.end_reading(rt, errors);
     read
 }

@@ -3,22 +3,23 @@ ghost use Rattle.std.specs.Prelude.{◌≡◌, ◌++◌, codes, string_bytes, If
 ghost use Rattle.program_files.specs.ProgramErrors.{IsCollatorError};
 ghost use Rattle.program_files.specs.NamedErrors.{IsSaidOf};
 
+use crate::printed_names::printed_name;
 use crate::program_error::ProgramError;
 use std::alloc::{AllocError, Global};
 use std::fmt::Display;
+use std::io::{Error, ErrorKind};
 
 /// The text that says of a file what is wrong with it.
 fn said_of(alloc: Global, file: &str, what: &str) -> Result<String, AllocError>
-    ensures { IfOk result (λ text.
-        string_bytes text ≡ file.now ++ codes ": " ++ what.now) }
+    ensures { IfOk result (λ text. IsSaidOf file.now (string_bytes text)) }
 {
-    let mut text = file.to_string(alloc)?;
+    let mut text = printed_name(alloc, file)?;
     text.push_str(": ")?;
     text.push_str(what)?;
     Ok(text)
 }
 
-/// An error that says of a file what is wrong with it.
+/// An error that says of a file what is wrong with it. The name stands there as `printed_name` shows it.
 pub fn refused(alloc: Global, file: &str, what: &str) -> ProgramError
     ensures { IsCollatorError (IsSaidOf file.now) result }
 {
@@ -33,6 +34,31 @@ pub fn refused_by<E: Display>(alloc: Global, file: &str, error: &E) -> ProgramEr
     ensures { IsCollatorError (IsSaidOf file.now) result }
 {
     match error.to_string(alloc) {
+        Ok(what) => refused(alloc, file, what.as_str()),
+        Err(_) => ProgramError::NoMemory,
+    }
+}
+
+/// What stands behind the system's words on an error, before its number.
+const BEFORE_NUMBER: &str = " (os error ";
+
+/// What the system says of an error, without its number, or else what the library says.
+fn reason(alloc: Global, error: &Error) -> Result<String, AllocError> {
+    let text = error.to_string(alloc)?;
+    match text.as_str().split_once(BEFORE_NUMBER) {
+        Some((said, _)) => said.to_string(alloc),
+        None => Ok(text),
+    }
+}
+
+/// An error that says of a file why the system doesn't do with it what it is asked for.
+pub fn refused_by_system(alloc: Global, file: &str, error: &Error) -> ProgramError
+    ensures { IsCollatorError (IsSaidOf file.now) result }
+{
+    if error.kind() == ErrorKind::OutOfMemory {
+        return ProgramError::NoMemory;
+    }
+    match reason(alloc, error) {
         Ok(what) => refused(alloc, file, what.as_str()),
         Err(_) => ProgramError::NoMemory,
     }

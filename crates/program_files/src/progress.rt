@@ -1,6 +1,6 @@
 //! How far a long run has come.
 
-use std::io::{Read, Result, Write};
+use std::io::{Error, Read, Result, Write};
 use std::rt::Clock;
 use std::time::Instant;
 
@@ -100,13 +100,16 @@ pub(crate) struct ProgressReader<'r, 'i, 'p, 'e, R, I, E> {
     pub(crate) progress: &'p mut RunProgress,
     /// Where that is said.
     pub(crate) errors: &'e mut E,
+    /// Why the last read failed, if one did.
+    pub(crate) failure: Option<Error>,
 }
 
 impl<R: Clock + AllocGlobal, I: Read, E: Write> Read for ProgressReader<'_, '_, '_, '_, R, I, E> {
     fn read(&mut self, buf: &mut [u8]) -> Result<usize> {
         let read = self.reader.read(buf);
-        if let Ok(count) = &read {
-            self.progress.read_more(self.rt, *count, self.errors);
+        match &read {
+            Ok(count) => self.progress.read_more(self.rt, *count, self.errors),
+            Err(error) => self.failure = Some(*error),
         }
         read
     }

@@ -81,7 +81,7 @@ pub(crate) static SETTINGS: [OptionRow; 6] = [
     },
     OptionRow {
         id: "numeric",
-        letter: None,
+        letter: Some('V'),
         takes: Takes::Nothing,
         help: "Digits count by the value of their number",
     },
@@ -154,7 +154,7 @@ pub(crate) static ORDERS: [OptionRow; 9] = [
 ];
 
 /// Those of the command `sort` alone, before the one that checks.
-pub(crate) static SORTS: [OptionRow; 2] = [
+pub(crate) static SORTS: [OptionRow; 4] = [
     OptionRow {
         id: "output",
         letter: Some('o'),
@@ -166,6 +166,18 @@ pub(crate) static SORTS: [OptionRow; 2] = [
         letter: Some('m'),
         takes: Takes::Nothing,
         help: "The lines of each file are in order already",
+    },
+    OptionRow {
+        id: "parallel",
+        letter: None,
+        takes: Takes::Value("N"),
+        help: "Changes nothing, as a sort has one thread",
+    },
+    OptionRow {
+        id: "batch-size",
+        letter: None,
+        takes: Takes::Value("N"),
+        help: "Changes nothing, as all files are read at once",
     },
 ];
 
@@ -186,7 +198,7 @@ pub(crate) static QUIET: [OptionRow; 1] = [OptionRow {
 }];
 
 /// Those of the command `search`.
-pub(crate) static SEARCHES: [OptionRow; 10] = [
+pub(crate) static SEARCHES: [OptionRow; 14] = [
     OptionRow {
         id: "zero-terminated",
         letter: Some('z'),
@@ -240,6 +252,30 @@ pub(crate) static SEARCHES: [OptionRow; 10] = [
         letter: None,
         takes: Takes::Nothing,
         help: "Prints the names of the files that have such lines",
+    },
+    OptionRow {
+        id: "files-without-match",
+        letter: Some('L'),
+        takes: Takes::Nothing,
+        help: "Prints the names of the files that have no such lines",
+    },
+    OptionRow {
+        id: "with-filename",
+        letter: Some('H'),
+        takes: Takes::Nothing,
+        help: "Prints the name of its file before each line, of one file too",
+    },
+    OptionRow {
+        id: "no-filename",
+        letter: Some('h'),
+        takes: Takes::Nothing,
+        help: "Prints no name of a file before a line",
+    },
+    OptionRow {
+        id: "no-messages",
+        letter: Some('s'),
+        takes: Takes::Nothing,
+        help: "Says nothing of files that aren't read",
     },
     OptionRow {
         id: "word-regexp",

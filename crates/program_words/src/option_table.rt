@@ -53,6 +53,19 @@ pub fn option_of<'a>(alloc: Global, row: OptionRow) -> Arg<'a> {
     }
 }
 
+/// A command with the option `--help`, and without the letter `-h`, which means other things in `sort` and `grep`.
+///
+/// # Errors
+///
+/// Fails only where an allocation does.
+pub fn with_help<'a>(alloc: Global, command: Command<'a>) -> Result<Command<'a>, AllocError> {
+    let help = Arg::new(alloc, "help")
+        .long("help")
+        .action(ArgAction::Help)
+        .help("Prints this");
+    command.disable_help_flag(true).arg(help)
+}
+
 /// A command with the options of rows.
 ///
 /// # Errors

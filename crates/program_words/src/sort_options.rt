@@ -12,6 +12,14 @@ pub fn separator_of(matches: &ArgMatches<'_>) -> u8 {
     }
 }
 
+/// The character that an option names, as a word. A tab may be written as `\t`.
+pub fn character_asked<'a>(matches: &ArgMatches<'a>, id: &str) -> Option<&'a str> {
+    match matches.get_str(id) {
+        Some("\\t") => Some("\t"),
+        word => word,
+    }
+}
+
 /// How lines are to be sorted. Lines that are equal stand by their bytes, unless they are to stand as they came, or the
 /// first alone counts.
 pub fn sort_request_of(matches: &ArgMatches<'_>) -> SortRequest {

@@ -1,9 +1,10 @@
 //! The commands of the program.
 
+use crate::foreign_options::with_foreign;
 use crate::option_rows::{
     CHECKS, DATA, LOCALES, ORDERS, QUESTIONS, QUIET, SEARCHES, SEPARATORS, SETTINGS, SORTS,
 };
-use crate::option_table::{OptionRow, Takes, option_of, with_options};
+use crate::option_table::{OptionRow, Takes, option_of, with_help, with_options};
 use clap::{Arg, ArgAction, ArgMatches, Command};
 use std::alloc::{AllocError, Global};
 
@@ -88,12 +89,9 @@ fn text_command<'a>(
 ) -> Result<Command<'a>, AllocError> {
     let mut command = command(alloc, name, about)?;
     for text in texts {
-        let word = Arg::new(alloc, *text)
-            .required(true)
-            .allow_hyphen_values(true);
-        command = command.arg(word)?;
+        command = command.arg(Arg::new(alloc, *text).required(true))?;
     }
-    Ok(command)
+    with_help(alloc, command)
 }
 
 /// The files that lines are read from.
@@ -116,13 +114,13 @@ fn line_command<'a>(
 /// The command `sort`.
 fn sort_command<'a>(alloc: Global) -> Result<Command<'a>, AllocError> {
     let command = line_command(alloc, "sort", "Prints the lines of files in order")?;
-    let command = with_options(alloc, command, ORDERS.as_slice())?;
+    let command = with_options(alloc, with_foreign(alloc, command)?, ORDERS.as_slice())?;
     let check = option_of(alloc, CHECK)
         .num_args(0..=1)
         .require_equals(true)
         .default_missing_value("diagnose-first");
     let command = with_options(alloc, command, SORTS.as_slice())?.arg(check)?;
-    with_options(alloc, command, CHECKS.as_slice())
+    with_help(alloc, with_options(alloc, command, CHECKS.as_slice())?)
 }
 
 /// The command `check`.
@@ -132,15 +130,14 @@ fn check_command<'a>(alloc: Global) -> Result<Command<'a>, AllocError> {
         "check",
         "Whether lines are in order: status 1 and the first that isn't, if one isn't",
     )?;
-    let command = with_options(alloc, command, ORDERS.as_slice())?;
-    with_options(alloc, command, QUIET.as_slice())
+    let command = with_options(alloc, with_foreign(alloc, command)?, ORDERS.as_slice())?;
+    with_help(alloc, with_options(alloc, command, QUIET.as_slice())?)
 }
 
 /// The command `search`.
 fn search_command<'a>(alloc: Global) -> Result<Command<'a>, AllocError> {
     let pattern = Arg::new(alloc, "PATTERN")
         .required_unless_present("regexp")?
-        .allow_hyphen_values(true)
         .help("What is searched for: a text, and no regular expression");
     let command = command(
         alloc,
@@ -150,7 +147,14 @@ fn search_command<'a>(alloc: Global) -> Result<Command<'a>, AllocError> {
     .arg(pattern)?
     .arg(files(alloc))?;
     let colour = option_of(alloc, COLOUR).visible_alias("color")?;
-    with_options(alloc, command, SEARCHES.as_slice())?.arg(colour)
+    let command = with_options(alloc, command, SEARCHES.as_slice())?.arg(colour)?;
+    with_help(alloc, command)
+}
+
+/// The command `keys`.
+fn keys_command<'a>(alloc: Global) -> Result<Command<'a>, AllocError> {
+    let about = "Prints each line behind its sort key in hexadecimal digits and a tab";
+    with_help(alloc, line_command(alloc, "keys", about)?)
 }
 
 /// The command `compile`.
@@ -161,7 +165,10 @@ fn compile_command<'a>(alloc: Global) -> Result<Command<'a>, AllocError> {
         )
         .args_override_self(true);
     let command = with_options(alloc, command, DATA.as_slice())?;
-    with_options(alloc, command, LOCALES.as_slice())?.arg(option_of(alloc, OUT).required(true))
+    let command = with_options(alloc, command, LOCALES.as_slice())?.arg(option_of(
+        alloc, OUT,
+    ).required(true))?;
+    with_help(alloc, command)
 }
 
 /// A text that is required.
@@ -189,7 +196,8 @@ pub fn program<'a>(alloc: Global) -> Result<Command<'a>, AllocError> {
         .about(ABOUT)
         .after_help(AFTER);
     let program = with_options(alloc, program, DATA.as_slice())?;
-    with_options(alloc, program, QUESTIONS.as_slice())?
+    let program = with_options(alloc, program, QUESTIONS.as_slice())?;
+    with_help(alloc, program)?
         .subcommand(sort_command(alloc)?)?
         .subcommand(check_command(alloc)?)?
         .subcommand(text_command(
@@ -217,10 +225,6 @@ pub fn program<'a>(alloc: Global) -> Result<Command<'a>, AllocError> {
             "Prints the characters of a text with their collation elements, and its sort key level by level",
             &["TEXT"],
         )?)?
-        .subcommand(line_command(
-            alloc,
-            "keys",
-            "Prints each line behind its sort key in hexadecimal digits and a tab",
-        )?)?
+        .subcommand(keys_command(alloc)?)?
         .subcommand(compile_command(alloc)?)
 }

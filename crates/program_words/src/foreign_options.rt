@@ -1,0 +1,83 @@
+//! Options of GNU `sort` that the program doesn't take. It says what to take in their place, or why there is nothing.
+
+use crate::option_table::{OptionRow, Takes, option_of};
+use clap::{ArgMatches, Command};
+use std::alloc::{AllocError, Global};
+
+/// These options. In the place of help stands what is said of each.
+static FOREIGN: [OptionRow; 8] = [
+    OptionRow {
+        id: "ignore-leading-blanks",
+        letter: Some('b'),
+        takes: Takes::Nothing,
+        help: "-b isn't taken: the letter b of a key passes over blanks, as -k1b does at the beginning of lines",
+    },
+    OptionRow {
+        id: "ignore-case",
+        letter: Some('f'),
+        takes: Takes::Nothing,
+        help: "-f isn't taken: --strength 2 counts accents and not case, and --strength 1 counts letters alone",
+    },
+    OptionRow {
+        id: "dictionary-order",
+        letter: Some('d'),
+        takes: Takes::Nothing,
+        help: "-d isn't taken: --alternate blanked leaves out spaces and punctuation",
+    },
+    OptionRow {
+        id: "numeric-sort",
+        letter: Some('n'),
+        takes: Takes::Nothing,
+        help: "-n isn't taken: -k1n compares the numbers with which lines begin, and --numeric the digits of a text",
+    },
+    OptionRow {
+        id: "human-numeric-sort",
+        letter: Some('h'),
+        takes: Takes::Nothing,
+        help: "-h isn't taken: no collation reads 2K and 1G as numbers, as sort -h does; help is --help",
+    },
+    OptionRow {
+        id: "general-numeric-sort",
+        letter: Some('g'),
+        takes: Takes::Nothing,
+        help: "-g isn't taken: no collation reads 1e9 as a number, as sort -g does; -k1n compares digits and a fraction",
+    },
+    OptionRow {
+        id: "month-sort",
+        letter: Some('M'),
+        takes: Takes::Nothing,
+        help: "-M isn't taken: no collation knows names of months, as sort -M does",
+    },
+    OptionRow {
+        id: "random-sort",
+        letter: Some('R'),
+        takes: Takes::Nothing,
+        help: "-R isn't taken: a collation has one order; shuf puts lines into a random one",
+    },
+];
+
+/// A command that knows the options which it doesn't take. Its help doesn't name them.
+///
+/// # Errors
+///
+/// Fails only where an allocation does.
+pub(crate) fn with_foreign<'a>(
+    alloc: Global,
+    command: Command<'a>,
+) -> Result<Command<'a>, AllocError> {
+    let mut whole = command;
+    for row in FOREIGN.as_slice() {
+        whole = whole.arg(option_of(alloc, *row).hide(true))?;
+    }
+    Ok(whole)
+}
+
+/// What is said of an option of GNU `sort` that words have and that isn't taken, if they have one.
+pub fn foreign_said(matches: &ArgMatches<'_>) -> Option<&'static str> {
+    for row in FOREIGN.as_slice() {
+        if matches.get_flag(row.id) {
+            return Some(row.help);
+        }
+    }
+    None
+}
