@@ -29,7 +29,7 @@ VALUES = {"CollatorBorrowed": "as_borrowed", "Mappings": "mappings", "Overlappin
           "WeightTreeBuilder": "tree"}
 # Programs, and crates of tests: what the driver asks about are libraries.
 OTHERS = {"cldr_collators", "collate", "collate_cldr", "collate_commands", "collate_index", "program_files", "program_words",
-          "sort_names", "test_contracts", DRIVER}
+          "resolve_tags", "sort_names", "test_contracts", DRIVER}
 KEY, CHECK, FILE, READ, LINE, INDEX = "`key`", "`check`", "`root`", "`next` and `whole`", "`line`", "`names`"
 # Calls to which no question comes: each request of this program is refused by itself, and some are made by tests in Rattle alone,
 # without a refusal.
@@ -71,6 +71,10 @@ LEFT_OUT = {
     ("icu_cldr_locales", "LanguageTag::written"): RATTLE,
     ("icu_cldr_locales", "in_case_of"): PROGRAM,
     ("icu_cldr_locales", "CollationName::of_tag"): PROGRAM,
+    ("icu_cldr_locales", "LocaleData::compiled_in"): PROGRAM,
+    ("icu_cldr_locales", "TagRequest::of_tag"): PROGRAM,
+    ("icu_cldr_locales", "resolved"): "the program `resolve_tags`",
+    ("icu_cldr_locales", "tag_text"): PROGRAM,
     ("icu_cldr_locales", "import_tags"): PROGRAM,
     ("icu_cldr_locales", "rules_of_collation"): PROGRAM,
     ("icu_cldr_locales", "with_backward"): PROGRAM,
@@ -215,9 +219,6 @@ LEFT_OUT = {
     ("icu_element_matches", "Text::push"): READ,
     ("icu_element_matches", "decided_front"): READ,
     ("icu_element_matches", "find_match"): READ,
-    ("icu_element_matches", "push_number"): "`weights`",
-    ("icu_element_matches", "push_in_threes"): READ,
-    ("icu_element_matches", "great_bytes"): READ,
     ("icu_key_writers", "BackwardWriter::push"): KEY,
     ("icu_key_writers", "HeldCases::finish"): KEY,
     ("icu_key_writers", "HeldCases::push"): KEY,

@@ -81,10 +81,10 @@ SIGNED = [
     (["-l", "und-u-kb"], "àa aà", "<"),
     # Pairs that ICU's comparison orders otherwise than its keys, or whose canonically equivalent texts it parts: accents from the end, a
     # shifted character before marks, and a composed letter.
-    (["-l", "tc"], "\u0301äB \u0301ää", "<"),
+    (["-l", "th"], "\u0301äB \u0301ää", "<"),
     (["-l", "und", "--alternate=shifted", "--strength=4"], "-\u030e -\u030c", "="),
-    (["-l", "tc-u-co-horned"], "\u01a1\u0302 o\u031b\u0302", "="),
-    (["-l", "tc-u-co-horned"], "\u01a1\u0302 \u01a1", ">"),
+    (["-l", "th-u-co-horned"], "\u01a1\u0302 o\u031b\u0302", "="),
+    (["-l", "th-u-co-horned"], "\u01a1\u0302 \u01a1", ">"),
     # Settings: of options before those of the tag, and those before the rules'.
     (["-l", "da"], "A a", "<"),
     (["-l", "da"], "å z", ">"),
@@ -98,19 +98,81 @@ SIGNED = [
     (["-l", "hr"], "c č", "<"),
     (["-l", "hr"], "č d", "<"),
 ]
+# Names of languages as people and systems write them: the tag that a table file has for each, two texts and the sign.
+WRITTEN = [
+    ("sv_SE", "sv-SE", "å z", ">"),
+    ("sv_SE.UTF-8", "sv-SE", "å z", ">"),
+    ("swe", "swe", "å z", ">"),
+    ("C", "", "å z", "<"),
+    ("C.UTF-8", "", "å z", "<"),
+    ("POSIX", "", "å z", "<"),
+    ("root", "und", "å z", "<"),
+    ("root-u-ks-level1", "und-u-ks-level1", "a A", "="),
+    ("no-nyn", "nn", "ø z", ">"),
+    ("no-bokmal", "no-bokmal", "ø z", ">"),
+    ("zh-yue-HK", "yue-hk", "a z", ">"),
+    ("yue", "yue", "a z", ">"),
+    ("yue-CN", "yue-CN", "b z", ">"),
+    ("yue-CN", "yue-CN", "a z", "<"),
+    ("cmn", "cmn", "b z", ">"),
+    ("zh-US", "zh-US", "a z", ">"),
+    ("zh-840", "zh-840", "a z", ">"),
+    ("zh-Hans-TW", "zh-Hans-TW", "a z", "<"),
+    ("zh-Zzzz-TW", "zh-Zzzz-TW", "a z", ">"),
+    ("zh_Hant", "zh-Hant", "a z", ">"),
+    ("fr-Latn-CA", "fr-Latn-CA", "àa aà", "<"),
+    ("en-US-u-va-posix", "en-US-u-va-posix", "B a", "<"),
+    ("eu_ES", "eu-ES", "å z", "<"),
+    ("gd_GB.UTF-8", "gd-GB", "å z", "<"),
+]
+# What is said of a tag whose order isn't exactly what it asks for, and what is done all the same: two texts and the sign.
+NO_TYPE = "no collation of the type"
+LISTS = "; --list-locales says which there are"
+NOTICES = {
+    "sv-u-co-phonebk": f"{NO_TYPE} phonebk{LISTS}",
+    "sv-u-co-searchjl": f"{NO_TYPE} searchjl{LISTS}",
+    "zh-u-co-private-pinyin": f"{NO_TYPE} private-pinyin{LISTS}",
+    "de-phonebk": "phonebk is a type; write de-u-co-phonebk",
+    "es-trad": "trad is a type; write es-u-co-trad",
+    "xx": "no language of CLDR",
+    "dk": "no language of CLDR: DK is a region, whose language is da",
+    "cz": "no language of CLDR: CZ is a region, whose language is cs",
+    "jp": "no language of CLDR: JP is a region, whose language is ja",
+    "swedish": "no language of CLDR: swedish is the name of a language, whose code is sv",
+}
+NOTICED = [("de-phonebk", "ä ad", "<"), ("es-trad", "a b", "<"), ("xx", "å z", "<"), ("dk", "å z", "<"), ("cz", "å z", "<"), ("jp", "å z", "<"),
+           ("swedish", "å z", "<"), ("zh-u-co-private-pinyin", "a b", "<")]
 # What is said of a file or of rules, behind the folder.
 COLLATION = "/common/collation/"
+# A file of a language's rules, and a relation of each private character of a plane.
+COLLATIONS = """\
+<?xml version="1.0" encoding="UTF-8" ?>
+<!DOCTYPE ldml SYSTEM "../../common/dtd/ldml.dtd">
+<ldml>
+	<identity>
+		<version number="$Revision$"/>
+		<language type="zu"/>
+	</identity>
+	<collations>
+		<collation type="standard"><cr><![CDATA[
+%s
+		]]></cr></collation>
+	</collations>
+</ldml>
+"""
+PLANE = "&a<*\U000F0000-\U000FFFFD"
 REFUSED = [
     ("ta", COLLATION + "ta.xml, collation standard: [import xx-u-co-none]: expected a tag of rules\n"),
     ("ta-u-co-circle", COLLATION + "ta.xml, collation circle: [import ta-u-co-circle]: expected imports that end\n"),
     ("ta-u-co-wrong", COLLATION + "ta.xml, collation wrong: &c <: expected a string after the relation's sign\n"),
-    ("tb", COLLATION + "tb.xml, collation standard: [import ta-u-co-wrong]: expected a string after the relation's sign\n"),
-    ("tb-u-co-unsaid", COLLATION + "tb.xml, collation unsaid: &[before 2]a < b: expected a relation as strong as [before] says\n"),
-    ("xa", COLLATION + "xa.xml: line 2, column 13: the file ends within an element, a tag, a comment or a section\n"),
-    ("xb", COLLATION + "xb.xml: line 1: expected an element of a file of collations, in its place\n"),
+    ("te", COLLATION + "te.xml, collation standard: [import ta-u-co-wrong]: expected a string after the relation's sign\n"),
+    ("te-u-co-unsaid", COLLATION + "te.xml, collation unsaid: &[before 2]a < b: expected a relation as strong as [before] says\n"),
+    ("xh", COLLATION + "xh.xml: line 2, column 13: the file ends within an element, a tag, a comment or a section\n"),
+    ("yo", COLLATION + "yo.xml: line 1: expected an element of a file of collations, in its place\n"),
+    ("zu", COLLATION + f"zu.xml, collation standard: {PLANE}: expected at most 250000 relations, with those of imports\n"),
 ]
-# Files that are cut off, or are of another kind.
-DAMAGED = {"xa": "<ldml>\n\t<collations", "xb": "<ldml><other/></ldml>\n"}
+# Files that are cut off, or are of another kind, and one with 524,272 relations.
+DAMAGED = {"xh": "<ldml>\n\t<collations", "yo": "<ldml><other/></ldml>\n", "zu": COLLATIONS % "\n".join([PLANE] * 8)}
 # Lines of radicals in place of those of the root's file, for a type that stands by them, and what is said of the file.
 RADICALS = [
     ("[radical 1=⼀一 一]\n[radical end]", "line 5: expected `:` before the ideographs of a radical\n"),
@@ -120,10 +182,8 @@ RADICALS = [
     ("[radical 1=⼀一:一\n[radical end]", "line 5: expected `]`\n"),
     ("[radical 1=⼀一:一]", "at the end: expected lines [radical ..] and [radical end]\n"),
 ]
-# Tags that are none.
-NO_TAGS = [
-    ("sv_SE", "locale sv_SE: character 0: expected a language of two, three or five to eight letters\n"),
-    ("sv-u-kn-maybe", "locale sv-u-kn-maybe: expected `kn` with true or false\n"),
+# Groups that are put in no order.
+NO_ORDERS = [
     ("sv-u-kr-xxxx", "locale sv-u-kr-xxxx: kr: expected groups that can be put in this order, each once\n"),
     ("und-u-kr-digit-digit", "locale und-u-kr-digit-digit: kr: expected groups that can be put in this order, each once\n"),
 ]
@@ -153,7 +213,7 @@ ko\tstandard search
 nb\tstandard
 no\tstandard
 ta\tstandard circle wrong
-tb\tstandard unsaid room
+te\tstandard unsaid room
 zh\tpinyin stroke unihan
 zh-Hant\tstroke pinyin unihan
 """.splitlines()
@@ -164,11 +224,18 @@ def run_in(program, words, variables=None, given=b""):
     return Run(ran.returncode, ran.stdout, ran.stderr, None)
 
 
+def said_of(tag):
+    """What is said of a tag on standard error."""
+    return f"collate-cldr: locale {tag}: {NOTICES[tag]}\n".encode() if tag in NOTICES else b""
+
+
 def wrong_signs(program):
     found = []
-    for variables, words, texts, sign in [({}, *it) for it in SIGNED] + ENVIRONMENTS:
-        ran = run_in(program, ["compare", "--cldr", FOLDER, *words, *texts.split(" ")], variables)
-        if ran.came_to() != (SIGNS[sign], f"{sign}\n".encode(), b""):
+    written = [(["-l", name], texts, sign) for name, _, texts, sign in WRITTEN] + [(["-l", tag], texts, sign) for tag, texts, sign in NOTICED]
+    named = [({"LC_ALL": name}, [], texts, sign) for name, _, texts, sign in WRITTEN]
+    for variables, words, texts, sign in [({}, *it) for it in SIGNED + written] + named + ENVIRONMENTS:
+        ran = run_in(program, ["compare", "--cldr", FOLDER, *words, "--", *texts.split(" ")], variables)
+        if ran.came_to() != (SIGNS[sign], f"{sign}\n".encode(), said_of(words[1]) if words else b""):
             found.append(f"{variables} {words} {texts}: {ran}; wanted: {sign}")
     return found
 
@@ -196,14 +263,14 @@ def wrong_refusals(program, room):
     for name, text in DAMAGED.items():
         with open(f"{folder}{COLLATION}{name}.xml", "w", encoding="utf-8") as it:
             it.write(text)
-    for tag, said in [(tag, folder + said) for tag, said in REFUSED] + NO_TAGS:
+    for tag, said in [(tag, folder + said) for tag, said in REFUSED] + NO_ORDERS:
         ran = run_in(program, ["compare", "--cldr", folder, "-l", tag, "a", "b"])
         if ran.came_to() != (3, b"", f"collate-cldr: {said}".encode()):
             found.append(f"{tag}: {ran}; wanted: {said!r}")
     found += wrong_radicals(program, folder)
     os.remove(f"{folder}{COLLATION}root.xml")
     ran = run_in(program, ["compare", "--cldr", folder, "-l", "sv", "a", "b"])
-    if ran.status != 3 or not ran.faults.startswith(f"collate-cldr: {folder}{COLLATION}root.xml: not opened;".encode()):
+    if ran.status != 3 or not ran.faults.startswith(f"collate-cldr: {folder}{COLLATION}root.xml: No such file or directory;".encode()):
         found.append(f"no file of the root: {ran}")
     return found
 
@@ -234,8 +301,9 @@ def wrong_sorts(program):
 
 
 def check_locales(report, room, program):
-    report.say("collate-cldr: languages and their settings", wrong_signs(program), len(SIGNED) + len(ENVIRONMENTS))
-    refusals = len(REFUSED) + len(NO_TAGS) + len(RADICALS) + 1
+    report.say("collate-cldr: languages and their settings", wrong_signs(program),
+               len(SIGNED) + 2 * len(WRITTEN) + len(NOTICED) + len(ENVIRONMENTS))
+    refusals = len(REFUSED) + len(NO_ORDERS) + len(RADICALS) + 1
     report.say("collate-cldr: rules and files that are refused", wrong_refusals(program, room), refusals)
     report.say("collate-cldr: locales that are listed", wrong_lists(program), 1)
     report.say("collate-cldr: lines by languages", wrong_sorts(program), 3)

@@ -6,7 +6,9 @@ import re
 
 from cldr_locales import FOLDER, check_locales
 from csv_commands import check_csv
+from input_files import check_input_files
 from line_commands import check_lines
+from output_files import check_output_files
 from refused_files import check_refused_files
 from shell_jobs import check_shell
 from sorted_lists import check_lists
@@ -15,7 +17,7 @@ from table_commands import check_tables
 
 LETTERS = os.path.join(TOP, "crates", "collate_cldr", "data", "letters.txt")
 NAMES = "b\ná\nA\na\nb\n10\n9\n".encode()
-NO_DATA = b": not opened; Debian's package unicode-cldr-core has it, and --root or --cldr say where it is\n"
+NO_DATA = b": No such file or directory; Debian's package unicode-cldr-core has it, and --root or --cldr say where it is\n"
 
 
 def over(command, strength, *words):
@@ -34,7 +36,7 @@ RUNS = [
     (over("compare", "tertiary", "aB", "ab"), b"", 1, b">\n", b""),
     (over("compare", "1", "as", "às"), b"", 0, b"=\n", b""),
     (["compare", "--root", LETTERS, "ab", "aB"], b"", 1, b"<\n", b""),
-    (["compare", "--root", LETTERS, "-a", "--", "-b"], b"", 1, b"<\n", b""),
+    (["compare", "--root", LETTERS, "--", "-a", "-b"], b"", 1, b"<\n", b""),
     (over("key", "3", "ab"), b"", 0, b"61 10 14 01 06 01 01 06 01\n", b""),
     (over("key", "i", "a"), b"", 0, b"61 10 01 05 01 01 05 01 01 01 01 92\n", b""),
     (over("key", "identical", "a"), b"", 0, b"61 10 01 05 01 01 05 01 01 01 01 92\n", b""),
@@ -78,9 +80,9 @@ RUNS = [
     (over("keys", "1", "-z"), b"b\0", 0, b"6114\tb\0", b""),
     (["sort", "--root", "none"], NAMES, 3, b"", b"collate-cldr: none" + NO_DATA),
     (["sort", "--cldr", "none"], NAMES, 3, b"", b"collate-cldr: none/common/uca/FractionalUCA.txt" + NO_DATA),
-    (over("sort", "3", "absent"), NAMES, 3, b"", b"collate-cldr: absent: not opened\n"),
-    (over("sort", "3", "/"), NAMES, 3, b"", b"collate-cldr: /: read failed\n"),
-    (over("sort", "3", "-o", "/none/out"), NAMES, 3, b"", b"collate-cldr: /none/out.collate-cldr-unfinished: not created\n"),
+    (over("sort", "3", "absent"), NAMES, 3, b"", b"collate-cldr: absent: No such file or directory\n"),
+    (over("sort", "3", "/"), NAMES, 3, b"", b"collate-cldr: /: Is a directory\n"),
+    (over("sort", "3", "-o", "/none/out"), NAMES, 3, b"", b"collate-cldr: /none/out: No such file or directory\n"),
     (["compare", "--cldr", FOLDER, "-l", "und-u-ks-level1", "as", "às"], b"", 0, b"=\n", b""),
     (["compare", "--cldr", FOLDER, "-l", "und-u-ks-level1", "--strength=2", "as", "às"], b"", 1, b"<\n", b""),
     (["compare", "--cldr", FOLDER, "-l", "und-u-kn", "10", "9"], b"", 1, b">\n", b""),
@@ -109,9 +111,10 @@ STREAM_RUNS = [
     (["--help"], ">&-", 3, b"", b"collate-cldr: write failed\n"),
     (["--help"], ">/dev/full", 3, b"", b"collate-cldr: write failed\n"),
     (over("compare", "3", "a", "b"), ">/dev/full", 3, b"", b"collate-cldr: write failed\n"),
-    (SORT, "</", 3, b"", b"collate-cldr: read failed\n"),
-    (SORT, "<&-", 0, b"", b""),
-    (CHECK, "</", 3, b"", b"collate-cldr: read failed\n"),
+    (SORT, "</", 3, b"", b"collate-cldr: standard input: Is a directory\n"),
+    (SORT, "<&-", 3, b"", b"collate-cldr: standard input: Bad file descriptor\n"),
+    (SORT, "0>/dev/null", 3, b"", b"collate-cldr: standard input: Bad file descriptor\n"),
+    (CHECK, "</", 3, b"", b"collate-cldr: standard input: Is a directory\n"),
     (["sort", "--root", "/"], "", 3, b"", b"collate-cldr: /: read failed\n"),
 ]
 
@@ -148,8 +151,7 @@ def options_of_help(program):
     names = re.findall(r"(?m)^  (\w+)", COMMANDS_SAID.search(run(program, ["--help"]).output.decode())[1])
     words = {"none": ["--help"], **{name: [name, "--help"] for name in names if name != "help"}}
     lines = {name: re.findall(r"(?m)^ +((?:-\w, )?--[\w-]+)", run(program, it).output.decode()) for name, it in words.items()}
-    return {(name, it) for name, said in lines.items() for line in said for it in line.split(", ")} - {
-        (name, it) for name in words for it in ("-h", "--help")}
+    return {(name, it) for name, said in lines.items() for line in said for it in line.split(", ") if it != "--help"}
 
 
 def options_of_page(page, commands):
@@ -341,7 +343,8 @@ def wrong_ends(program, room, step=1):
 # ---- each request refused
 
 is_right = says_refusals(
-    "collate-cldr", f"collate-cldr: {LETTERS}: read failed\n".encode(), b"collate-cldr: read failed\n", failed=3, answers=(0, 1)
+    "collate-cldr", f"collate-cldr: {LETTERS}: read failed\n".encode(), b"collate-cldr: standard input: Input/output error\n",
+    b"collate-cldr: standard input: Resource temporarily unavailable\n", failed=3, answers=(0, 1)
 )
 # Of the allocations that read the file, which are the same for each command, one in so many is refused with all after it; by the
 # commands but the first none is, which leaves so many of the last ones.
@@ -409,6 +412,8 @@ def check_collate_cldr(report, room, shim):
     report.say("collate-cldr: other options in the manual page are found", missed, len(others))
     check_locales(report, folder, program)
     check_refused_files(report, folder, program)
+    check_input_files(report, folder, program)
+    check_output_files(report, folder, program, shim)
     check_lines(report, folder, program, LETTERS)
     check_lists(report, folder, program, LETTERS)
     check_csv(report, folder, program, LETTERS)

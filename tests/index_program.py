@@ -108,7 +108,7 @@ def wrong_answers(program, room):
     data = write_labels(os.path.join(room, "data"))
     labels = ("headings", "--cldr", data, "-l")
     wanted = [
-        (("list",), "", 3, "", f"{said}not opened; the command add makes an index\n"),
+        (("list",), "", 3, "", f"{said}No such file or directory; the command add makes an index\n"),
         (("add",), NAMES, 0, "", ""),
         (("list",), "", 0, LISTED, ""),
         (("find", "mu"), "", 0, "mu\t5\nMu\t1\nMU\t4\n", ""),
@@ -159,11 +159,12 @@ def wrong_refusals(program, room):
     faults = [] if index.run("list")[0] == 3 else ["a file that is no database is opened"]
     with open(index.file, "rb") as other:
         faults += [] if other.read() == b"no database" * 1000 else ["a file that is no database is written to"]
-    for words in [[], ["sort"], ["list"], ["find", index.file], ["headings", index.file], ["list", index.file, "x"],
+    for words in [[], ["sort"], ["list"], ["find", index.file], ["headings", index.file], ["list", index.file, "x"], ["-h"],
+                  ["find", index.file, "-x"], ["add", index.file, "-h"], ["between", index.file, "-a", "-b"],
                   ["list", "--strength", "5", index.file]]:
         status = subprocess.run([program, *words], stdin=subprocess.DEVNULL, capture_output=True, check=False).returncode
         faults += [] if status == 2 else [f"{words}: status {status}"]
-    return faults, 9
+    return faults, 13
 
 
 # Commands in turn over one index in the order of a locale, by the rules of small files: words beside the folder, lines, and what each
@@ -193,8 +194,8 @@ OF_LOCALES = [
 REFUSED_LOCALES = [
     (("list", "-l", "x"), "collate-index: locale x: "),
     (("list", "-l", "sv-u-ks-level9"), "collate-index: locale sv-u-ks-level9: "),
-    (("list", "-l", "tb-u-co-unsaid"), f"collate-index: {CLDR}/common/collation/tb.xml, collation unsaid: &[before 2]a < b: "),
-    (("list", "--root", os.path.join(CLDR, "none.txt")), f"collate-index: {CLDR}/none.txt: not opened; "),
+    (("list", "-l", "te-u-co-unsaid"), f"collate-index: {CLDR}/common/collation/te.xml, collation unsaid: &[before 2]a < b: "),
+    (("list", "--root", os.path.join(CLDR, "none.txt")), f"collate-index: {CLDR}/none.txt: No such file or directory; "),
 ]
 
 

@@ -152,16 +152,21 @@ def wrong_searches(program, letters, room):
 def wrong_missing(program, letters, one, two):
     """Searches of files of which one is missing: it is named, and the others are searched; GNU grep ends with its status for that too,
     but where it is quiet and a line was found."""
-    found, said = [], b"collate-cldr: absent: not opened\n"
+    found, said = [], b"collate-cldr: absent: No such file or directory\n"
     rows = [
         (["b", one, "absent", two], 3, f"{one}:b\n{two}:b\n".encode(), said),
         (["c", "absent", two], 3, b"", said),
         (["-q", "b", "absent", two], 0, b"", said),
         (["-q", "b", one, "absent"], 0, b"", b""),
         (["-q", "c", one, "absent"], 3, b"", said),
+        (["-s", "b", one, "absent"], 3, f"{one}:b\n".encode(), b""),
+        (["-H", "a", one], 0, f"{one}:a\n".encode(), b""),
+        (["-h", "b", one, two], 0, b"b\nb\n", b""),
+        (["-L", "a", one, two], 0, f"{two}\n".encode(), b""),
+        (["-L", "c", two], 1, f"{two}\n".encode(), b""),
         (["-e", "a", one], 0, b"a\n", b""),
         (["-e", "a", "-e", "b", one, two], 0, f"{one}:a\n{one}:b\n{two}:b\n".encode(), b""),
-        (["b", "/", two], 3, f"{two}:b\n".encode(), b"collate-cldr: /: read failed\n"),
+        (["b", "/", two], 3, f"{two}:b\n".encode(), b"collate-cldr: /: Is a directory\n"),
     ]
     for words, *wanted in rows:
         ran = run(program, over(letters, "search", "3", *words))

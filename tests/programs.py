@@ -140,7 +140,7 @@ STREAM_RUNS = [
     (KEY, "<&-", 0, b"61 10 14 01 06 01 01 06 01\n", b""),
     (KEY, ">/dev/full", 1, b"", FAILED),
     (KEY, ">&-", 1, b"", FAILED),
-    (SORT, "<&-", 0, b"", b""),
+    (SORT, "<&-", 1, b"", b"collate: read failed\n"),
     (SORT, "</", 1, b"", b"collate: read failed\n"),
     (WRONG, "2>/dev/full", 2, b"", b""),
     (WRONG, "2>&-", 2, b"", b""),

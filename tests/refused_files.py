@@ -6,7 +6,7 @@ import shutil
 from sweeps import ENVIRONMENT, TOP, Run, ended
 
 FOLDER = os.path.join(TOP, "crates", "use_language", "data", "cldr")
-PLACE = os.path.join("common", "collation", "xa.xml")
+PLACE = os.path.join("common", "collation", "xh.xml")
 # Texts that are no document of the subset of XML that is read, with line, column and reason.
 DOCUMENTS = [
     ("", 1, 1, "the file is empty"),
@@ -66,13 +66,14 @@ FILES = [
 TAGS = [
     ("", 0, "expected a language of two, three or five to eight letters"),
     ("d", 0, "expected a language of two, three or five to eight letters"),
-    ("root", 0, "expected a language of two, three or five to eight letters"),
     ("dé", 0, "expected a language of two, three or five to eight letters"),
     ("de-", 3, "expected a subtag that may stand here"),
     ("de--DE", 3, "expected a subtag that may stand here"),
-    ("zh-yue", 3, "expected a subtag that may stand here"),
+    ("sv-SWE", 3, "expected a subtag that may stand here: SWE stands for a region, which is written SE"),
+    ("zh-abc", 3, "expected a subtag that may stand here"),
+    ("norwegian", 0, "expected a language of two, three or five to eight letters: norwegian is the name of a language, whose code is no"),
     ("de-DE-Latn", 6, "expected a subtag that may stand here"),
-    ("de_DE", 0, "expected a language of two, three or five to eight letters"),
+    ("de-DE-DE", 6, "expected a subtag that may stand here"),
     ("de-abcdefghi", 3, "expected a subtag that may stand here"),
     ("de-1996-1996", 8, "expected each variant and each extension once"),
     ("de-u-co-u-kn", 8, "expected each variant and each extension once"),
@@ -91,6 +92,9 @@ TYPES = [
     ("de-u-ka-true", "expected `ka` with noignore or shifted"),
     ("de-u-kb-none", "expected `kb` with true or false"),
     ("de-u-kc-level", "expected `kc` with true or false"),
+    ("de-u-kk-foo", "expected `kk` with true or false"),
+    ("de-u-vt-0024", "`vt` isn't read; write `kv` with space, punct, symbol or currency"),
+    ("de-u-kh", "`kh` isn't read; write `ks` with level4"),
 ]
 # A tag that is read, though a keyword of it stands twice: the first one counts. Digits are then read as numbers.
 TWICE = "de-u-kn-ks-level1-kn-maybe"
@@ -102,12 +106,12 @@ def compared(program, folder, tag, *texts):
     return Run(ran.returncode, ran.stdout, ran.stderr, None)
 
 
-def wrong_runs(program, folder, runs):
+def wrong_runs(program, folder, runs, status):
     """The tags that are refused otherwise than they should be, of pairs of a tag and what is said of it."""
     found = []
     for tag, said in runs:
         ran = compared(program, folder, tag, "a", "b")
-        if ran.came_to() != (3, b"", f"collate-cldr: {said}\n".encode()):
+        if ran.came_to() != (status, b"", f"collate-cldr: {said}\n".encode()):
             found.append(f"{tag!r}: {ran}; wanted: {said!r}")
     return found
 
@@ -120,7 +124,7 @@ def wrong_files(program, folder):
     for text, said in runs:
         with open(path, "w", encoding="utf-8", newline="") as it:
             it.write(text)
-        found += [f"{text!r}: {it}" for it in wrong_runs(program, folder, [("xa", said)])]
+        found += [f"{text!r}: {it}" for it in wrong_runs(program, folder, [("xh", said)], 3)]
     return found
 
 
@@ -128,7 +132,7 @@ def wrong_tags(program, folder):
     """The tags that are refused otherwise than they should be."""
     runs = [(tag, f"locale {tag}: character {place}: {reason}") for tag, place, reason in TAGS]
     runs += [(tag, f"locale {tag}: {reason}") for tag, reason in TYPES]
-    found = wrong_runs(program, folder, runs)
+    found = wrong_runs(program, folder, runs, 2)
     ran = compared(program, folder, TWICE, "a10", "A9")
     return found + [f"{TWICE}: {ran}"] * (ran.came_to() != (1, b">\n", b""))
 

@@ -12,7 +12,7 @@ TESTS = os.path.join(TOP, "tests")
 # How long a run may take.
 SECONDS = 60
 ENVIRONMENT = {"PATH": "/usr/bin:/bin", "LANG": "C.UTF-8"}
-COUNTED = ("allocation", "read", "write", "refused")
+COUNTED = ("allocation", "read", "write", "file", "refused")
 REQUESTS = ["allocation", "read", "write"]
 
 
@@ -71,7 +71,7 @@ class Refused:
 
     def __str__(self):
         how = {"fail": "refused", "signal": "interrupted by a signal", "short": "of one byte",
-               "again": "to be made again"}[self.how]
+               "again": "to be made again", "full": "as on a full disk"}[self.how]
         return f"{self.request} {self.at}{' and each after it' if self.also_after else ''} {how}"
 
 

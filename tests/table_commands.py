@@ -4,7 +4,7 @@ import concurrent.futures
 import os
 import shutil
 
-from cldr_locales import FOLDER, SIGNED, SIGNS
+from cldr_locales import FOLDER, SIGNED, SIGNS, WRITTEN, said_of
 from sweeps import REQUESTS, Refused, faults_of, run, says_refusals, sweep, wrapped
 
 BEGINNING = bytes.fromhex("89434F4C4C0D0A1A")
@@ -28,10 +28,10 @@ ASKED = [
 ]
 
 
-def made(program, path, *words):
+def made(program, path, *words, said=b""):
     """Writes a table file, and returns what is wrong with the run, if anything is."""
     ran = run(program, ["compile", *words, "-o", path])
-    return [] if ran.came_to() == (0, b"", b"") else [f"compile {words}: {ran}"]
+    return [] if ran.came_to() == (0, b"", said) else [f"compile {words}: {ran}"]
 
 
 def origin(path):
@@ -60,15 +60,16 @@ def wrong_answers(program, letters, room):
 
 def wrong_languages(program, room):
     """What files of languages answer otherwise than is wanted of their rules, tags and settings."""
-    found, paths = [], {}
-    for (option, tag, *options), texts, sign in SIGNED:
-        if tag not in paths:
-            paths[tag] = os.path.join(room, f"{tag}.tables")
-            found += made(program, paths[tag], "--cldr", FOLDER, option, tag)
-            found += [f"another origin: {origin(paths[tag])}"] * (origin(paths[tag]) != [tag, "41", "0"])
-        ran = run(program, ["compare", "--tables", paths[tag], *options, *texts.split(" ")])
+    found, paths, tags = [], {}, {name: tag for name, tag, _, _ in WRITTEN}
+    for (option, name, *options), texts, sign in SIGNED + [(["-l", name], texts, sign) for name, _, texts, sign in WRITTEN]:
+        tag = tags.get(name, name)
+        if name not in paths:
+            paths[name] = os.path.join(room, f"{name}.tables")
+            found += made(program, paths[name], "--cldr", FOLDER, option, name, said=said_of(name))
+            found += [f"another origin: {origin(paths[name])}"] * (origin(paths[name]) != [tag, "41", "0"])
+        ran = run(program, ["compare", "--tables", paths[name], *options, "--", *texts.split(" ")])
         if ran.came_to() != (SIGNS[sign], f"{sign}\n".encode(), b""):
-            found.append(f"{tag} {options} {texts}: {ran}; wanted: {sign}")
+            found.append(f"{name} {options} {texts}: {ran}; wanted: {sign}")
     return found
 
 
@@ -105,9 +106,9 @@ def wrong_refusals(program, letters, room):
         ran = run(program, ["sort", "--tables", other], b"b\na\n")
         if ran.came_to() != (3, b"", f"collate-cldr: {other}: {said}\n".encode()):
             found.append(f"{len(text)} bytes of {len(whole)}: {ran}; wanted: {said}")
-    for absent in (os.path.join(room, "absent"), room):
+    for absent, reason in ((os.path.join(room, "absent"), "No such file or directory"), (room, "Is a directory")):
         ran = run(program, ["sort", "--tables", absent], b"b\na\n")
-        if ran.came_to() != (3, b"", f"collate-cldr: {absent}: not read\n".encode()):
+        if ran.came_to() != (3, b"", f"collate-cldr: {absent}: {reason}\n".encode()):
             found.append(f"{absent}: {ran}")
     return found + wrong_words(program, letters, path) + wrong_outputs(program, letters, room, whole)
 
@@ -123,6 +124,7 @@ def wrong_words(program, letters, path):
         (["compile", "--root", letters, "-o", path, "--strength=1"], "--strength"),
         (["compile", "--tables", path, "-o", path], "--tables"),
         (["compile", "--root", letters, "-o", path, "x"], "x"),
+        (["compile", "--cldr", FOLDER, "-l", "xx", "-o", path], "no language of CLDR"),
     ]:
         ran = run(program, words)
         if ran.status != 2 or ran.output or named.encode() not in ran.faults:
@@ -135,10 +137,10 @@ def wrong_outputs(program, letters, room, whole):
     path, found = os.path.join(room, "again.tables"), []
     found += made(program, path, "--root", letters)
     for words, said in [
-        (["--root", "absent", "-o", path], b"collate-cldr: absent: not opened"),
+        (["--root", "absent", "-o", path], b"collate-cldr: absent: No such file or directory"),
         (["--cldr", FOLDER, "-l", "ta", "-o", path], f"collate-cldr: {FOLDER}/common/collation/ta.xml".encode()),
-        (["--root", letters, "-o", "/none/out"], b"collate-cldr: /none/out.collate-cldr-unfinished: not created"),
-        (["--root", letters, "-o", room], f"collate-cldr: {room}: not replaced".encode()),
+        (["--root", letters, "-o", "/none/out"], b"collate-cldr: /none/out: No such file or directory"),
+        (["--root", letters, "-o", room], f"collate-cldr: {room}: Is a directory".encode()),
     ]:
         ran = run(program, ["compile", *words])
         if ran.status != 3 or ran.output or not ran.faults.startswith(said):
@@ -154,7 +156,7 @@ def wrong_versions(program, room):
     folder, found = os.path.join(room, "unversioned"), []
     shutil.copytree(FOLDER, folder)
     file, out = f"{folder}/common/dtd/ldml.dtd", f"{folder}/out"
-    for text, status, said in [(b"41", 0, b""), (b"\xff", 3, f"collate-cldr: {file}: not read\n".encode()), (None, 0, b"")]:
+    for text, status, said in [(b"41", 0, b""), (b"\xff", 3, f"collate-cldr: {file}: stream did not contain valid UTF-8\n".encode()), (None, 0, b"")]:
         os.remove(file)
         if text is not None:
             with open(file, "wb") as it:
@@ -167,6 +169,8 @@ def wrong_versions(program, room):
 
 # ---- each request refused
 
+# What the system says of a write that it refuses.
+REASONS = {"fail": "Input/output error", "again": "Resource temporarily unavailable"}
 # How many of the last allocations are refused with all after them.
 LAST_ONES = 60
 
@@ -193,7 +197,7 @@ def wrong_compile(program, shim, letters, room, at, refused):
     left = os.listdir(folder)
     shutil.rmtree(folder)
     said = {"allocation": b"collate-cldr: no memory\n", "read": f"collate-cldr: {letters}: read failed\n".encode(),
-            "write": b"" if refused.also_after else f"collate-cldr: {path}.collate-cldr-unfinished: write failed\n".encode()}[refused.request]
+            "write": b"" if refused.also_after else f"collate-cldr: {path}: {REASONS[refused.how]}\n".encode() if refused.is_error() else b""}[refused.request]
     is_said = ran.came_to() == (3, b"", said) and not left
     is_made = ran.came_to() == (0, b"", b"") and left == ["out"] and (not refused.is_error() or refused.request == "allocation")
     return [] if is_said and refused.is_error() or is_made else [f"{refused}: {ran}, {left}"]
@@ -213,7 +217,8 @@ def check_refused(report, program, letters, shim, room):
     report.say("collate-cldr: a table file to refuse requests by", made(program, path, "--root", letters), 1)
     count, found = refused_compiles(program, shim, letters, room)
     report.say("collate-cldr: each request refused, compile", found, count)
-    is_right = says_refusals("collate-cldr", f"collate-cldr: {path}: not read\n".encode(), failed=3, answers=(0, 1))
+    read = [f"collate-cldr: {path}: {it}\n".encode() for it in REASONS.values()]
+    is_right = says_refusals("collate-cldr", *read, failed=3, answers=(0, 1))
     words = ["compare", "--tables", path, "ab", "aB"]
     outcomes = sweep(shim, program, words, b"", REQUESTS, is_right, lambda at, count, _: at > count - LAST_ONES)
     report.say("collate-cldr: each request refused, compare --tables", faults_of(outcomes), len(outcomes))

@@ -4,9 +4,7 @@ use crate::asked_locale::AskedLocale;
 use crate::needed_files::{collation_file, files_of_collation};
 use crate::rule_places::{line_at, push_shortened};
 use icu_cldr_files::{FoundCollation, LocaleFile};
-use icu_cldr_locales::locale_rules::{
-    rules_of_collation, taken_collation, with_backward, with_reordering,
-};
+use icu_cldr_locales::locale_rules::{rules_of_collation, with_backward, with_reordering};
 use icu_rule_parser::{Rules, RulesError};
 use program_files::{ProgramError, joined};
 use std::alloc::{AllocError, Global};
@@ -127,8 +125,8 @@ pub fn rules_of<R: Files + AllocGlobal>(
     asked: &AskedLocale,
 ) -> Result<LocaleRules, ProgramError> {
     let alloc = rt.alloc();
-    let files = files_of_collation(rt, folder, &asked.name)?;
-    let (source, text, by_radicals) = match taken_collation(files.as_slice(), &asked.name) {
+    let files = files_of_collation(rt, folder, &asked.request)?;
+    let (source, text, by_radicals) = match asked.request.resolution(files.as_slice()).found {
         Some(found) => (
             source_of(alloc, folder, found)?,
             found.collation.rules.clone()?,

@@ -12,22 +12,26 @@ use icu_cldr_root::{CldrRoot, IdeographOrder, ReadError, read_root_by};
 use icu_collator::Collator;
 use icu_options::Strength;
 use icu_table_entries::{DataError, DataErrorKind};
-use program_files::{ProgramError, refused, refused_by};
+use program_files::{ProgramError, refused, refused_by, refused_by_system};
 use std::alloc::Global;
 use std::fs;
-use std::io::BufReader;
+use std::io::{BufReader, ErrorKind};
 use std::rt::Files;
+
+/// What is said of a file of the root's data that isn't there.
+const NOT_THERE: &str =
+    "No such file or directory; Debian's package unicode-cldr-core has it, and --root or --cldr say where it is";
 
 /// Opens a file of the root's data.
 fn opened<R: Files + AllocGlobal>(rt: &R, file: &str) -> Result<BufReader<R::File>, ProgramError>
     ensures { IfErr result (IsCollatorError (IsSaidOf file.now)) }
 {
-    let Ok(opened) = fs::open(rt, file) else {
-        return Err(refused(
-            rt.alloc(),
-            file,
-            "not opened; Debian's package unicode-cldr-core has it, and --root or --cldr say where it is",
-        ));
+    let opened = match fs::open(rt, file) {
+        Ok(opened) => opened,
+        Err(e) if e.kind() == ErrorKind::NotFound => {
+            return Err(refused(rt.alloc(), file, NOT_THERE));
+        }
+        Err(e) => return Err(refused_by_system(rt.alloc(), file, &e)),
     };
     let Ok(reader) = BufReader::new(rt.alloc(), opened) else {
         return Err(ProgramError::NoMemory);

@@ -2,7 +2,7 @@
 
 use crate::needed_files::add_files;
 use icu_cldr_files::{Collation, LocaleFile, default_type_of, parent_of};
-use program_files::{ProgramError, joined, refused};
+use program_files::{ProgramError, joined, refused_by_system};
 use std::alloc::{AllocError, Global};
 use std::fs;
 use std::rt::Files;
@@ -12,13 +12,15 @@ fn locales_in<R: Files + AllocGlobal + Clone + Drop>(
     rt: &R,
     folder: &str,
 ) -> Result<Vec<String>, ProgramError> {
-    let Ok(entries) = fs::read_dir(rt, folder) else {
-        return Err(refused(rt.alloc(), folder, "not opened"));
+    let entries = match fs::read_dir(rt, folder) {
+        Ok(entries) => entries,
+        Err(e) => return Err(refused_by_system(rt.alloc(), folder, &e)),
     };
     let mut locales = Vec::new(rt.alloc());
     for entry in entries {
-        let Ok(entry) = entry else {
-            return Err(refused(rt.alloc(), folder, "read failed"));
+        let entry = match entry {
+            Ok(entry) => entry,
+            Err(e) => return Err(refused_by_system(rt.alloc(), folder, &e)),
         };
         if let Some(locale) = entry.file_name().strip_suffix(".xml") {
             let locale = locale.to_string(rt.alloc())?;

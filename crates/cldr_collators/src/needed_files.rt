@@ -1,9 +1,10 @@
 //! The files of collations, as far as they are needed.
 
 use icu_cldr_files::{CollationFile, LdmlError, LocaleFile, collation_of, parent_of};
-use icu_cldr_locales::locale_rules::{CollationName, import_tags, taken_collation};
+use icu_cldr_locales::locale_rules::{CollationName, import_tags};
+use icu_cldr_locales::resolution::TagRequest;
 use icu_cldr_locales::{LanguageTag, TagError};
-use program_files::{ProgramError, joined, refused, refused_by};
+use program_files::{ProgramError, joined, refused, refused_by, refused_by_system};
 use std::alloc::{AllocError, Global};
 use std::fs;
 use std::io::{ErrorKind, Read};
@@ -20,13 +21,12 @@ fn text_of_file<R: Files + AllocGlobal>(
     let mut opened = match fs::open(rt, file) {
         Ok(opened) => opened,
         Err(e) if e.kind() == ErrorKind::NotFound => return Ok(None),
-        Err(_) => return Err(refused(rt.alloc(), file, "not opened")),
+        Err(e) => return Err(refused_by_system(rt.alloc(), file, &e)),
     };
     let mut text = String::new(rt.alloc());
     match opened.read_to_string(&mut text) {
         Ok(_) => Ok(Some(text)),
-        Err(e) if e.kind() == ErrorKind::OutOfMemory => Err(ProgramError::NoMemory),
-        Err(_) => Err(refused(rt.alloc(), file, "read failed")),
+        Err(e) => Err(refused_by_system(rt.alloc(), file, &e)),
     }
 }
 
@@ -87,7 +87,7 @@ fn add_file<R: Files + AllocGlobal>(
         None if locale == "root" => Err(refused(
             rt.alloc(),
             path.as_str(),
-            "not opened; Debian's package unicode-cldr-core has it, and --cldr says where it is",
+            "No such file or directory; Debian's package unicode-cldr-core has it, and --cldr says where it is",
         )),
         None => Ok(()),
     }
@@ -134,17 +134,29 @@ fn push_imports(
     Ok(())
 }
 
-/// The files from which the rules of a name come, and those that they import.
+/// The files of the names that a tag asks for, as far as they are there.
+pub(crate) fn files_of_request<R: Files + AllocGlobal>(
+    rt: &R,
+    folder: &str,
+    request: &TagRequest,
+) -> Result<Vec<LocaleFile>, ProgramError> {
+    let mut files = Vec::new(rt.alloc());
+    for name in &request.names {
+        add_file(rt, folder, name.as_str(), &mut files)?;
+    }
+    Ok(files)
+}
+
+/// The files of the names that a tag asks for, and those that the rules of its collation import.
 pub(crate) fn files_of_collation<R: Files + AllocGlobal>(
     rt: &R,
     folder: &str,
-    name: &CollationName,
+    request: &TagRequest,
 ) -> Result<Vec<LocaleFile>, ProgramError> {
-    let mut files = Vec::new(rt.alloc());
-    add_files(rt, folder, name.locale.as_str(), &mut files)?;
+    let mut files = files_of_request(rt, folder, request)?;
     let mut names = Vec::new(rt.alloc());
-    if let Some(taken) = taken_collation(files.as_slice(), name) {
-        push_imports(rt.alloc(), taken.collation.rules.as_str(), &mut names)?;
+    if let Some(found) = request.resolution(files.as_slice()).found {
+        push_imports(rt.alloc(), found.collation.rules.as_str(), &mut names)?;
     }
     for _ in 0..IMPORTS {
         let Some(imported) = names.pop() else {

@@ -6,15 +6,19 @@ pub mod program;
 
 use collate_commands::report;
 use program::{run, wording};
-use program_files::{Input, words};
+use program_files::{ProgramError, are_texts, hold_standard_streams, words};
 use std::process::ExitCode;
 
 fn main(rt: HostRuntime) -> ExitCode {
+    hold_standard_streams(&rt);
     let status = match words(&rt) {
+        Ok(words) if !are_texts(words.as_slice()) => {
+            report(ProgramError::WrongWords, wording(), &mut rt.stderr())
+        }
         Ok(words) => run(
             rt.alloc(),
             words.as_slice(),
-            &mut Input(rt.stdin()),
+            &mut rt.stdin(),
             &mut rt.stdout(),
             &mut rt.stderr(),
         ),

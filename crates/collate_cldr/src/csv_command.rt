@@ -3,16 +3,19 @@
 ghost use Rattle.std.specs.Prelude.{◌≤◌, IfOk};
 
 use crate::asked_collator::collator_by_words;
-use crate::reports::{in_memory, say};
+use crate::asked_output::{output_asked, say_of_input};
+use crate::reports::in_memory;
 use clap::ArgMatches;
 use icu_collator::Collator;
 use line_commands::csv_sorts::{
     CsvError, CsvRequest, column_disorder_text, columns_of_words, csv_delimiter, csv_error_said,
     first_column_disorder, print_sorted_by_columns,
 };
-use program_files::{ProgramError, RunProgress, read_inputs, replace_file};
-use program_words::{files_of, sort_request_of};
+use program_files::{OutputFile, ProgramError, RunProgress, read_input};
+use program_words::{character_asked, files_of, sort_request_of};
+use std::fs::File;
 use std::io::{Read, Write};
+use std::random::RandomSource;
 use std::rt::{Clock, Env, Files};
 
 /// The name of the input, for what is said of it.
@@ -20,6 +23,14 @@ fn source_of<'m, 'a>(matches: &'m ArgMatches<'a>) -> &'m str {
     match files_of(matches) {
         [file, ..] if *file != "-" => file,
         _ => "standard input",
+    }
+}
+
+/// The file that records are read from, or standard input, which has the name `-`.
+fn file_of<'m, 'a>(matches: &'m ArgMatches<'a>) -> &'m str {
+    match files_of(matches) {
+        [file, ..] => file,
+        [] => "-",
     }
 }
 
@@ -33,7 +44,7 @@ fn refused_csv<R: AllocGlobal>(
     csv_error_said(
         rt.alloc(),
         source_of(matches),
-        csv_delimiter(matches.get_str("delimiter")),
+        csv_delimiter(character_asked(matches, "delimiter")),
         text,
         matches.get_strs("column").unwrap_or_default(),
         error,
@@ -49,7 +60,7 @@ fn columns<R: AllocGlobal>(
     let words = matches.get_strs("column").unwrap_or_default();
     match columns_of_words(
         rt.alloc(),
-        csv_delimiter(matches.get_str("delimiter")),
+        csv_delimiter(character_asked(matches, "delimiter")),
         matches.get_flag("header"),
         text,
         words,
@@ -63,7 +74,7 @@ fn columns<R: AllocGlobal>(
 fn csv_request_of<'c>(matches: &ArgMatches<'_>, columns: &'c [usize]) -> CsvRequest<'c> {
     let request = sort_request_of(matches);
     CsvRequest {
-        delimiter: csv_delimiter(matches.get_str("delimiter")),
+        delimiter: csv_delimiter(character_asked(matches, "delimiter")),
         has_header: matches.get_flag("header"),
         columns,
         direction: request.order.direction,
@@ -86,25 +97,32 @@ fn print_csv<R: AllocGlobal, W: Write>(
     }
 }
 
-/// Prints records in order, or writes them to the file that is asked for.
-fn write_sorted_csv<R: Files + AllocGlobal, W: Write>(
+/// Prints records in order, or writes them to a file.
+fn write_sorted_csv<R: Files<File = File> + RandomSource + AllocGlobal, W: Write, E: Write>(
     rt: &R,
     matches: &ArgMatches<'_>,
     collator: &Collator,
     request: CsvRequest<'_>,
     text: &[u8],
+    file: Option<OutputFile<'_>>,
     output: &mut W,
+    errors: &mut E,
 ) -> Result<(), ProgramError> {
-    let Some(file) = matches.get_str("output") else {
+    let Some(file) = file else {
         return print_csv(rt, matches, collator, request, text, output);
     };
     let mut sorted = Vec::with_capacity(rt.alloc(), text.len())?;
     in_memory(print_csv(rt, matches, collator, request, text, &mut sorted))?;
-    replace_file(rt, file, sorted.as_slice())
+    file.write(rt, sorted.as_slice(), output, errors)
 }
 
 /// Prints records of CSV in order, or writes them to the file that is asked for.
-pub(crate) fn sort_csv<R: Files + Env + Clock + AllocGlobal, I: Read, W: Write, E: Write>(
+pub(crate) fn sort_csv<
+    R: Files<File = File> + RandomSource + Env + Clock + AllocGlobal,
+    I: Read,
+    W: Write,
+    E: Write,
+>(
     rt: &R,
     matches: &ArgMatches<'_>,
     progress: &mut RunProgress,
@@ -114,12 +132,15 @@ pub(crate) fn sort_csv<R: Files + Env + Clock + AllocGlobal, I: Read, W: Write, 
 ) -> Result<u8, ProgramError>
     ensures { IfOk result (λ status. status ≤ 3) }
 {
+    let target = output_asked(rt, matches)?;
     let collator = collator_by_words(rt, matches)?;
-    let files = files_of(matches);
-    let bytes = read_inputs(rt, files, b'\n', input, progress, errors)?;
+    let bytes = read_input(rt, file_of(matches), b'\n', input, progress, errors)?;
     let columns = columns(rt, matches, bytes.as_slice())?;
     let request = csv_request_of(matches, columns.as_slice());
-    write_sorted_csv(rt, matches, &collator, request, bytes.as_slice(), output)?;
+    let text = bytes.as_slice();
+    write_sorted_csv(
+        rt, matches, &collator, request, text, target, output, errors,
+    )?;
     Ok(0)
 }
 
@@ -136,8 +157,7 @@ pub(crate) fn check_csv<R: Files + Env + Clock + AllocGlobal, I: Read, E: Write>
     ensures { IfOk result (λ status. status ≤ 3) }
 {
     let collator = collator_by_words(rt, matches)?;
-    let files = files_of(matches);
-    let bytes = read_inputs(rt, files, b'\n', input, progress, errors)?;
+    let bytes = read_input(rt, file_of(matches), b'\n', input, progress, errors)?;
     let columns = columns(rt, matches, bytes.as_slice())?;
     let request = csv_request_of(matches, columns.as_slice());
     let wrong = match first_column_disorder(rt.alloc(), &collator, request, bytes.as_slice()) {
@@ -149,7 +169,7 @@ pub(crate) fn check_csv<R: Files + Env + Clock + AllocGlobal, I: Read, E: Write>
     };
     if !is_quiet {
         let said = column_disorder_text(rt.alloc(), request, bytes.as_slice(), index)?;
-        say(said.as_slice(), errors);
+        say_of_input(rt, matches, said.as_slice(), errors)?;
     }
     Ok(1)
 }

@@ -3,37 +3,43 @@
 ghost use Rattle.std.specs.Prelude.{◌≤◌, IfOk};
 
 use crate::asked_collator::collator_by_words;
-use crate::reports::{DIFFERS, in_memory, say};
+use crate::asked_output::{output_asked, say_of_input};
+use crate::reports::{DIFFERS, in_memory};
 use clap::ArgMatches;
 use icu_collator::Collator;
 use line_commands::field_disorders::first_field_disorder;
 use line_commands::field_sorts::{
     FieldSort, FieldSorts, field_ends, keys_of_words, print_sorted_by_fields,
 };
-use line_commands::{disorder_text, first_disorder, print_sorted};
+use line_commands::{disorder_text, first_disorder, print_sorted, print_text};
 use line_sorts::SortRequest;
-use program_files::{DONE, ProgramError, RunProgress, read_inputs, replace_file};
-use program_words::{files_of, sort_request_of};
+use program_files::{DONE, InputText, OutputFile, ProgramError, RunProgress, read_inputs};
+use program_words::{character_asked, files_of, sort_request_of};
+use std::fs::File;
 use std::io::{Read, Write};
+use std::random::RandomSource;
 use std::rt::{Clock, Env, Files};
 
 /// The fields that lines are sorted by, with these keys.
 fn fields_of<'s>(matches: &ArgMatches<'_>, sorts: &'s [FieldSort]) -> FieldSorts<'s> {
     FieldSorts {
-        ends: field_ends(matches.get_str("field-separator")),
+        ends: field_ends(character_asked(matches, "field-separator")),
         sorts,
     }
 }
 
-/// Prints the lines of an input in order: by the line, or by its fields if keys are asked for.
+/// Prints the lines of an input in order: by the line, or by its fields if keys are asked for. The byte order mark of
+/// the input goes before them.
 fn print_in_order<R: AllocGlobal, W: Write>(
     rt: &R,
     matches: &ArgMatches<'_>,
     collator: &Collator,
-    bytes: &[u8],
+    input: &InputText,
     request: SortRequest,
     output: &mut W,
 ) -> Result<(), ProgramError> {
+    let bytes = input.as_slice();
+    print_text(input.mark(), output)?;
     let Some(words) = matches.get_strs("key") else {
         return print_sorted(rt.alloc(), collator, bytes, request, output);
     };
@@ -42,25 +48,33 @@ fn print_in_order<R: AllocGlobal, W: Write>(
     print_sorted_by_fields(rt.alloc(), collator, fields, bytes, request, output)
 }
 
-/// Prints the lines of an input in order, or writes them to the file that is asked for.
-fn write_sorted<R: Files + AllocGlobal, W: Write>(
+/// Prints the lines of an input in order, or writes them to a file.
+fn write_sorted<R: Files<File = File> + RandomSource + AllocGlobal, W: Write, E: Write>(
     rt: &R,
     matches: &ArgMatches<'_>,
     collator: &Collator,
-    bytes: &[u8],
+    input: &InputText,
     request: SortRequest,
+    file: Option<OutputFile<'_>>,
     output: &mut W,
+    errors: &mut E,
 ) -> Result<(), ProgramError> {
-    let Some(file) = matches.get_str("output") else {
-        return print_in_order(rt, matches, collator, bytes, request, output);
+    let Some(file) = file else {
+        return print_in_order(rt, matches, collator, input, request, output);
     };
+    let bytes = input.as_slice();
     let mut text = Vec::with_capacity(rt.alloc(), bytes.len())?;
-    in_memory(print_in_order(rt, matches, collator, bytes, request, &mut text))?;
-    replace_file(rt, file, text.as_slice())
+    in_memory(print_in_order(rt, matches, collator, input, request, &mut text))?;
+    file.write(rt, text.as_slice(), output, errors)
 }
 
 /// Prints lines in order, or writes them to the file that is asked for.
-pub(crate) fn sort_lines<R: Files + Env + Clock + AllocGlobal, I: Read, W: Write, E: Write>(
+pub(crate) fn sort_lines<
+    R: Files<File = File> + RandomSource + Env + Clock + AllocGlobal,
+    I: Read,
+    W: Write,
+    E: Write,
+>(
     rt: &R,
     matches: &ArgMatches<'_>,
     progress: &mut RunProgress,
@@ -71,8 +85,9 @@ pub(crate) fn sort_lines<R: Files + Env + Clock + AllocGlobal, I: Read, W: Write
     ensures { IfOk result (λ status. status ≤ 3) }
 {
     let request = sort_request_of(matches);
+    let file = output_asked(rt, matches)?;
     let collator = collator_by_words(rt, matches)?;
-    let bytes = read_inputs(
+    let read = read_inputs(
         rt,
         files_of(matches),
         request.separator,
@@ -80,7 +95,7 @@ pub(crate) fn sort_lines<R: Files + Env + Clock + AllocGlobal, I: Read, W: Write
         progress,
         errors,
     )?;
-    write_sorted(rt, matches, &collator, bytes.as_slice(), request, output)?;
+    write_sorted(rt, matches, &collator, &read, request, file, output, errors)?;
     Ok(DONE)
 }
 
@@ -127,7 +142,7 @@ pub(crate) fn check_lines<R: Files + Env + Clock + AllocGlobal, I: Read, E: Writ
     };
     if !is_quiet {
         let said = disorder_text(rt.alloc(), bytes.as_slice(), request, index)?;
-        say(said.as_slice(), errors);
+        say_of_input(rt, matches, said.as_slice(), errors)?;
     }
     Ok(DIFFERS)
 }

@@ -2,6 +2,7 @@
 #![tactic(auto)]
 
 mod asked_collator;
+mod asked_output;
 mod csv_command;
 mod line_orders;
 mod program;
@@ -9,12 +10,13 @@ mod reports;
 mod search_command;
 
 use program::{Terminals, run};
-use program_files::{Input, WatchedOutput, report_failure};
+use program_files::{WatchedOutput, hold_standard_streams, report_failure};
 use reports::WORDING;
 use std::io::IsTerminal;
 use std::process::ExitCode;
 
 fn main(rt: HostRuntime) -> ExitCode {
+    hold_standard_streams(&rt);
     let status = match program_files::words(&rt) {
         Ok(words) => run(
             &rt,
@@ -23,7 +25,7 @@ fn main(rt: HostRuntime) -> ExitCode {
                 output: rt.stdout().is_terminal(),
                 errors: rt.stderr().is_terminal(),
             },
-            Input(rt.stdin()),
+            rt.stdin(),
             &mut WatchedOutput::new(rt.stdout()),
             &mut rt.stderr(),
         ),

@@ -2,7 +2,7 @@
 
 ghost use Rattle.std.specs.Prelude.{◌≤◌, IfOk};
 
-use crate::asked_collator::{collator_by_words, collator_request};
+use crate::asked_collator::{collator_by_words, collator_request, says_wrong_locale};
 use crate::csv_command::{check_csv, sort_csv};
 use crate::line_orders::{check_lines, sort_lines};
 use crate::reports::{DIFFERS, WORDING, report_unless_closed, say};
@@ -14,13 +14,16 @@ use line_commands::csv_sorts::{CsvWords, wrong_csv_words};
 use line_commands::field_sorts::wrong_field_word;
 use line_commands::{print_comparison, print_key, print_keys};
 use program_files::{
-    DONE, ProgramError, RunProgress, WRONG_WORDS, WatchedOutput, read_inputs, replace_file,
-    report_failure, write_text,
+    DONE, ProgramError, RunProgress, WRONG_WORDS, WatchedOutput, open_output, read_inputs,
+    report_failure, text_of_word, write_text,
 };
 use program_words::{
-    CheckWanted, answer_words, check_of, files_of, program, separator_of, text_of,
+    CheckWanted, answer_words, character_asked, check_of, files_of, foreign_said, program,
+    separator_of, text_of,
 };
+use std::fs::File;
 use std::io::{Read, Write};
+use std::random::RandomSource;
 use std::rt::{Clock, Env, Files};
 use text_reasons::order_reasons::{print_explanation, print_reason};
 
@@ -82,16 +85,19 @@ fn print_versions<R: Files + Env + AllocGlobal, W: Write>(
 }
 
 /// Writes the tables that words ask for to a file.
-fn compile<R: Files + Env + AllocGlobal>(
+fn compile<R: Files<File = File> + RandomSource + Env + AllocGlobal, W: Write, E: Write>(
     rt: &R,
     matches: &ArgMatches<'_>,
+    output: &mut W,
+    errors: &mut E,
 ) -> Result<u8, ProgramError>
     ensures { IfOk result (λ status. status ≤ 3) }
 {
+    let file = open_output(rt, text_of(matches, "output"))?;
     let request = collator_request(rt, matches)?;
     let cldr = version_of_data(rt, matches)?;
     let bytes = compiled_tables(rt, &request, cldr.as_str())?;
-    replace_file(rt, text_of(matches, "output"), bytes.as_slice())?;
+    file.write(rt, bytes.as_slice(), output, errors)?;
     Ok(DONE)
 }
 
@@ -105,9 +111,13 @@ fn says_wrong_words<R: AllocGlobal, E: Write>(
     matches: &ArgMatches<'_>,
     errors: &mut E,
 ) -> Result<bool, ProgramError> {
+    if let Some(said) = foreign_said(matches) {
+        say(said.as_bytes(), errors);
+        return Ok(true);
+    }
     let keys = matches.get_strs("key");
     let words = keys.unwrap_or_default();
-    let separator = matches.get_str("field-separator");
+    let separator = character_asked(matches, "field-separator");
     if let Some(word) = wrong_field_word(separator, words, matches.get_flag("reverse")) {
         let text = format!(in rt.alloc();
             "'{word}' is no key F[.C][bnr][,F[.C][bnr]] and no separator of one character of ASCII; --help says more"
@@ -124,7 +134,7 @@ fn says_wrong_words<R: AllocGlobal, E: Write>(
         is_csv,
         has_header: matches.get_flag("header"),
         columns: matches.get_strs("column").unwrap_or_default(),
-        delimiter: matches.get_str("delimiter"),
+        delimiter: character_asked(matches, "delimiter"),
         files: files_of(matches).len(),
         is_zero_terminated: matches.get_flag("zero-terminated"),
     };
@@ -138,7 +148,12 @@ fn says_wrong_words<R: AllocGlobal, E: Write>(
 }
 
 /// Sorts or checks lines, or records of CSV.
-fn order_asked<R: Files + Env + Clock + AllocGlobal, I: Read, W: Write, E: Write>(
+fn order_asked<
+    R: Files<File = File> + RandomSource + Env + Clock + AllocGlobal,
+    I: Read,
+    W: Write,
+    E: Write,
+>(
     rt: &R,
     matches: &ArgMatches<'_>,
     check: CheckWanted,
@@ -171,8 +186,9 @@ fn compare<R: Files + Env + AllocGlobal, W: Write>(
     ensures { IfOk result (λ status. status ≤ 3) }
 {
     let collator = collator_by_words(rt, matches)?;
-    let left = text_of(matches, "A");
-    let right = text_of(matches, "B");
+    let left = text_of_word(rt.alloc(), text_of(matches, "A"))?;
+    let right = text_of_word(rt.alloc(), text_of(matches, "B"))?;
+    let (left, right) = (left.as_str(), right.as_str());
     let is_equal = if name == "why" {
         print_reason(rt.alloc(), &collator, left, right, output)?
     } else {
@@ -191,11 +207,11 @@ fn show<R: Files + Env + AllocGlobal, W: Write>(
     ensures { IfOk result (λ status. status ≤ 3) }
 {
     let collator = collator_by_words(rt, matches)?;
-    let text = text_of(matches, "TEXT");
+    let text = text_of_word(rt.alloc(), text_of(matches, "TEXT"))?;
     if name == "explain" {
-        print_explanation(rt.alloc(), &collator, text, output)?;
+        print_explanation(rt.alloc(), &collator, text.as_str(), output)?;
     } else {
-        print_key(rt.alloc(), &collator, text, output)?;
+        print_key(rt.alloc(), &collator, text.as_str(), output)?;
     }
     Ok(DONE)
 }
@@ -229,7 +245,12 @@ pub(crate) struct Terminals {
 }
 
 /// What a command does, by its name and what was matched behind it.
-fn run_command<R: Files + Env + Clock + AllocGlobal, I: Read + Drop, W: Write, E: Write>(
+fn run_command<
+    R: Files<File = File> + RandomSource + Env + Clock + AllocGlobal,
+    I: Read + Drop,
+    W: Write,
+    E: Write,
+>(
     rt: &R,
     name: &str,
     matches: &ArgMatches<'_>,
@@ -240,6 +261,9 @@ fn run_command<R: Files + Env + Clock + AllocGlobal, I: Read + Drop, W: Write, E
 ) -> Result<u8, ProgramError>
     ensures { IfOk result (λ status. status ≤ 3) }
 {
+    if says_wrong_locale(rt, name, matches, errors)? {
+        return Ok(WRONG_WORDS);
+    }
     let mut progress = RunProgress::new(rt, WORDING.prefix, terminals.errors);
     match name {
         "sort" | "check" => {
@@ -274,7 +298,7 @@ fn run_command<R: Files + Env + Clock + AllocGlobal, I: Read + Drop, W: Write, E
             )
         }
         "key" | "explain" => show(rt, name, matches, output),
-        "compile" => compile(rt, matches),
+        "compile" => compile(rt, matches, output, errors),
         _ => keys(rt, matches, &mut progress, &mut input, output, errors),
     }
 }
@@ -292,7 +316,7 @@ const NO_COMMAND: &str = "no command; --help says which there are";
 ///
 /// A failed write to `errors` changes no status.
 pub(crate) fn run<
-    R: Files + Env + Clock + AllocGlobal + Clone + Drop,
+    R: Files<File = File> + RandomSource + Env + Clock + AllocGlobal + Clone + Drop,
     I: Read + Drop,
     W: Write,
     E: Write,

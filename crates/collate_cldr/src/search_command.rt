@@ -12,7 +12,7 @@ use line_searches::{
     SearchRequest, Shown, Wanted, count_wanted, name_and, prefix_of, print_count, print_wanted,
     shown_name,
 };
-use program_files::{ProgramError, RunProgress, read_input, report_failure};
+use program_files::{ProgramError, RunProgress, bytes_of_word, read_input, report_failure};
 use program_words::{patterns_of, searched_files, separator_of};
 use std::alloc::{AllocError, Global};
 use std::io::{Read, Write};
@@ -30,9 +30,12 @@ fn search_bytes<R: AllocGlobal, W: Write>(
 ) -> Result<bool, ProgramError> {
     let alloc = rt.alloc();
     let is_quiet = matches.get_flag("quiet");
-    if is_quiet || matches.get_flag("files-with-matches") {
+    let lists_found = matches.get_flag("files-with-matches");
+    let lists_others = matches.get_flag("files-without-match");
+    if is_quiet || lists_found || lists_others {
         let is_found = count_wanted(alloc, searchers, bytes, request)? > 0;
-        if is_found && !is_quiet {
+        let is_listed = lists_found && is_found || lists_others && !is_found;
+        if is_listed && !is_quiet {
             print_text(name_and(alloc, name, b'\n')?.as_slice(), output)?;
         }
         return Ok(is_found);
@@ -68,7 +71,8 @@ impl Found {
     }
 }
 
-/// Searches an input by its name, and returns whether lines were found, or `None` where it isn't read: that is said.
+/// Searches an input by its name, and returns whether lines were found, or `None` where it isn't read: that is said,
+/// unless it isn't to be.
 fn search_input<R: Files + Clock + AllocGlobal, I: Read, W: Write, E: Write>(
     rt: &R,
     matches: &ArgMatches<'_>,
@@ -84,7 +88,9 @@ fn search_input<R: Files + Clock + AllocGlobal, I: Read, W: Write, E: Write>(
         Ok(bytes) => bytes,
         Err(ProgramError::NoMemory) => return Err(ProgramError::NoMemory),
         Err(error) => {
-            let _ = report_failure(error, WORDING, errors);
+            if !matches.get_flag("no-messages") {
+                let _ = report_failure(error, WORDING, errors);
+            }
             return Ok(None);
         }
     };
@@ -98,6 +104,11 @@ fn search_input<R: Files + Clock + AllocGlobal, I: Read, W: Write, E: Write>(
         output,
     )?;
     Ok(Some(found))
+}
+
+/// Whether the name of its input stands before each line: where words say so, or else where there are several inputs.
+fn are_named(matches: &ArgMatches<'_>, files: &[&str]) -> bool {
+    !matches.get_flag("no-filename") && (files.len() > 1 || matches.get_flag("with-filename"))
 }
 
 /// Searches inputs one after another. One that isn't read is named, and the others are searched. Where nothing is
@@ -118,7 +129,7 @@ fn search_inputs<R: Files + Clock + AllocGlobal, I: Read, W: Write, E: Write>(
         is_unread: false,
     };
     for file in files {
-        let prefix = prefix_of(rt.alloc(), file, files.len() > 1)?;
+        let prefix = prefix_of(rt.alloc(), file, are_named(matches, files))?;
         let named = SearchRequest {
             prefix: prefix.as_slice(),
             ..request
@@ -144,7 +155,8 @@ fn searchers_of<'c>(
 ) -> Result<Vec<Searcher<'c>>, AllocError> {
     let mut searchers = Vec::new(alloc);
     for pattern in patterns {
-        searchers.push(Searcher::new(alloc, collator, pattern)?)?;
+        let bytes = bytes_of_word(alloc, pattern)?;
+        searchers.push(Searcher::new_utf8(alloc, collator, bytes.as_slice())?)?;
     }
     Ok(searchers)
 }

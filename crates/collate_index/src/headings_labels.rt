@@ -3,8 +3,7 @@
 use crate::named_collator::named_locale;
 use clap::ArgMatches;
 use icu_cldr_files::index_labels::{LabelsError, read_index_labels};
-use icu_cldr_files::parent_of;
-use program_files::{ProgramError, joined, refused, refused_by};
+use program_files::{ProgramError, joined, refused, refused_by, refused_by_system};
 use std::alloc::{AllocError, Global};
 use std::fs;
 use std::io::{ErrorKind, Read};
@@ -27,13 +26,12 @@ fn text_if_there<R: Files + AllocGlobal>(
     let mut opened = match fs::open(rt, file) {
         Ok(opened) => opened,
         Err(e) if e.kind() == ErrorKind::NotFound => return Ok(None),
-        Err(_) => return Err(refused(rt.alloc(), file, "not opened")),
+        Err(e) => return Err(refused_by_system(rt.alloc(), file, &e)),
     };
     let mut text = String::new(rt.alloc());
     match opened.read_to_string(&mut text) {
         Ok(_) => Ok(Some(text)),
-        Err(e) if e.kind() == ErrorKind::OutOfMemory => Err(ProgramError::NoMemory),
-        Err(_) => Err(refused(rt.alloc(), file, "read failed")),
+        Err(e) => Err(refused_by_system(rt.alloc(), file, &e)),
     }
 }
 
@@ -60,26 +58,22 @@ fn file_of(alloc: Global, folder: &str, locale: &str) -> Result<String, AllocErr
     Ok(file)
 }
 
-/// The labels of a locale: those of its file, or of the first one of its parents that says some.
+/// The labels of a locale, which a word asks for: those of the first of its files that says some.
 fn labels_of_locale<R: Files + AllocGlobal>(
     rt: &R,
     folder: &str,
-    locale: &str,
+    word: &str,
+    names: &[String],
 ) -> Result<Vec<String>, ProgramError> {
-    let mut at = Some(locale);
-    for _ in 0..=locale.len() + 2 {
-        let Some(name) = at else {
-            break;
-        };
-        let file = file_of(rt.alloc(), folder, name)?;
+    for name in names {
+        let file = file_of(rt.alloc(), folder, name.as_str())?;
         if let Some(labels) = labels_in(rt, file.as_str())? {
             return Ok(labels);
         }
-        at = parent_of(name);
     }
     Err(refused(
         rt.alloc(),
-        locale,
+        word,
         "no labels; the folder of CLDR's data has none for this locale",
     ))
 }
@@ -99,6 +93,7 @@ pub(crate) fn labels_asked<R: Files + Env + AllocGlobal>(
     labels_of_locale(
         rt,
         locale.folder.as_str(),
-        locale.asked.name.locale.as_str(),
+        locale.asked.word.as_str(),
+        locale.asked.request.names.as_slice(),
     )
 }

@@ -1,7 +1,7 @@
 //! The words of the program.
 
 use clap::{Arg, Command};
-use program_words::{HANDLINGS, OptionRow, STRENGTHS, Takes, option_of, with_options};
+use program_words::{HANDLINGS, OptionRow, STRENGTHS, Takes, option_of, with_help, with_options};
 use std::alloc::{AllocError, Global};
 
 const ABOUT: &str =
@@ -87,7 +87,7 @@ const LABELS: OptionRow = OptionRow {
 
 /// A word that is asked for.
 fn asked<'a>(alloc: Global, id: &'a str) -> Arg<'a> {
-    Arg::new(alloc, id).required(true).allow_hyphen_values(true)
+    Arg::new(alloc, id).required(true)
 }
 
 /// A command over a database.
@@ -95,7 +95,10 @@ fn command<'a>(alloc: Global, name: &'a str, about: &'a str) -> Result<Command<'
     let command = Command::new(alloc, name)
         .about(about)
         .args_override_self(true);
-    with_options(alloc, command, OPTIONS.as_slice())?.arg(Arg::new(alloc, "FILE").required(true))
+    let command = with_options(alloc, command, OPTIONS.as_slice())?.arg(Arg::new(
+        alloc, "FILE",
+    ).required(true))?;
+    with_help(alloc, command)
 }
 
 /// The command `add`.
@@ -105,7 +108,7 @@ fn add_command<'a>(alloc: Global) -> Result<Command<'a>, AllocError> {
         "add",
         "Adds a name, or the names of standard input, all or none",
     )?
-    .arg(Arg::new(alloc, "NAME").allow_hyphen_values(true))?
+    .arg(Arg::new(alloc, "NAME"))?
     .arg(option_of(alloc, PAYLOAD))
 }
 
@@ -128,11 +131,12 @@ fn headings_command<'a>(alloc: Global) -> Result<Command<'a>, AllocError> {
 
 /// The whole of the words that the program takes.
 pub(crate) fn index_words<'a>(alloc: Global) -> Result<Command<'a>, AllocError> {
-    Command::new(alloc, "collate-index")
+    let program = Command::new(alloc, "collate-index")
         .no_binary_name(true)
         .bin_name("collate-index")?
         .about(ABOUT)
-        .after_help(AFTER)
+        .after_help(AFTER);
+    with_help(alloc, program)?
         .subcommand(add_command(alloc)?)?
         .subcommand(command(alloc, "remove", "Removes a name")?.arg(asked(alloc, "NAME"))?)?
         .subcommand(command(alloc, "list", "Prints all names in order")?)?

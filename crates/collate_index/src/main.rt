@@ -12,15 +12,19 @@ mod outcome;
 mod refusals;
 
 use one_run::{WORDING, run};
-use program_files::{Input, report_failure};
+use program_files::{ProgramError, are_texts, hold_standard_streams, report_failure};
 use std::process::ExitCode;
 
 fn main(rt: HostRuntime) -> ExitCode {
+    hold_standard_streams(&rt);
     let status = match program_files::words(&rt) {
+        Ok(words) if !are_texts(words.as_slice()) => {
+            report_failure(ProgramError::WrongWords, WORDING, &mut rt.stderr())
+        }
         Ok(words) => run(
             &rt,
             words.as_slice(),
-            &mut Input(rt.stdin()),
+            &mut rt.stdin(),
             &mut rt.stdout(),
             &mut rt.stderr(),
         ),

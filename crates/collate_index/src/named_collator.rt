@@ -1,22 +1,12 @@
 //! The collator that options ask for, with its fingerprint.
 
 use clap::ArgMatches;
-use cldr_collators::asked_locale::asked_by;
+use cldr_collators::asked_locale::locale_of_word;
 use cldr_collators::made_collator::{CollatorRequest, PlacedLocale, made_collator};
 use cldr_collators::{Chosen, SettingWords, cldr_folder, root_file, strength_by_word};
 use icu_index_store::PrintedCollator;
 use program_files::ProgramError;
-use std::alloc::{AllocError, Global};
 use std::rt::{Env, Files};
-
-/// The tag of a locale that may be named as CLDR's files are: `zh_Hant` is `zh-Hant`.
-fn tag_named(alloc: Global, name: &str) -> Result<String, AllocError> {
-    let mut tag = String::new(alloc);
-    for c in name.chars() {
-        tag.push(if c == '_' { '-' } else { c })?;
-    }
-    Ok(tag)
-}
 
 /// The locale that words name, by its tag or as CLDR's files are named, if they name one.
 pub(crate) fn named_locale<R: Env + AllocGlobal>(
@@ -26,8 +16,10 @@ pub(crate) fn named_locale<R: Env + AllocGlobal>(
     let Some(name) = matches.get_str("locale") else {
         return Ok(None);
     };
+    let Some(asked) = locale_of_word(rt.alloc(), name)? else {
+        return Ok(None);
+    };
     let folder = cldr_folder(rt, matches.get_str("cldr"))?;
-    let asked = asked_by(rt.alloc(), tag_named(rt.alloc(), name)?)?;
     Ok(Some(PlacedLocale { folder, asked }))
 }
 

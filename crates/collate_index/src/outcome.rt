@@ -10,11 +10,11 @@ use crate::named_collator::named_collator;
 use crate::refusals::{refused_database, unopened};
 use clap::ArgMatches;
 use icu_index_store::{PrintedCollator, StoredIndex, open, rebuild};
-use program_files::{DONE, ProgramError, refused, write_text};
+use program_files::{DONE, ProgramError, refused, refused_by_system, write_text};
 use program_words::text_of;
 use sqlite::{Alter, Connection, Error, File, FileStore};
 use std::fs;
-use std::io::{Read, Write};
+use std::io::{ErrorKind, Read, Write};
 
 /// There is no such name.
 const NO_NAME: u8 = 1;
@@ -141,18 +141,23 @@ fn outcome<S: Alter>(
     }
 }
 
+/// What is said of an index that isn't there.
+const NO_INDEX: &str = "No such file or directory; the command add makes an index";
+
 /// Opens a database. A file that isn't there is made for names that are added, and refused otherwise.
 fn connect(
     rt: &HostRuntime,
     name: &str,
     file: &str,
 ) -> Result<Connection<FileStore<File>>, ProgramError> {
-    if name != "add" && fs::open(rt, file).is_err() {
-        return Err(refused(
-            rt.alloc(),
-            file,
-            "not opened; the command add makes an index",
-        ));
+    if name != "add"
+        && let Err(e) = fs::open(rt, file)
+    {
+        return Err(if e.kind() == ErrorKind::NotFound {
+            refused(rt.alloc(), file, NO_INDEX)
+        } else {
+            refused_by_system(rt.alloc(), file, &e)
+        });
     }
     match Connection::open(rt, file) {
         Ok(connection) => Ok(connection),

@@ -1,5 +1,6 @@
 //! The names of inputs, as they stand before lines.
 
+use program_files::bytes_of_word;
 use std::alloc::{AllocError, Global};
 
 /// The name of standard input, where it stands before lines.
@@ -10,13 +11,13 @@ pub fn shown_name<'f>(file: &'f str) -> &'f str {
     if file == "-" { STANDARD } else { file }
 }
 
-/// A name, and a byte behind it.
+/// The bytes of a name, and a byte behind it.
 ///
 /// # Errors
 ///
 /// Fails only where an allocation does.
 pub fn name_and(alloc: Global, name: &str, behind: u8) -> Result<Vec<u8>, AllocError> {
-    let mut text = Vec::from_slice(alloc, name.as_bytes())?;
+    let mut text = bytes_of_word(alloc, name)?;
     text.push(behind)?;
     Ok(text)
 }

@@ -1,6 +1,6 @@
 //! The version of CLDR's data.
 
-use program_files::{ProgramError, joined, refused};
+use program_files::{ProgramError, joined, refused_by_system};
 use std::fs;
 use std::io::ErrorKind;
 use std::rt::Files;
@@ -28,8 +28,7 @@ pub fn cldr_version<R: Files + AllocGlobal>(rt: &R, folder: &str) -> Result<Stri
     let text = match fs::read_to_string(rt, file.as_str()) {
         Ok(text) => text,
         Err(e) if e.kind() == ErrorKind::NotFound => return Ok(String::new(rt.alloc())),
-        Err(e) if e.kind() == ErrorKind::OutOfMemory => return Err(ProgramError::NoMemory),
-        Err(_) => return Err(refused(rt.alloc(), file.as_str(), "not read")),
+        Err(e) => return Err(refused_by_system(rt.alloc(), file.as_str(), &e)),
     };
     match version_in(text.as_str()) {
         Some(version) => Ok(version.to_string(rt.alloc())?),

@@ -5,25 +5,23 @@ ghost use Rattle.icu_table_provider.specs.well_formed.WellFormedTables.{IsWellFo
 ghost use Rattle.icu_collator.specs.Collators.{tables_kept};
 
 use crate::Chosen;
-use crate::asked_locale::asked_by;
+use crate::asked_locale::settings_of_word;
 use crate::file_source::error_of;
 use crate::made_collator::with_tag;
 use icu_cldr_locales::TagSettings;
 use icu_collator::Collator;
 use icu_options::Strength;
 use icu_table_files::{TableFile, TableFileError};
-use program_files::{ProgramError, refused, refused_by};
+use program_files::{ProgramError, refused_by, refused_by_system};
 use std::alloc::Global;
 use std::fs;
-use std::io::ErrorKind;
 use std::rt::Files;
 
 /// The bytes of a file.
 fn file_bytes<R: Files + AllocGlobal>(rt: &R, file: &str) -> Result<Vec<u8>, ProgramError> {
     match fs::read(rt, file) {
         Ok(bytes) => Ok(bytes),
-        Err(e) if e.kind() == ErrorKind::OutOfMemory => Err(ProgramError::NoMemory),
-        Err(_) => Err(refused(rt.alloc(), file, "not read")),
+        Err(e) => Err(refused_by_system(rt.alloc(), file, &e)),
     }
 }
 
@@ -40,8 +38,7 @@ fn table_file<R: Files + AllocGlobal>(rt: &R, file: &str) -> Result<TableFile, P
 /// What the keywords of a file's tag set.
 fn tag_settings(alloc: Global, tag: &str) -> Result<TagSettings, ProgramError> {
     let word = if tag.is_empty() { "und" } else { tag };
-    let asked = asked_by(alloc, word.to_string(alloc)?)?;
-    Ok(asked.settings)
+    settings_of_word(alloc, word)
 }
 
 /// A collator by the tables of a file, with the chosen settings.
