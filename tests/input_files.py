@@ -2,7 +2,7 @@
 characters or are long, byte order marks, and words that are no options."""
 import os
 
-from sweeps import TOP, Run, run
+from sweeps import TOP, run, wrong_over
 
 LETTERS = os.path.join(TOP, "crates", "collate_cldr", "data", "letters.txt")
 MARK = b"\xef\xbb\xbf"
@@ -10,15 +10,6 @@ MARK = b"\xef\xbb\xbf"
 
 def over(command, *words):
     return [command, "--root", LETTERS, *words]
-
-
-def wrong_of(program, rows):
-    found = []
-    for words, given, *wanted in rows:
-        ran = run(program, words, given)
-        if ran.came_to() != tuple(wanted):
-            found.append(f"{words}: {ran}; wanted: {Run(*wanted, None)}")
-    return found
 
 
 def names(folder):
@@ -97,12 +88,12 @@ def wrong_options(program):
         (over("search", "-e", "-x"), b"-x\n", 0, b"-x\n", b""),
         (over("key", "--strength=1", "--", "-"), b"", 0, run(program, over("key", "--strength=1", "-")).output, b""),
     ]
-    return found + wrong_of(program, rows)
+    return found + wrong_over(program, rows)
 
 
 def check_input_files(report, room, program):
     folder = os.path.join(room, "inputs")
     os.mkdir(folder)
-    report.say("collate-cldr: names of all kinds", wrong_of(program, names(folder)), 1)
-    report.say("collate-cldr: byte order marks", wrong_of(program, marks(folder)), 1)
+    report.say("collate-cldr: names of all kinds", wrong_over(program, names(folder)), 1)
+    report.say("collate-cldr: byte order marks", wrong_over(program, marks(folder)), 1)
     report.say("collate-cldr: words that are no options", wrong_options(program), len(NO_OPTIONS))

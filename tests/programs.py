@@ -32,7 +32,7 @@ from reads import check_reads
 from refusals import check_refusals, driver_is_right, other_answers_missed
 from rows import check_rows
 from settings_pairs import check_settings
-from sweeps import REQUESTS, TESTS, Run, built, faults_of, losses_missed, run, run_on_streams, says_refusals, sweep, wrapped
+from sweeps import REQUESTS, TESTS, Run, built, faults_of, losses_missed, run, run_on_streams, says_refusals, sweep, wrapped, wrong_over
 from timed_files import check_files
 from vendored import check_vendor
 
@@ -162,15 +162,6 @@ def wrong_runs(program, runs):
     return found
 
 
-def wrong_sorts(program, runs):
-    found = []
-    for words, given, *wanted in runs:
-        ran = run(program, words, given)
-        if ran.came_to() != tuple(wanted):
-            found.append(f"{words} of {given[:40]}: {ran}; wanted: {Run(*wanted, None)}")
-    return found
-
-
 def wrong_streams(program, runs):
     found = []
     for words, redirections, *wanted in runs:
@@ -228,7 +219,7 @@ ENDLESS, BRIEFLY = '"$COLLATE" 600; exit 0', 0.2
 # Checks that such a program may neither pass nor end by a fault of their own.
 ENDLESS_CHECKS = {
     "runs": lambda _, endless: wrong_runs(endless, COLLATE_RUNS[:1]),
-    "sorts": lambda _, endless: wrong_sorts(endless, SORT_RUNS[:1]),
+    "sorts": lambda _, endless: wrong_over(endless, SORT_RUNS[:1]),
     "streams": lambda _, endless: wrong_streams(endless, STREAM_RUNS[:1]),
     "refused requests": lambda shim, endless: faults_of(sweep(shim, endless, [], b"", REQUESTS, collate_is_right)),
     "losses": lambda shim, endless: losses_missed([], run(endless, [], shim=shim), collate_is_right),
@@ -305,7 +296,7 @@ def check_collate(report, room, shim):
     program = built("collate")
     for what, wanted in RUNS.items():
         report.say(f"collate: {what}", wrong_runs(program, wanted), len(wanted))
-    report.say("collate: sorts", wrong_sorts(program, SORT_RUNS), len(SORT_RUNS))
+    report.say("collate: sorts", wrong_over(program, SORT_RUNS), len(SORT_RUNS))
     report.say("collate: closed and full streams", wrong_streams(program, STREAM_RUNS), len(STREAM_RUNS))
     report.say("collate: programs with a fault are found", faults_missed(room, program), len(FAULTY))
     for what, words, given, requests in [

@@ -125,6 +125,16 @@ def run_on_streams(program, words, redirections):
 # ---- each request of a run refused in turn
 
 
+def wrong_over(program, rows):
+    """The runs over an input that came to something else than is wanted, as lines."""
+    found = []
+    for words, given, *wanted in rows:
+        ran = run(program, words, given)
+        if ran.came_to() != tuple(wanted):
+            found.append(f"{words} of {given[:40]}: {ran}; wanted: {Run(*wanted, None)}")
+    return found
+
+
 def is_beginning(text, whole):
     return whole[: len(text)] == text
 
