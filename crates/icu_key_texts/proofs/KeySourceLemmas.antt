@@ -13,7 +13,7 @@ pub one_given : (before after : List HandledElement) (o : Option Handled) (h : H
 one_given before after o h e w = subst (λ (o : Option Handled). GivesNext before o after) e w
 
 pub none_given : (before after : List HandledElement) (o : Option Handled) → ((h : Handled) → o ≡ Some h → ⊥) → GivesNext before o after → before ≡ []
-none_given before after None n w = w
+none_given before after None n w = w.0
 none_given before after (Some h) n w = elim (n h refl) [ ]
 
 -- a key that ran out of memory between two elements

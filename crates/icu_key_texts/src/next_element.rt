@@ -5,10 +5,11 @@ ghost use Rattle.icu_order_texts.specs.weighting.HandledSources.{GivesNext};
 
 use icu_key_writers::SortKeyError;
 use icu_order_texts::weighting::{Handled, HandledSource};
+use std::alloc::AllocError;
 
 /// The next element, with the error of a key.
 #[inline(always)]
-pub(crate) fn next_element<H: HandledSource, E>(
+pub(crate) fn next_element<H: HandledSource<Error = AllocError>, E>(
     elements: &mut H,
 ) -> Result<Option<Handled>, SortKeyError<E>>
     ensures next { IfOk result

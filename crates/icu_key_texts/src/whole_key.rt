@@ -25,11 +25,16 @@ use icu_key_writers::primaries::PrimaryCompression;
 use icu_key_writers::{CollationKeySink, SortKeyError};
 use icu_order_levels::forms::{KeyForm, TertiaryForm};
 use icu_order_texts::weighting::{Handled, HandledSource};
-use std::alloc::Global;
+use std::alloc::{AllocError, Global};
 
 /// Writes the rest of a key, of the elements that are still to come.
 #[inline(always)]
-fn write_elements<F: WrittenForm, S: CollationKeySink, C: PrimaryCompression, H: HandledSource>(
+fn write_elements<
+    F: WrittenForm,
+    S: CollationKeySink,
+    C: PrimaryCompression,
+    H: HandledSource<Error = AllocError>,
+>(
     form: &F,
     sink: &mut S,
     state: &mut S::State,
@@ -55,7 +60,7 @@ fn write_elements<F: WrittenForm, S: CollationKeySink, C: PrimaryCompression, H:
 
 /// Writes the rest of a key of three levels, of the elements that are still to come.
 #[inline(always)]
-fn write_held<S: CollationKeySink, C: PrimaryCompression, H: HandledSource>(
+fn write_held<S: CollationKeySink, C: PrimaryCompression, H: HandledSource<Error = AllocError>>(
     form: TertiaryForm,
     identical: bool,
     sink: &mut S,
@@ -84,7 +89,7 @@ fn write_held<S: CollationKeySink, C: PrimaryCompression, H: HandledSource>(
 /// Writes the rest of a key of three levels, from an element on whose weights aren't common beside its primary, or
 /// which is shifted.
 #[inline(always)]
-fn write_from<S: CollationKeySink, C: PrimaryCompression, H: HandledSource>(
+fn write_from<S: CollationKeySink, C: PrimaryCompression, H: HandledSource<Error = AllocError>>(
     alloc: Global,
     form: TertiaryForm,
     identical: bool,
@@ -124,7 +129,12 @@ fn write_from<S: CollationKeySink, C: PrimaryCompression, H: HandledSource>(
 /// Writes all levels of a key of three levels. Elements are counted as long as their weights beside the primary are
 /// common, and no level is held until one comes whose weights aren't.
 #[inline(always)]
-fn write_three_levels<F: WrittenForm, S: CollationKeySink, C: PrimaryCompression, H: HandledSource>(
+fn write_three_levels<
+    F: WrittenForm,
+    S: CollationKeySink,
+    C: PrimaryCompression,
+    H: HandledSource<Error = AllocError>,
+>(
     alloc: Global,
     form: &F,
     tertiary: TertiaryForm,
@@ -169,7 +179,12 @@ fn write_three_levels<F: WrittenForm, S: CollationKeySink, C: PrimaryCompression
 /// Writes all levels of a key of this form. Not inlined: code for a form has a frame of its own, and clears no locals
 /// of another.
 #[inline(never)]
-fn write_in_form<F: WrittenForm, S: CollationKeySink, C: PrimaryCompression, H: HandledSource>(
+fn write_in_form<
+    F: WrittenForm,
+    S: CollationKeySink,
+    C: PrimaryCompression,
+    H: HandledSource<Error = AllocError>,
+>(
     alloc: Global,
     form: &F,
     sink: &mut S,
@@ -206,7 +221,7 @@ fn write_in_form<F: WrittenForm, S: CollationKeySink, C: PrimaryCompression, H: 
 
 /// Writes all levels of a key of a usual form, each by code of its own.
 #[inline(always)]
-fn write_usual<S: CollationKeySink, C: PrimaryCompression, H: HandledSource>(
+fn write_usual<S: CollationKeySink, C: PrimaryCompression, H: HandledSource<Error = AllocError>>(
     alloc: Global,
     usual: UsualForm,
     identical: bool,
@@ -264,7 +279,7 @@ fn write_usual<S: CollationKeySink, C: PrimaryCompression, H: HandledSource>(
 /// Writes all levels of a key. The forms that keys mostly have are told apart here, once. Each is a type, so that code
 /// is built for it which asks for no level at an element.
 #[inline(always)]
-fn write_levels<S: CollationKeySink, C: PrimaryCompression, H: HandledSource>(
+fn write_levels<S: CollationKeySink, C: PrimaryCompression, H: HandledSource<Error = AllocError>>(
     alloc: Global,
     form: KeyForm,
     sink: &mut S,
@@ -307,7 +322,7 @@ fn write_levels<S: CollationKeySink, C: PrimaryCompression, H: HandledSource>(
 /// write returned after a beginning of the key was taken, or what `finish` returned after the whole key. `NoMemory`
 /// says that an allocation failed, of a level that is held or of what gives the elements; a beginning of the key was
 /// taken.
-pub fn write_key<S: CollationKeySink, C: PrimaryCompression, H: HandledSource>(
+pub fn write_key<S: CollationKeySink, C: PrimaryCompression, H: HandledSource<Error = AllocError>>(
     alloc: Global,
     sink: &mut S,
     compression: &C,

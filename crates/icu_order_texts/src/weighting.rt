@@ -9,5 +9,5 @@ pub mod handled_element;
 pub mod weighting;
 
 pub use form::{key_form, last_variable};
-pub use handled_element::{Handled, HandledSource, SteadySource};
+pub use handled_element::{Handled, HandledSource};
 pub use weighting::VariableWeighting;

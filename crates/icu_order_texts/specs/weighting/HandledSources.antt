@@ -14,7 +14,7 @@ abbrev pub HasCase : HandledElement → Type 0
 HasCase (stayed x) = x.lower < 0xC000
 HasCase (shifted_primary p) = Unit {0}
 
--- of these elements the first is returned and the others are left, or there is none
+-- of these elements the first is returned and the others are left, or there is none, and none is left
 abbrev pub GivesNext : List HandledElement → Option Handled → List HandledElement → Type 0
 GivesNext before (Some h) after = before ≡ handled_as h ∷ after
-GivesNext before None after = before ≡ []
+GivesNext before None after = (before ≡ []) × (after ≡ [])
