@@ -1,5 +1,5 @@
 -- Two texts of which characters are read, gone through in step, where no element is variable.
-use Rattle.std.proofs.Common.{◌≡◌, ℕ, List, [], ◌∷◌, ◌++◌, map, Option, Some, None, IfSome, Ordering, Less, Equal, Greater, option_map, refl, sym, ap, ap₂, subst, ◌∙◌}
+use Rattle.std.proofs.Common.{◌≡◌, Bool, false, is_some, ℕ, List, [], ◌∷◌, ◌++◌, map, Option, Some, None, IfSome, Ordering, Less, Equal, Greater, option_map, refl, sym, ap, ap₂, subst, ◌∙◌}
 use Rattle.std.proofs.lemmas.List.{map-append}
 use Rattle.std.specs.Ordering.{ordering_then}
 use Rattle.unicode_normalization.specs.Forms.{nfd}
@@ -46,6 +46,11 @@ steps_end text old new h = λ before. (before, ap (map stayed) (h.1 before))
 
 pub same_found : (found : Option Ordering) (x y : Ordering) → x ≡ y → IfSome found (λ o. o ≡ x) → IfSome found (λ o. o ≡ y)
 same_found found x y e h = subst (λ (w : Ordering). IfSome found (λ o. o ≡ w)) e h
+
+-- nothing was found
+pub none_found : (found : Option Ordering) (b : Bool) → b ≡ is_some found → b ≡ false → found ≡ None
+none_found None b is unset = refl
+none_found (Some o) b is unset = cc
 
 -- elements that decide on the first level decide
 pub decided_on_first : (levels : ThreeLevels) (third : Ordering) (us vs : List HandledElement) (h k : Option Handled) (found : Option Ordering) → IfSome found (λ o. DecidesOn levels.first h k o)
@@ -220,10 +225,19 @@ then_nothing Less p e = refl
 then_nothing Equal p e = e
 then_nothing Greater p e = refl
 
-module _ (collation : Collation) (plain : ReadsElementsAlone collation) where
+module _ (collation : Collation) (none : last_variable_by collation ≡ 0) where
   plain_elements : (t : List ℕ) → handled_by collation (nfd t) ≡ map stayed (elements_of (reading_by collation) (nfd t))
-  plain_elements t = all_stay collation.settings.alternate_handling (last_variable_by collation) (elements_of (reading_by collation) (nfd t)) plain.variable
+  plain_elements t = all_stay collation.settings.alternate_handling (last_variable_by collation) (elements_of (reading_by collation) (nfd t)) none
 
+  -- what two cursors give on a level is what the texts have
+  pub level_read : {T U : Type 0} (text : T → List ℕ) (other_text : U → List ℕ) (one : FactsCursor T) (other : FactsCursor U) (t u : List ℕ) (first : Level) (o : Ordering)
+      → facts_give text one [] ≡ elements_after (reading_by collation) [] (nfd t) → facts_give other_text other [] ≡ elements_after (reading_by collation) [] (nfd u)
+      → order_on first (handled_by collation (nfd t)) (handled_by collation (nfd u)) ≡ leading_order collation (nfd t) (nfd u)
+      → o ≡ order_on first (plain_left text one []) (plain_left other_text other []) → o ≡ leading_order collation (nfd t) (nfd u)
+  level_read text other_text one other t u first o e f leads h =
+      h ∙ ap₂ (order_on first) (ap (map stayed) e ∙ sym (plain_elements t)) (ap (map stayed) f ∙ sym (plain_elements u)) ∙ leads
+
+module _ (collation : Collation) (plain : ReadsElementsAlone collation) where
   pub elements_are_all : (t u : List ℕ) → text_order collation t u ≡ elements_order collation (nfd t) (nfd u)
   elements_are_all t u =
       order_in_two collation t u
@@ -236,7 +250,7 @@ module _ (collation : Collation) (plain : ReadsElementsAlone collation) where
       → IfSome found (λ o. o ≡ text_order collation t u)
   facts_order text other_text one other t u first form None e f leads is h = tt
   facts_order text other_text one other t u first form (Some o) e f leads is h =
-      h ∙ ap₂ (three_order (three_levels first form) Equal) (ap (map stayed) e ∙ sym (plain_elements t)) (ap (map stayed) f ∙ sym (plain_elements u))
+      h ∙ ap₂ (three_order (three_levels first form) Equal) (ap (map stayed) e ∙ sym (plain_elements collation plain.variable t)) (ap (map stayed) f ∙ sym (plain_elements collation plain.variable u))
       ∙ three_read collation (nfd t) (nfd u) first form leads is ∙ sym (elements_are_all t u)
 
 -- ---- weights of a level

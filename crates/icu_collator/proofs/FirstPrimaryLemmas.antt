@@ -27,6 +27,11 @@ use Rattle.icu_order_texts.specs.weighting.Handled.{HandledElement, stayed, hand
 use Rattle.icu_order_texts.specs.weighting.Levels.{weights, primaries}
 use Rattle.icu_order_texts.specs.TextCuts.{begins_with_primary, IsRest, CommonBeginningsDoNotCount}
 use Rattle.icu_order_texts.specs.TextOrder.{reading_by, lists_by, text_order}
+use Rattle.icu_order_texts.specs.text_beginnings.TextBeginnings.{primary_collation, primary_order, primary_weights}
+use Rattle.icu_order_texts.specs.text_beginnings.TextBeginningLaws.{PrimaryOrderIsOfWeights}
+use Rattle.icu_collator.specs.inner.ElementOrders.{leading_order}
+use Rattle.icu_collator.proofs.InStepLemmas.{leading_decides}
+use Rattle.icu_collator.proofs.OrdersInTurn.{order_in_two}
 use Rattle.icu_collator.specs.inner.FirstPrimaries.{IsFirst, LeadsWith, Decides, GivesPrimaries, GivesPrimary, ReadsOn, primaries_given, primaries_of, unequal_order}
 
 -- ---- the first element
@@ -184,6 +189,38 @@ module _ (collation : Collation) where
       → IfSome found (λ o. o ≡ text_order collation t u)
   unfolding LeadsWith
   first_primaries_decide t u p q found h k decide = primaries_decide t u found (decide (primaries_of collation t) (primaries_of collation u) h k)
+
+  pub first_primaries_lead : (t u : List ℕ) (p q : ℕ) (found : Option Ordering) → LeadsWith collation t p → LeadsWith collation u q
+      → ((ps qs : List ℕ) → IsFirst p ps → IsFirst q qs → IfSome found (Decides (map (reorder all) ps) (map (reorder all) qs)))
+      → IfSome found (λ o. (o ≡ leading_order collation (nfd t) (nfd u)) × (o ≢ Equal))
+  unfolding LeadsWith leading_order lists_by
+  first_primaries_lead t u p q None h k decide = tt
+  first_primaries_lead t u p q (Some o) h k decide = decide (primaries_of collation t) (primaries_of collation u) h k
+
+  -- ---- rests, on the primary level alone
+
+  rest_of_primaries : (t : List ℕ) → IsRest collation t → IsRest (primary_collation collation) t
+  rest_of_primaries [] h = tt
+  rest_of_primaries (c ∷ cs) h = record { first = h.first; more = h.more; decomposes = h.decomposes; boundary = h.boundary; handled = h.handled }
+
+  weights_lead : (t u : List ℕ) → list_order (primary_weights collation t) (primary_weights collation u) ≡ leading_order collation (nfd t) (nfd u)
+  unfolding primary_weights leading_order
+  weights_lead t u = refl
+
+  pub rests_lead : CommonBeginningsDoNotCount → PrimaryOrderIsOfWeights
+      → (left right beginning other_beginning t u : List ℕ) → left ≡ beginning ++ t → right ≡ other_beginning ++ u → beginning ≡ other_beginning
+      → IsRest collation t → IsRest collation u → leading_order collation (nfd t) (nfd u) ≡ leading_order collation (nfd left) (nfd right)
+  rests_lead law weights left right beginning other_beginning t u e f g ht hu =
+      let same : primary_order collation t u ≡ primary_order collation left right =
+      rests_order (primary_collation collation) law tt left right beginning other_beginning t u e f g (rest_of_primaries t ht) (rest_of_primaries u hu) in
+      sym (weights_lead t u) ∙ sym (weights collation t u) ∙ same ∙ weights collation left right ∙ weights_lead left right
+
+  -- what the rests decide on the primary level, the texts decide
+  pub cut_decides : (found : Option Ordering) (t u left right : List ℕ) → leading_order collation (nfd t) (nfd u) ≡ leading_order collation (nfd left) (nfd right)
+      → IfSome found (λ o. (o ≡ leading_order collation (nfd t) (nfd u)) × (o ≢ Equal)) → IfSome found (λ o. o ≡ text_order collation left right)
+  cut_decides None t u left right same h = tt
+  cut_decides (Some o) t u left right same h =
+      first_of_all o _ _ (leading_decides collation (nfd left) (nfd right) o (h.0 ∙ same) h.1) h.1 ∙ sym (order_in_two collation left right)
 
   -- ---- what characters give
 

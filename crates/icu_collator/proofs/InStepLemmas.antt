@@ -28,7 +28,7 @@ use Rattle.icu_collator.specs.inner.LevelWeights.{weight_in, level_weights}
 -- ---- what a source gave
 
 pub given : (before : List HandledElement) (next : Option Handled) (after : List HandledElement) → GivesNext before next after → before ≡ from_first next after
-given before None after h = h
+given before None after h = h.0
 given before (Some h) after g = g
 
 -- ---- one level

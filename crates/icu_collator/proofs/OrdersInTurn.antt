@@ -1,5 +1,5 @@
 -- Orders one after another, as code tests them.
-use Rattle.std.proofs.Common.{arith, ◌≡◌, ℕ, Bool, true, false, not, ◌==◌, List, [], ◌∷◌, map, refl, sym, subst, ◌∙◌, ap}
+use Rattle.std.proofs.Common.{arith, ◌≡◌, ◌≢◌, ℕ, Bool, true, false, not, ◌==◌, List, [], ◌∷◌, map, refl, sym, subst, ◌∙◌, ap}
 use Rattle.std.specs.Ordering.{ordering_then, ordering_index}
 use Rattle.std.proofs.lemmas.Bool.Decides.{nat_tests}
 use Rattle.unicode_normalization.specs.Forms.{nfd}
@@ -27,6 +27,15 @@ ties : (p rest : Ordering) → not (ordering_index p == 1) ≡ false → rest �
 ties Less rest h = cc
 ties Equal rest h = refl
 ties Greater rest h = cc
+
+-- an order that is tested
+pub is_equal : (p : Ordering) (test : Bool) → test ≡ not (ordering_index p == 1) → test ≡ false → p ≡ Equal
+is_equal Less test is unset = cc
+is_equal Equal test is unset = refl
+is_equal Greater test is unset = cc
+
+pub is_unequal : (p : Ordering) (test : Bool) → test ≡ not (ordering_index p == 1) → test ≡ true → p ≢ Equal
+is_unequal p test is set e = (let not_set : test ≡ false = is ∙ ap (λ o. not (ordering_index o == 1)) e in cc)
 
 -- a level that differs decides
 pub ends : (p q rest : Ordering) (test : Bool) → test ≡ not (ordering_index p == 1) → test ≡ true → p ≡ q → p ≡ ordering_then q rest

@@ -7,3 +7,4 @@ pub mod InStep
 pub mod FactsInStep
 pub mod KeyElements
 pub mod KeyCharacters
+pub mod ReadElements

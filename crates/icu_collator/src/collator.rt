@@ -263,7 +263,7 @@ fn numeric_primary(tables: &CheckedTables, settings: CollatorOptionsBitField) ->
 pub struct CollatorBorrowed<'a> {
     pub(crate) tables: &'a CheckedTables,
     kept_facts: &'a KeptFacts,
-    settings: CollatorOptionsBitField,
+    pub(crate) settings: CollatorOptionsBitField,
     form: KeyForm,
     last_variable: u32,
     /// No lead of a primary weight below it is compressible.

@@ -1,12 +1,14 @@
 //! The order of texts. No call fails, and none allocates.
 
 ghost use Rattle.std.specs.Prelude.{◌≡◌, chars};
+ghost use Rattle.std.specs.Ordering.{ordering_then};
 ghost use Rattle.icu_text_encodings.specs.DecodedTexts.{latin1_text, utf16_text, utf8_text};
 ghost use Rattle.icu_order_levels.specs.ListOrder.{list_order};
 ghost use Rattle.icu_order_levels.specs.Keys.{characters_order};
 ghost use Rattle.icu_order_texts.specs.Forms.{form_by};
 ghost use Rattle.icu_order_texts.specs.TextOrder.{lists_by, text_order, text_key};
 ghost use Rattle.unicode_normalization.specs.Forms.{nfd};
+ghost use Rattle.icu_collator.specs.inner.ElementOrders.{leading_order};
 
 use crate::collator::CollatorBorrowed;
 use crate::identical_level::compare_characters;
@@ -121,15 +123,21 @@ impl<'a> CollatorBorrowed<'a> {
             self.is_equal_to_itself(left);
             return Ordering::Equal;
         }
-        if !self.reads_backward() {
-            if let Some((one, other, order)) = self.last_rests(left, right, common) {
-                return match order {
-                    Some(order) => order,
-                    None => self.compare_all_levels(one, other),
-                };
+        if self.reads_backward() {
+            if let Some(order) = self.order_past_beginning(left, right, common) {
+                return order;
             }
+        } else if let Some((one, other, order)) = self.last_rests(left, right, common) {
+            return match order {
+                Some(order) => order,
+                None => self.compare_all_levels(one, other),
+            };
         }
-        self.compare_whole(left, right)
+        if common == 0 {
+            self.compare_whole(left, right)
+        } else {
+            self.compare_by_facts(left, right)
+        }
     }
 
     /// A text is equal to itself.
@@ -159,12 +167,58 @@ impl<'a> CollatorBorrowed<'a> {
         }
     }
 
+    /// The order of two texts by what is kept of the characters that they begin with, or else by all levels.
+    fn compare_by_facts<L: CommonUnits<R> + CountedText, R: CountedText>(
+        &self,
+        left: L,
+        right: R,
+    ) -> Ordering
+        ensures { result ≡ text_order (collation_borrowed self.now)
+            (L.text left) (R.text right) }
+    {
+        match self.order_by_facts(left, right) {
+            Some(order) => order,
+            None => self.compare_all_levels(left, right),
+        }
+    }
+
     /// The order of two texts by all levels in turn.
     fn compare_all_levels<L: CountedText, R: CountedText>(&self, left: L, right: R) -> Ordering
         ensures { result ≡ text_order (collation_borrowed self.now)
             (L.text left) (R.text right) }
     {
-        let order = self.compare_element_levels(left, right);
+        self.then_characters(self.compare_element_levels(left, right), left, right)
+    }
+
+    /// The order of two texts that have this order on the primary level: that, or the one on the levels after it.
+    pub(crate) fn compare_after_primaries<L: CountedText, R: CountedText>(
+        &self,
+        order: Ordering,
+        left: L,
+        right: R,
+    ) -> Ordering
+        requires { order ≡ leading_order (collation_borrowed self.now)
+            (nfd (L.text left)) (nfd (R.text right)) }
+        ensures { result ≡ text_order (collation_borrowed self.now)
+            (L.text left) (R.text right) }
+    {
+        if order != Ordering::Equal {
+            return order;
+        }
+        self.then_characters(self.compare_later_levels(left, right), left, right)
+    }
+
+    /// The order of two texts whose elements have this order.
+    fn then_characters<L: CountedText, R: CountedText>(
+        &self,
+        order: Ordering,
+        left: L,
+        right: R,
+    ) -> Ordering
+        ensures { let collation = collation_borrowed self.now in
+            result ≡ ordering_then order (characters_order (form_by collation).identical
+            (lists_by collation (nfd (L.text left))) (lists_by collation (nfd (R.text right)))) }
+    {
         if order != Ordering::Equal {
             return order;
         }

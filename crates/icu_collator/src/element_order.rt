@@ -5,18 +5,32 @@ ghost use Rattle.std.specs.declared.cmp.Ordering.TheVariants.{Equal};
 ghost use Rattle.icu_order_levels.specs.ListOrder.{list_order, segments_order};
 ghost use Rattle.icu_order_levels.specs.Keys.{secondaries_order, cases_order, tertiaries_order, quaternaries_order};
 ghost use Rattle.icu_order_texts.specs.weighting.Forms.{form_by};
-ghost use Rattle.icu_order_texts.specs.TextOrder.{handled_by, lists_by};
+ghost use Rattle.icu_element_reading.specs.TextElements.{elements_of};
+ghost use Rattle.icu_order_texts.specs.TextOrder.{handled_by, lists_by, reading_by};
+ghost use Rattle.icu_collator.specs.HandledRests.{handled_rest};
+ghost use Rattle.icu_collator.specs.inner.ReadElements.{HasRead, held};
 ghost use Rattle.icu_collator.specs.inner.LevelWeights.{level_weights};
 ghost use Rattle.unicode_normalization.specs.Forms.{nfd};
 
 use crate::collator::CollatorBorrowed;
 use crate::forward_levels::Level;
-use crate::handled::ComparedSource;
+use crate::handled::HandledElements;
 use crate::in_step::{compare_from_difference, compare_in_step};
-use icu_element_cursor::LongPiece;
+use crate::room::Room;
+use crate::segments::{TwoReaders, compare_segments};
+use icu_element_cursor::{ElementCursor, LongPiece};
 use icu_order_levels::forms::{SecondaryForm, TertiaryForm};
+use icu_order_texts::weighting::HandledSource;
 use icu_text_decomposition::CountedText;
 use std::cmp::Ordering;
+
+/// Two texts, with their elements as the collation handles variable ones, if these were read.
+#[derive(Drop)]
+struct TwoTexts<'r, L, R> {
+    left: L,
+    right: R,
+    read: Option<(HandledElements<'r>, HandledElements<'r>)>,
+}
 
 impl<'a> CollatorBorrowed<'a> {
     ghost use Rattle.icu_collator.specs.Collators.{collation_borrowed};
@@ -28,81 +42,105 @@ impl<'a> CollatorBorrowed<'a> {
     fn compare_forward_level<L: CountedText, R: CountedText>(
         &self,
         level: Level<'_>,
-        left: L,
-        right: R,
+        texts: &TwoTexts<'_, L, R>,
     ) -> Ordering
+        requires { HasRead (collation_borrowed self.now) L.text R.text texts.now }
         ensures { let collation = collation_borrowed self.now in result ≡ list_order
-            (level_weights level.entry (handled_by collation (nfd (L.text left))))
-            (level_weights level.entry (handled_by collation (nfd (R.text right)))) }
+            (level_weights level.entry (handled_by collation (nfd (L.text texts.now.left))))
+            (level_weights level.entry (handled_by collation (nfd (R.text texts.now.right)))) }
     {
-        let tables = self.cursor_tables();
-        let mut one = self.handled_text(&tables, left);
-        let mut other = self.handled_text(&tables, right);
-        match level.compare(&mut one, &mut other) {
-            Ok(order) => order,
-            Err(LongPiece) => self.compare_steady_level(level, left, right),
+        match texts.read {
+            Some((mut one, mut other)) => level.order(&mut one, &mut other),
+            None => self.compare_steady_level(level, texts.left, texts.right),
+        }
+    }
+
+    /// The order of the secondary weights, backward.
+    fn compare_backward_level<L: CountedText, R: CountedText>(
+        &self,
+        texts: &TwoTexts<'_, L, R>,
+    ) -> Ordering
+        requires { HasRead (collation_borrowed self.now) L.text R.text texts.now }
+        ensures { let collation = collation_borrowed self.now in
+            result ≡ segments_order (lists_by collation (nfd (L.text texts.now.left))).segments
+            (lists_by collation (nfd (R.text texts.now.right))).segments }
+    {
+        match texts.read {
+            Some((one, other)) => {
+                let left = TwoReaders::new(one, one);
+                let right = TwoReaders::new(other, other);
+                compare_segments(left, right)
+            }
+            None => self.compare_steady_segments(texts.left, texts.right),
         }
     }
 
     /// The order of the secondary weights, forward or backward, where they count.
-    fn compare_secondaries<L: CountedText, R: CountedText>(&self, left: L, right: R) -> Ordering
+    fn compare_secondaries<L: CountedText, R: CountedText>(
+        &self,
+        texts: &TwoTexts<'_, L, R>,
+    ) -> Ordering
+        requires { HasRead (collation_borrowed self.now) L.text R.text texts.now }
         ensures { let collation = collation_borrowed self.now in
             result ≡ secondaries_order (form_by collation).secondary
-            (lists_by collation (nfd (L.text left))) (lists_by collation (nfd (R.text right))) }
+            (lists_by collation (nfd (L.text texts.now.left)))
+            (lists_by collation (nfd (R.text texts.now.right))) }
     {
         match self.key_form().secondary {
             None => Ordering::Equal,
-            Some(SecondaryForm::Forward) => self.compare_forward_level(
-                Level::Secondary,
-                left,
-                right,
-            ),
-            Some(SecondaryForm::Backward) => self.compare_steady_segments(left, right),
+            Some(SecondaryForm::Forward) => self.compare_forward_level(Level::Secondary, texts),
+            Some(SecondaryForm::Backward) => self.compare_backward_level(texts),
         }
     }
 
     /// The order of the cases, where they count by themselves.
-    fn compare_cases<L: CountedText, R: CountedText>(&self, left: L, right: R) -> Ordering
+    fn compare_cases<L: CountedText, R: CountedText>(&self, texts: &TwoTexts<'_, L, R>) -> Ordering
+        requires { HasRead (collation_borrowed self.now) L.text R.text texts.now }
         ensures { let collation = collation_borrowed self.now in
             result ≡ cases_order (form_by collation).cases
-            (lists_by collation (nfd (L.text left))) (lists_by collation (nfd (R.text right))) }
+            (lists_by collation (nfd (L.text texts.now.left)))
+            (lists_by collation (nfd (R.text texts.now.right))) }
     {
         let form = self.key_form();
         match form.cases {
             None => Ordering::Equal,
-            Some(cases) => self.compare_forward_level(
-                Level::Case(form.secondary, cases),
-                left,
-                right,
-            ),
+            Some(cases) => self.compare_forward_level(Level::Case(form.secondary, cases), texts),
         }
     }
 
     /// The order of the tertiary weights, with case bits where they count among them.
-    fn compare_tertiaries<L: CountedText, R: CountedText>(&self, left: L, right: R) -> Ordering
+    fn compare_tertiaries<L: CountedText, R: CountedText>(
+        &self,
+        texts: &TwoTexts<'_, L, R>,
+    ) -> Ordering
+        requires { HasRead (collation_borrowed self.now) L.text R.text texts.now }
         ensures { let collation = collation_borrowed self.now in
             result ≡ tertiaries_order (form_by collation).tertiary
-            (lists_by collation (nfd (L.text left))) (lists_by collation (nfd (R.text right))) }
+            (lists_by collation (nfd (L.text texts.now.left)))
+            (lists_by collation (nfd (R.text texts.now.right))) }
     {
         match self.key_form().tertiary {
             None => Ordering::Equal,
-            Some(form) => self.compare_forward_level(Level::Tertiary(form), left, right),
+            Some(form) => self.compare_forward_level(Level::Tertiary(form), texts),
         }
     }
 
     /// The order of the quaternary weights, where they count.
-    fn compare_quaternaries<L: CountedText, R: CountedText>(&self, left: L, right: R) -> Ordering
+    fn compare_quaternaries<L: CountedText, R: CountedText>(
+        &self,
+        texts: &TwoTexts<'_, L, R>,
+    ) -> Ordering
+        requires { HasRead (collation_borrowed self.now) L.text R.text texts.now }
         ensures { let collation = collation_borrowed self.now in
             result ≡ quaternaries_order (form_by collation).quaternary
-            (lists_by collation (nfd (L.text left))) (lists_by collation (nfd (R.text right))) }
+            (lists_by collation (nfd (L.text texts.now.left)))
+            (lists_by collation (nfd (R.text texts.now.right))) }
     {
         match self.key_form().quaternary {
             None => Ordering::Equal,
-            Some(_) => self.compare_forward_level(
-                Level::Quaternary(self.tables.reordering()),
-                left,
-                right,
-            ),
+            Some(_) => {
+                self.compare_forward_level(Level::Quaternary(self.tables.reordering()), texts)
+            }
         }
     }
 
@@ -150,14 +188,14 @@ impl<'a> CollatorBorrowed<'a> {
 
     /// The order of two texts by the elements that two sources give, in one pass over these. `None` where all of them
     /// are equal, so that the texts tie on each level of elements.
-    fn compare_sources<L: ComparedSource, R: ComparedSource>(
+    fn compare_sources<L: HandledSource, R: HandledSource<Error = L::Error>>(
         &self,
         left: &mut L,
         right: &mut R,
-    ) -> Result<Option<Ordering>, LongPiece>
+    ) -> Result<Option<Ordering>, L::Error>
         ensures { let collation = collation_borrowed self.now in (t u : List ℕ)
-            → L.compared_left left.old ≡ handled_by collation t
-            → R.compared_left right.old ≡ handled_by collation u
+            → L.handled_left left.old ≡ handled_by collation t
+            → R.handled_left right.old ≡ handled_by collation u
             → IfOk result (λ found. MatchOption found (leading_order collation t u ≡ Equal)
             (λ o. o ≡ elements_order collation t u)) }
     {
@@ -211,10 +249,28 @@ impl<'a> CollatorBorrowed<'a> {
         }
     }
 
-    /// The order of two texts on the later levels, those between the primary and the identical one, in turn: the first
-    /// that differs decides.
+    /// Reads the elements of a text into a room. False if there is no room for them.
+    fn fill_room<T: CountedText>(&self, room: &mut Room, text: T) -> bool
+        ensures { IsTrue result → held room.new
+            ≡ elements_of (reading_by (collation_borrowed self.now)) (nfd (T.text text)) }
+    {
+        let tables = self.cursor_tables();
+        room.fill(ElementCursor::new(&tables, text))
+    }
+
+    /// The elements in a room, as the collation handles variable ones.
+    fn handled_in<'r>(&self, room: &'r Room) -> HandledElements<'r>
+        ensures { let collation = collation_borrowed self.now in
+            (t : List ℕ) → held room.now ≡ elements_of (reading_by collation) t
+            → handled_rest result ≡ handled_by collation t }
+    {
+        let handling = self.settings.alternate_handling();
+        HandledElements::new(room.as_slice(), handling, self.last_variable())
+    }
+
+    /// The order of two texts on the later levels, those between the primary and the identical one. The elements of
+    /// both are read once, if there is room for them.
     #[inline(never)]
-    #[tactic(auto, unfolding(crate::specs::inner::ElementOrders::later_levels_order))]
     pub(crate) fn compare_later_levels<L: CountedText, R: CountedText>(
         &self,
         left: L,
@@ -223,18 +279,39 @@ impl<'a> CollatorBorrowed<'a> {
         ensures { result ≡ later_levels_order (collation_borrowed self.now)
             (nfd (L.text left)) (nfd (R.text right)) }
     {
-        let order = self.compare_secondaries(left, right);
+        let mut one = Room::new();
+        let mut other = Room::new();
+        let read = if self.fill_room(&mut one, left) && self.fill_room(&mut other, right) {
+            Some((self.handled_in(&one), self.handled_in(&other)))
+        } else {
+            None
+        };
+        self.compare_levels_in_turn(&TwoTexts { left, right, read })
+    }
+
+    /// The order of two texts on the later levels, those between the primary and the identical one, in turn: the first
+    /// that differs decides.
+    #[tactic(auto, unfolding(crate::specs::inner::ElementOrders::later_levels_order))]
+    fn compare_levels_in_turn<L: CountedText, R: CountedText>(
+        &self,
+        texts: &TwoTexts<'_, L, R>,
+    ) -> Ordering
+        requires { HasRead (collation_borrowed self.now) L.text R.text texts.now }
+        ensures { result ≡ later_levels_order (collation_borrowed self.now)
+            (nfd (L.text texts.now.left)) (nfd (R.text texts.now.right)) }
+    {
+        let order = self.compare_secondaries(texts);
         if order != Ordering::Equal {
             return order;
         }
-        let order = self.compare_cases(left, right);
+        let order = self.compare_cases(texts);
         if order != Ordering::Equal {
             return order;
         }
-        let order = self.compare_tertiaries(left, right);
+        let order = self.compare_tertiaries(texts);
         if order != Ordering::Equal {
             return order;
         }
-        self.compare_quaternaries(left, right)
+        self.compare_quaternaries(texts)
     }
 }

@@ -4,7 +4,7 @@
 ghost use Rattle.std.specs.Prelude.{◌≡◌, ◌≤◌, ℕ, List, Option, None, IfSome};
 ghost use Rattle.std.specs.declared.cmp.Ordering.TheVariants.{Equal};
 ghost use Rattle.icu_order_levels.specs.ListOrder.{list_order};
-ghost use Rattle.icu_collator.specs.inner.InStep.{from_first, order_from, three_order, three_levels, StepBoth, StepsBy};
+ghost use Rattle.icu_collator.specs.inner.InStep.{from_first, order_from, order_on, three_order, three_levels, StepBoth, StepsBy};
 ghost use Rattle.icu_collator.specs.inner.FactsInStep.{AreCut, PassesCommon, StepsOn, WeighsOn, plain_left, weights_from};
 ghost use Rattle.icu_element_cursor.specs.FactsCursors.{ReadsText, facts_reading};
 ghost use Rattle.icu_table_provider.specs.declared.reordering.CollationReordering.{CollationReordering};
@@ -25,9 +25,9 @@ use std::cmp::Ordering;
 const ELEMENTS_IN_STEP: u32 = 256;
 
 /// How many weights are compared out of step, at most, and how many elements are passed over to the next weight.
-const ELEMENTS_AHEAD: u32 = 64;
+const ELEMENTS_AHEAD: usize = 64;
 
-/// So many common units, or fewer, are read and not passed over.
+/// So many common units, or fewer, are read and not passed over, and so many weights are read before the next try.
 const FEW_UNITS: usize = 8;
 
 /// The rests of two texts from a place within their common beginning on, where both may be cut there, as these cursors
@@ -103,11 +103,12 @@ fn pass_beginning<L: EncodedText, R: EncodedText>(
     }
 }
 
-/// Passes over what two texts have in common from here on, if that is wanted and much, up to a place where both may be
-/// cut. False where there is none: another try isn't worth it.
+/// Passes over what two texts have in common from here on, if that is wanted and more than some units, up to a place
+/// where both may be cut. False where there is none: another try isn't worth it.
 #[inline(always)]
 fn pass_common<L: CommonUnits<R>, R: EncodedText>(
     wanted: bool,
+    few: usize,
     left: &mut FactsCursor<'_, '_, L>,
     right: &mut FactsCursor<'_, '_, R>,
 ) -> bool
@@ -125,7 +126,7 @@ fn pass_common<L: CommonUnits<R>, R: EncodedText>(
         return true;
     };
     let common = one.common_units(other);
-    common <= FEW_UNITS || pass_beginning(left, right, one, other, common)
+    common <= few || pass_beginning(left, right, one, other, common)
 }
 
 /// The next element of a text, as it is where none is variable: `Some(None)` after the last one. `None` says nothing.
@@ -207,6 +208,7 @@ pub(crate) fn order_in_step<L: CommonUnits<R>, R: EncodedText>(
 {
     let mut third = Ordering::Equal;
     let mut passes = true;
+    let mut differed = false;
     'pairs: for _ in 0..ELEMENTS_IN_STEP {
         let one = next_stayed(left)?;
         let other = next_stayed(right)?;
@@ -216,13 +218,33 @@ pub(crate) fn order_in_step<L: CommonUnits<R>, R: EncodedText>(
         match order_of_step(form, &one, &other) {
             Some(order) => {
                 third = third.then(order);
-                let worth = pass_common(passes && order != Ordering::Equal, left, right);
+                let is_alike = order == Ordering::Equal;
+                let wanted = passes && differed && is_alike;
+                let worth = pass_common(wanted, FEW_UNITS, left, right);
                 passes = passes && worth;
+                differed = !is_alike;
             }
             None => return order_apart(reordering, form, (one, other), left, right),
         }
     }
     None
+}
+
+/// The order of two texts on the primary level, as far as both texts are known. What they have in common at first is
+/// passed over. `None` says nothing.
+pub(crate) fn order_on_primaries<L: CommonUnits<R>, R: EncodedText>(
+    reordering: Option<CollationReordering<'_>>,
+    left: &mut FactsCursor<'_, '_, L>,
+    right: &mut FactsCursor<'_, '_, R>,
+) -> Option<Ordering>
+    requires { facts_reading left.old ≡ facts_reading right.old }
+    ensures { (b d : List ℕ) → IfSome result (λ o. o ≡ order_on (Primary reordering.entry)
+        (plain_left L.text left.old b) (plain_left R.text right.old d)) }
+{
+    let _ = pass_common(true, 0, left, right);
+    let one = next_stayed(left)?;
+    let other = next_stayed(right)?;
+    order_on_level(Level::Primary(reordering), (one, other), left, right)
 }
 
 /// The order from these elements on, which were read last and aren't in step: by their primary weights, or by what
@@ -356,12 +378,13 @@ fn order_on_level<L: CommonUnits<R>, R: EncodedText>(
     let mut weight = next_weight_from(level, pair.0, left)?;
     let mut other_weight = next_weight_from(level, pair.1, right)?;
     let mut passes = true;
-    'weights: for _ in 0..ELEMENTS_AHEAD {
+    'weights: for index in 0..ELEMENTS_AHEAD {
         let order = order_of_next(weight, other_weight);
         if order.is_some() {
             return order;
         }
-        let worth = pass_common(passes, left, right);
+        let wanted = passes & (index % FEW_UNITS == 0);
+        let worth = pass_common(wanted, FEW_UNITS, left, right);
         passes = passes && worth;
         weight = next_weight(level, left)?;
         other_weight = next_weight(level, right)?;

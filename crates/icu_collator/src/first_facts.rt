@@ -5,6 +5,9 @@ ghost use Rattle.icu_element_facts.specs.KeptFacts.{AreFirstFacts};
 ghost use Rattle.icu_table_provider.specs.CollatorTables.{reorder};
 ghost use Rattle.icu_order_texts.specs.weighting.Forms.{last_variable_by};
 ghost use Rattle.icu_order_texts.specs.TextOrder.{reading_by, text_order};
+ghost use Rattle.std.specs.declared.cmp.Ordering.TheVariants.{Equal};
+ghost use Rattle.unicode_normalization.specs.Forms.{nfd};
+ghost use Rattle.icu_collator.specs.inner.ElementOrders.{leading_order};
 ghost use Rattle.icu_collator.specs.inner.FirstPrimaries.{unequal_order};
 
 use crate::collator::CollatorBorrowed;
@@ -136,10 +139,14 @@ impl<'a> CollatorBorrowed<'a> {
         one: FirstFacts,
         other: FirstFacts,
     ) -> Option<Ordering>
-        ensures { let collation = collation_borrowed self.now in
+        ensures order { let collation = collation_borrowed self.now in
             (t u : List ℕ) → IfSome one.primary (λ p. LeadsWith collation t p)
             → IfSome other.primary (λ p. LeadsWith collation u p)
             → IfSome result (λ o. o ≡ text_order collation t u) }
+        ensures leads { let collation = collation_borrowed self.now in
+            (t u : List ℕ) → IfSome one.primary (λ p. LeadsWith collation t p)
+            → IfSome other.primary (λ p. LeadsWith collation u p)
+            → IfSome result (λ o. (o ≡ leading_order collation (nfd t) (nfd u)) × (o ≢ Equal)) }
     {
         match (one.primary, other.primary) {
             (Some(primary), Some(other_primary)) => {

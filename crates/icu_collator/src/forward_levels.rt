@@ -9,16 +9,15 @@ ghost use Rattle.icu_order_texts.specs.weighting.Handled.{HandledElement};
 ghost use Rattle.icu_collator.specs.inner.LevelWeights.{weight_of_stayed, read_as, weight_in, level_weights};
 ghost use Rattle.icu_collator.specs.inner.InStep.{from_first, order_on, order_from, DecidesOn, HasWeight};
 
-use crate::handled::ComparedSource;
-use icu_element_cursor::LongPiece;
 use icu_order_levels::forms::{CaseForm, SecondaryForm, TertiaryForm};
 use icu_order_texts::weighting::element_weights::{
     case_rank, case_read, masked_tertiary, quaternary_number, reordered, tertiary_weight,
 };
-use icu_order_texts::weighting::{Handled, SteadySource};
+use icu_order_texts::weighting::{Handled, HandledSource};
 use icu_table_entries::CollationElement;
 use icu_table_provider::CollationReordering;
 use std::cmp::Ordering;
+use std::convert::Infallible;
 
 /// A level that is compared forward (UTS #10, "Form Sort Keys").
 #[derive(Clone, Copy)]
@@ -98,14 +97,14 @@ impl<'d> Level<'d> {
 
     /// The order of what two sources give on this level: the first pair of weights that differs
     /// decides, and a prefix comes first. Stops where a source does.
-    pub(crate) fn compare<L: ComparedSource, R: ComparedSource>(
+    pub(crate) fn compare<L: HandledSource, R: HandledSource<Error = L::Error>>(
         self,
         left: &mut L,
         right: &mut R,
-    ) -> Result<Ordering, LongPiece>
+    ) -> Result<Ordering, L::Error>
         ensures { IfOk result
-            (λ o. o ≡ list_order (level_weights self.entry (L.compared_left left.old))
-            (level_weights self.entry (R.compared_left right.old))) }
+            (λ o. o ≡ list_order (level_weights self.entry (L.handled_left left.old))
+            (level_weights self.entry (R.handled_left right.old))) }
     {
         'pairs: loop {
             match (self.next(left)?, self.next(right)?) {
@@ -122,15 +121,15 @@ impl<'d> Level<'d> {
 
     /// The order on this level from these elements on, which the sources gave last: none of a source that has ended.
     #[tactic(auto, unfolding(crate::specs::inner::InStep::order_on))]
-    pub(crate) fn compare_from<L: ComparedSource, R: ComparedSource>(
+    pub(crate) fn compare_from<L: HandledSource, R: HandledSource<Error = L::Error>>(
         self,
         one: Option<Handled>,
         other: Option<Handled>,
         left: &mut L,
         right: &mut R,
-    ) -> Result<Ordering, LongPiece>
-        ensures { IfOk result (λ o. o ≡ order_from self.entry one other (L.compared_left left.old)
-            (R.compared_left right.old)) }
+    ) -> Result<Ordering, L::Error>
+        ensures { IfOk result (λ o. o ≡ order_from self.entry one other (L.handled_left left.old)
+            (R.handled_left right.old)) }
     {
         match (self.next_from(one, left)?, self.next_from(other, right)?) {
             (Some(weight), Some(other_weight)) => {
@@ -148,15 +147,15 @@ impl<'d> Level<'d> {
 
     /// The next weight of a text on this level from this element on, which its source gave last.
     #[tactic(auto, unfolding(crate::specs::inner::LevelWeights::level_weights))]
-    fn next_from<S: ComparedSource>(
+    fn next_from<S: HandledSource>(
         self,
         first: Option<Handled>,
         rest: &mut S,
-    ) -> Result<Option<u64>, LongPiece>
+    ) -> Result<Option<u64>, S::Error>
         ensures { IfOk result (λ next. MatchOption next
-            (level_weights self.entry (from_first first (S.compared_left rest.old)) ≡ [])
-            (λ w. level_weights self.entry (from_first first (S.compared_left rest.old))
-            ≡ w ∷ level_weights self.entry (S.compared_left rest.new))) }
+            (level_weights self.entry (from_first first (S.handled_left rest.old)) ≡ [])
+            (λ w. level_weights self.entry (from_first first (S.handled_left rest.old))
+            ≡ w ∷ level_weights self.entry (S.handled_left rest.new))) }
     {
         let Some(handled) = first else {
             return Ok(None);
@@ -231,16 +230,16 @@ impl<'d> Level<'d> {
 
     /// The next weight of a text on this level, or `None` after the last one.
     #[tactic(auto, unfolding(crate::specs::inner::LevelWeights::level_weights))]
-    fn next<S: ComparedSource>(self, elements: &mut S) -> Result<Option<u64>, LongPiece>
+    fn next<S: HandledSource>(self, elements: &mut S) -> Result<Option<u64>, S::Error>
         ensures weights { IfOk result
-            (λ next. MatchOption next (level_weights self.entry (S.compared_left elements.old) ≡ [])
-            (λ w. level_weights self.entry (S.compared_left elements.old)
-            ≡ w ∷ level_weights self.entry (S.compared_left elements.new))) }
+            (λ next. MatchOption next (level_weights self.entry (S.handled_left elements.old) ≡ [])
+            (λ w. level_weights self.entry (S.handled_left elements.old)
+            ≡ w ∷ level_weights self.entry (S.handled_left elements.new))) }
         ensures smaller { IfOk result (λ w. IfSome w
-            (λ x. length (S.compared_left elements.new) + 1
-            ≤ length (S.compared_left elements.old))) }
+            (λ x. length (S.handled_left elements.new) + 1
+            ≤ length (S.handled_left elements.old))) }
     {
-        'passing: while let Some(handled) = elements.next_compared()? {
+        'passing: while let Some(handled) = elements.next_handled()? {
             if let Some(weight) = self.weight(handled) {
                 return Ok(Some(weight));
             }
@@ -248,47 +247,18 @@ impl<'d> Level<'d> {
         Ok(None)
     }
 
-    /// The order of what two sources give on this level, which never fail: the first pair of weights that differs
-    /// decides, and a prefix comes first.
-    pub(crate) fn order<L: SteadySource, R: SteadySource>(
+    /// The order of what two sources give on this level, which never fail.
+    pub(crate) fn order<L: HandledSource<Error = Infallible>, R: HandledSource<Error = Infallible>>(
         self,
         left: &mut L,
         right: &mut R,
     ) -> Ordering
-        ensures { result ≡ list_order (level_weights self.entry (L.steady_left left.old))
-            (level_weights self.entry (R.steady_left right.old)) }
+        ensures { result ≡ list_order (level_weights self.entry (L.handled_left left.old))
+            (level_weights self.entry (R.handled_left right.old)) }
     {
-        'pairs: loop {
-            match (
-                self.next_steady_weight(left),
-                self.next_steady_weight(right),
-            ) {
-                (Some(one), Some(other)) => {
-                    let order = one.cmp(&other);
-                    if order != Ordering::Equal {
-                        return order;
-                    }
-                }
-                (one, other) => return one.is_some().cmp(&other.is_some()),
-            }
+        match self.compare(left, right) {
+            Ok(order) => order,
+            Err(never) => match never {},
         }
-    }
-
-    /// The next weight of a text on this level, or `None` after the last one.
-    #[tactic(auto, unfolding(crate::specs::inner::LevelWeights::level_weights))]
-    fn next_steady_weight<S: SteadySource>(self, elements: &mut S) -> Option<u64>
-        ensures weights { MatchOption result
-            (level_weights self.entry (S.steady_left elements.old) ≡ [])
-            (λ w. level_weights self.entry (S.steady_left elements.old)
-            ≡ w ∷ level_weights self.entry (S.steady_left elements.new)) }
-        ensures smaller { IfSome result (λ w. length (S.steady_left elements.new) + 1
-            ≤ length (S.steady_left elements.old)) }
-    {
-        'passing: while let Some(handled) = elements.next_steady() {
-            if let Some(weight) = self.weight(handled) {
-                return Some(weight);
-            }
-        }
-        None
     }
 }

@@ -4,10 +4,10 @@ ghost use Rattle.std.specs.Prelude.{◌≡◌, false, ◌≤◌, ◌++◌, ◌+�
 
 use icu_element_cursor::{ElementCursor, LongPiece};
 use icu_options::AlternateHandling;
-use icu_order_texts::weighting::{Handled, HandledSource, SteadySource, VariableWeighting};
+use icu_order_texts::weighting::{Handled, HandledSource, VariableWeighting};
 use icu_table_entries::CollationElement;
 use icu_text_decomposition::CountedText;
-use std::alloc::AllocError;
+use std::convert::Infallible;
 
 /// The elements of a text that are left, as variable weighting handles them: a variable element is
 /// shifted or blanked, and elements without a primary weight after it vanish. It copies nothing and
@@ -70,37 +70,13 @@ impl<'a> HandledElements<'a> {
 impl<'a> HandledSource for HandledElements<'a> {
     ghost use Rattle.icu_collator.specs.HandledRests.{handled_rest};
 
+    type Error = Infallible;
+
     ghost handled_left = { handled_rest };
 
-    fn next_handled(&mut self) -> Result<Option<Handled>, AllocError> {
+    fn next_handled(&mut self) -> Result<Option<Handled>, Infallible> {
         Ok(self.next())
     }
-}
-
-impl<'a> SteadySource for HandledElements<'a> {
-    ghost use Rattle.icu_collator.specs.HandledRests.{handled_rest};
-
-    ghost steady_left = { handled_rest };
-
-    fn next_steady(&mut self) -> Option<Handled> {
-        self.next()
-    }
-}
-
-/// What gives the elements of a text one at a time, as variable weighting leaves them, and needs no memory: it may stop
-/// at characters that give many elements together.
-pub(crate) trait ComparedSource {
-    ghost use Rattle.icu_order_texts.specs.weighting.Handled.{HandledElement};
-    ghost use Rattle.icu_order_texts.specs.weighting.HandledSources.{GivesNext};
-
-    /// The elements that are still to come.
-    ghost compared_left: { Self → List HandledElement };
-
-    /// The next element, or `None` after the last one. `LongPiece` says nothing more: the text is read by another
-    /// source then.
-    fn next_compared(&mut self) -> Result<Option<Handled>, LongPiece>
-        ensures { IfOk result
-            (λ next. GivesNext (compared_left self.old) next (compared_left self.new)) };
 }
 
 /// The elements of an encoded text, handled the same way as they are read: no list of elements is
@@ -134,13 +110,15 @@ impl<'c, 'd, T: CountedText> HandledText<'c, 'd, T> {
     }
 }
 
-impl<'c, 'd, T: CountedText> ComparedSource for HandledText<'c, 'd, T> {
+impl<'c, 'd, T: CountedText> HandledSource for HandledText<'c, 'd, T> {
     ghost use Rattle.icu_collator.specs.HandledRests.{handled_to_come};
 
-    ghost compared_left = { handled_to_come T.text };
+    type Error = LongPiece;
+
+    ghost handled_left = { handled_to_come T.text };
 
     #[inline(always)]
-    fn next_compared(&mut self) -> Result<Option<Handled>, LongPiece> {
+    fn next_handled(&mut self) -> Result<Option<Handled>, LongPiece> {
         'passing: while let Some(element) = self.elements.next()? {
             let next = self.weighting.handle(element);
             if next.is_some() {
@@ -171,13 +149,15 @@ impl<'c, 'd, T: CountedText> PlainText<'c, 'd, T> {
     }
 }
 
-impl<'c, 'd, T: CountedText> ComparedSource for PlainText<'c, 'd, T> {
+impl<'c, 'd, T: CountedText> HandledSource for PlainText<'c, 'd, T> {
     ghost use Rattle.icu_collator.specs.HandledRests.{plain_to_come};
 
-    ghost compared_left = { plain_to_come T.text };
+    type Error = LongPiece;
+
+    ghost handled_left = { plain_to_come T.text };
 
     #[inline(always)]
-    fn next_compared(&mut self) -> Result<Option<Handled>, LongPiece> {
+    fn next_handled(&mut self) -> Result<Option<Handled>, LongPiece> {
         match self.elements.next()? {
             Some(element) => Ok(Some(Handled::Stayed(element))),
             None => Ok(None),

@@ -6,10 +6,8 @@ ghost use Rattle.icu_order_texts.specs.weighting.Handled.{HandledElement};
 ghost use Rattle.icu_collator.specs.inner.InStep.{from_first, order_on, order_from, three_order, three_levels, StepsBy, StepBoth};
 
 use crate::forward_levels::Level;
-use crate::handled::ComparedSource;
-use icu_element_cursor::LongPiece;
 use icu_order_levels::forms::TertiaryForm;
-use icu_order_texts::weighting::Handled;
+use icu_order_texts::weighting::{Handled, HandledSource};
 use std::cmp::Ordering;
 
 /// Elements that two sources gave last: none of a source that has ended.
@@ -18,21 +16,21 @@ pub(crate) type Pair = (Option<Handled>, Option<Handled>);
 /// Goes past the elements that both sources give, and returns the first that differ, or none where both have ended.
 /// Stops where a source does.
 #[inline]
-pub(crate) fn first_difference<L: ComparedSource, R: ComparedSource>(
+pub(crate) fn first_difference<L: HandledSource, R: HandledSource<Error = L::Error>>(
     left: &mut L,
     right: &mut R,
-) -> Result<Option<Pair>, LongPiece>
+) -> Result<Option<Pair>, L::Error>
     ensures same { IfOk result
-        (λ found. found ≡ None → L.compared_left left.old ≡ R.compared_left right.old) }
+        (λ found. found ≡ None → L.handled_left left.old ≡ R.handled_left right.old) }
     ensures rest { IfOk result (λ found. IfSome found (λ p. (level : Level) →
-        order_on level (L.compared_left left.old) (R.compared_left right.old)
-        ≡ order_from level p.0 p.1 (L.compared_left left.new) (R.compared_left right.new))) }
+        order_on level (L.handled_left left.old) (R.handled_left right.old)
+        ≡ order_from level p.0 p.1 (L.handled_left left.new) (R.handled_left right.new))) }
     ensures smaller { IfOk result (λ found. IfSome found (λ p.
-        length (from_first p.0 (L.compared_left left.new)) ≤ length (L.compared_left left.old))) }
+        length (from_first p.0 (L.handled_left left.new)) ≤ length (L.handled_left left.old))) }
 {
     'pairs: loop {
-        let one = left.next_compared()?;
-        let other = right.next_compared()?;
+        let one = left.next_handled()?;
+        let other = right.next_handled()?;
         match (one, other) {
             (Some(element), Some(its_pair)) => {
                 if element != its_pair {
@@ -47,16 +45,16 @@ pub(crate) fn first_difference<L: ComparedSource, R: ComparedSource>(
 
 /// Compares two sources on one level from their first elements that differ. `Some(Equal)` where the sources have the
 /// same elements; `None` where the level ties though elements differ. Stops where a source does.
-pub(crate) fn compare_from_difference<L: ComparedSource, R: ComparedSource>(
+pub(crate) fn compare_from_difference<L: HandledSource, R: HandledSource<Error = L::Error>>(
     level: Level<'_>,
     left: &mut L,
     right: &mut R,
-) -> Result<Option<Ordering>, LongPiece>
+) -> Result<Option<Ordering>, L::Error>
     ensures same { IfOk result (λ found.
-        IfSome found (λ o. o ≡ Equal → L.compared_left left.old ≡ R.compared_left right.old)) }
+        IfSome found (λ o. o ≡ Equal → L.handled_left left.old ≡ R.handled_left right.old)) }
     ensures order { IfOk result (λ found. MatchOption found
-        (order_on level.entry (L.compared_left left.old) (R.compared_left right.old) ≡ Equal)
-        (λ o. o ≡ order_on level.entry (L.compared_left left.old) (R.compared_left right.old))) }
+        (order_on level.entry (L.handled_left left.old) (R.handled_left right.old) ≡ Equal)
+        (λ o. o ≡ order_on level.entry (L.handled_left left.old) (R.handled_left right.old))) }
 {
     match first_difference(left, right)? {
         Some(pair) => {
@@ -107,16 +105,16 @@ fn order_of_both(
 
 /// Compares two sources on the first level, then in the same pass on the secondary and the tertiary one. `None` where
 /// the first level ties and the others have to be compared by passes of their own. Stops where a source does.
-pub(crate) fn compare_in_step<L: ComparedSource, R: ComparedSource>(
+pub(crate) fn compare_in_step<L: HandledSource, R: HandledSource<Error = L::Error>>(
     first: Level<'_>,
     form: TertiaryForm,
     left: &mut L,
     right: &mut R,
-) -> Result<Option<Ordering>, LongPiece>
+) -> Result<Option<Ordering>, L::Error>
     ensures { IfOk result (λ found. MatchOption found
-        (order_on first.entry (L.compared_left left.old) (R.compared_left right.old) ≡ Equal)
-        (λ o. o ≡ three_order (three_levels first.entry form) Equal (L.compared_left left.old)
-        (R.compared_left right.old))) }
+        (order_on first.entry (L.handled_left left.old) (R.handled_left right.old) ≡ Equal)
+        (λ o. o ≡ three_order (three_levels first.entry form) Equal (L.handled_left left.old)
+        (R.handled_left right.old))) }
 {
     let mut third = Ordering::Equal;
     'pairs: loop {
@@ -132,19 +130,19 @@ pub(crate) fn compare_in_step<L: ComparedSource, R: ComparedSource>(
 
 /// The order from elements on that aren't in step: the rest of the first level decides, or, where it ties, these
 /// elements on the secondary one.
-fn compare_out_of_step<L: ComparedSource, R: ComparedSource>(
+fn compare_out_of_step<L: HandledSource, R: HandledSource<Error = L::Error>>(
     first: Level<'_>,
     form: TertiaryForm,
     pair: Pair,
     left: &mut L,
     right: &mut R,
-) -> Result<Option<Ordering>, LongPiece>
+) -> Result<Option<Ordering>, L::Error>
     ensures { IfOk result (λ found. MatchOption found
-        (order_from first.entry pair.0 pair.1 (L.compared_left left.old) (R.compared_left right.old)
+        (order_from first.entry pair.0 pair.1 (L.handled_left left.old) (R.handled_left right.old)
         ≡ Equal)
         (λ o. (third : Ordering) → o ≡ three_order (three_levels first.entry form) third
-        (from_first pair.0 (L.compared_left left.old))
-        (from_first pair.1 (R.compared_left right.old)))) }
+        (from_first pair.0 (L.handled_left left.old))
+        (from_first pair.1 (R.handled_left right.old)))) }
 {
     let (one, other) = pair;
     let decided = Level::Secondary.decide(&one, &other);

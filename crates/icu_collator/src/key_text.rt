@@ -247,6 +247,8 @@ impl<'c, 'd, T: CountedText> HandledKeyText<'c, 'd, T> {
 impl<'c, 'd, T: CountedText> HandledSource for HandledKeyText<'c, 'd, T> {
     ghost use Rattle.icu_collator.specs.inner.KeyElements.{handled_for_key};
 
+    type Error = AllocError;
+
     ghost handled_left = { handled_for_key T.EncodedText.text };
 
     #[inline(always)]
@@ -290,6 +292,8 @@ impl<'c, 'd, T: CountedText> PlainKeyText<'c, 'd, T> {
 
 impl<'c, 'd, T: CountedText> HandledSource for PlainKeyText<'c, 'd, T> {
     ghost use Rattle.icu_collator.specs.inner.KeyElements.{plain_for_key};
+
+    type Error = AllocError;
 
     ghost handled_left = { plain_for_key T.EncodedText.text };
 

@@ -22,6 +22,7 @@ mod key_characters;
 mod key_text;
 mod plain_characters;
 mod rests;
+mod room;
 mod segments;
 pub mod sort;
 pub mod sort_key;

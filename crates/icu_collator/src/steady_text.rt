@@ -4,8 +4,9 @@ ghost use Rattle.std.specs.Prelude.{◌≡◌, false};
 
 use icu_element_cursor::{ElementCursor, FirstChars, SteadyCursor};
 use icu_options::AlternateHandling;
-use icu_order_texts::weighting::{Handled, SteadySource, VariableWeighting};
+use icu_order_texts::weighting::{Handled, HandledSource, VariableWeighting};
 use icu_text_decomposition::CountedText;
+use std::convert::Infallible;
 
 /// The elements of an encoded text, handled as they are read: nothing is allocated, and long pieces don't stop it.
 #[derive(Drop)]
@@ -39,18 +40,20 @@ impl<'c, 'd, T: CountedText> SteadyText<'c, 'd, T> {
     }
 }
 
-impl<'c, 'd, T: CountedText> SteadySource for SteadyText<'c, 'd, T> {
+impl<'c, 'd, T: CountedText> HandledSource for SteadyText<'c, 'd, T> {
     ghost use Rattle.icu_collator.specs.HandledRests.{steady_to_come};
 
-    ghost steady_left = { steady_to_come T.EncodedText.text };
+    type Error = Infallible;
 
-    fn next_steady(&mut self) -> Option<Handled> {
+    ghost handled_left = { steady_to_come T.EncodedText.text };
+
+    fn next_handled(&mut self) -> Result<Option<Handled>, Infallible> {
         'passing: while let Some(element) = self.elements.next() {
             let next = self.weighting.handle(element);
             if next.is_some() {
-                return next;
+                return Ok(next);
             }
         }
-        None
+        Ok(None)
     }
 }

@@ -1,9 +1,9 @@
 -- Weights are compared in turn.
-use Rattle.std.proofs.Common.{ap₂, sym, ◌∙◌, rules}
+use Rattle.std.proofs.Common.{ap₂, sym, ◌∙◌}
 use Rattle.icu_order_levels.specs.ListOrder.{list_order}
 use Rattle.icu_collator.specs.inner.FactsInStep.{plain_left}
 use Rattle.icu_collator.specs.inner.InStep.{order_on, from_first}
-use Rattle.icu_collator.proofs.FactsInStepLemmas.{passed_on, order_by_weights, same_found}
+use Rattle.icu_collator.proofs.FactsInStepLemmas.{none_found, passed_on, order_by_weights, same_found}
 use Rattle.icu_collator.proofs.facts_in_step.order_on_level.Goals as goal
 
 pub weights-init : goal.weights-init
@@ -29,7 +29,7 @@ weights-preserved g c = record {
       let m = c.in_ok-other_weight-2.ensures.next passed.1 in (
         n.0,
         m.0,
-        at.2 ∙ c.order_of_next-order.ensures.none (search rules) _ _ ∙ passed.2 ∙ ap₂ list_order n.1 m.1,
+        at.2 ∙ c.order_of_next-order.ensures.none (none_found c.order_of_next-order.result _ c.is_some.ensures c.if-is_some.false) _ _ ∙ passed.2 ∙ ap₂ list_order n.1 m.1,
       );
   reading = c.in_ok-weight-2.ensures.reading ∙ c.pass_common-worth.ensures.reading ∙ sym c.in_ok-other_weight-2.ensures.reading;
 }

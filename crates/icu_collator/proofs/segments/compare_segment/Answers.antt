@@ -8,9 +8,9 @@ use Rattle.icu_collator.proofs.segments.compare_segment.Goals as goal
 
 pub returns-clause-order : goal.returns-clause-order
 returns-clause-order g c =
-    let xs = this_segment g.L.SteadySource.steady_left c.args.left.now.behind in
-    let ys = this_segment g.R.SteadySource.steady_left c.args.right.now.behind in
-    let ys_left = this_segment g.R.SteadySource.steady_left c.pass_surplus-longer.new.right.behind in
+    let xs = this_segment g.L.HandledSource.handled_left c.args.left.now.behind in
+    let ys = this_segment g.R.HandledSource.handled_left c.args.right.now.behind in
+    let ys_left = this_segment g.R.HandledSource.handled_left c.pass_surplus-longer.new.right.behind in
     let longer = c.pass_surplus-longer.result in
     c.compare_from_end.ensures.order
     ∙ ap (λ l. ordering_then (list_order (reverse l) (reverse ys_left)) longer) c.pass_surplus-longer.ensures.left

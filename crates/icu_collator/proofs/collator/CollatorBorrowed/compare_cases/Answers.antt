@@ -12,5 +12,5 @@ returns-in-Some g c =
     let collation = collation_borrowed c.args.self.now in
     let counts : (form_by collation).cases ≡ Some c.in-Some.cases = sym (ap (λ (k : KeyForm). k.cases) c.key_form-form.ensures) ∙ c.in-Some.is in
     c.compare_forward_level.ensures
-    ∙ cases_read collation (nfd (g.L.EncodedText.text c.args.left)) (nfd (g.R.EncodedText.text c.args.right))
+    ∙ cases_read collation (nfd (g.L.EncodedText.text c.args.texts.now.left)) (nfd (g.R.EncodedText.text c.args.texts.now.right))
     c.key_form-form.result.secondary c.in-Some.cases (ap (λ (k : KeyForm). k.secondary) c.key_form-form.ensures) counts

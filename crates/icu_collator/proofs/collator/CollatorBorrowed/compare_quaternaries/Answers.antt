@@ -12,8 +12,8 @@ use Rattle.icu_collator.proofs.collator.CollatorBorrowed.compare_quaternaries.Go
 pub returns-in-Some : goal.returns-in-Some
 returns-in-Some g c =
     let collation = collation_borrowed c.args.self.now in
-    let t = nfd (g.L.EncodedText.text c.args.left) in
-    let u = nfd (g.R.EncodedText.text c.args.right) in
+    let t = nfd (g.L.EncodedText.text c.args.texts.now.left) in
+    let u = nfd (g.R.EncodedText.text c.args.texts.now.right) in
     let counts : (form_by collation).quaternary ≡ Some c.in-Some.field-0 = sym (ap (λ (k : KeyForm). k.quaternary) c.key_form.ensures) ∙ c.in-Some.is in
     c.compare_forward_level.ensures
     ∙ quaternaries_read collation t u c.reordering.result c.in-Some.field-0 c.reordering.ensures

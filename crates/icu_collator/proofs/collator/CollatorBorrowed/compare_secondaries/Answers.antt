@@ -13,8 +13,8 @@ use Rattle.icu_collator.proofs.collator.CollatorBorrowed.compare_secondaries.Goa
 pub returns-in-Some-Forward : goal.returns-in-Some-Forward
 returns-in-Some-Forward g c =
     let collation = collation_borrowed c.args.self.now in
-    let t = nfd (g.L.EncodedText.text c.args.left) in
-    let u = nfd (g.R.EncodedText.text c.args.right) in
+    let t = nfd (g.L.EncodedText.text c.args.texts.now.left) in
+    let u = nfd (g.R.EncodedText.text c.args.texts.now.right) in
     let counts : (form_by collation).secondary ≡ Some Forward = sym (ap (λ (k : KeyForm). k.secondary) c.key_form.ensures) ∙ c.in-Some-Forward.is ∙ ap (λ f. Some f) (search rules) in
     c.compare_forward_level.ensures
     ∙ secondaries_read collation t u ∙ ap (λ f. secondaries_order f (lists_by collation t) (lists_by collation u)) (sym counts)

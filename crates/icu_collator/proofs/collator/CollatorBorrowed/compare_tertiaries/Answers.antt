@@ -12,4 +12,4 @@ returns-in-Some g c =
     let collation = collation_borrowed c.args.self.now in
     let counts : (form_by collation).tertiary ≡ Some c.in-Some.form = sym (ap (λ (k : KeyForm). k.tertiary) c.key_form.ensures) ∙ c.in-Some.is in
     c.compare_forward_level.ensures
-    ∙ tertiaries_read collation (nfd (g.L.EncodedText.text c.args.left)) (nfd (g.R.EncodedText.text c.args.right)) c.in-Some.form counts
+    ∙ tertiaries_read collation (nfd (g.L.EncodedText.text c.args.texts.now.left)) (nfd (g.R.EncodedText.text c.args.texts.now.right)) c.in-Some.form counts

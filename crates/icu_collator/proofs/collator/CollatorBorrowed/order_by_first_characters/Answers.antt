@@ -10,4 +10,4 @@ returns-in-Some g c =
     let u = g.R.EncodedText.text c.args.right in
     let collation = collation_borrowed c.args.self.now in
     subst (λ (r : Option Ordering). IfSome r (λ o. o ≡ text_order collation t u)) c.in-Some.is
-    (c.order_of_first_primaries.ensures t u c.requires.one c.requires.other)
+    (c.order_of_first_primaries.ensures.order t u c.requires.one c.requires.other)

@@ -1,7 +1,10 @@
 -- Where no element comes, none is handled.
-use Rattle.std.proofs.Common.{◌∙◌}
+use Rattle.std.proofs.Common.{◌∙◌, sym}
 use Rattle.icu_collator.proofs.OrdersInTurn.{none_handled}
 use Rattle.icu_collator.proofs.key_text.HandledKeyTextHandledSource.next_handled.Goals as goal
 
 pub returns : goal.returns
-returns g c = c.passing.invariant ∙ none_handled c.passing.self.weighting _ (c.in_ok-element.ensures.end c.in_default.is)
+returns g c =
+    let none = c.in_ok-element.ensures.end c.in_default.is in
+    let left = rw c.in_default.is at c.in_ok-element.ensures.next in
+    (c.passing.invariant ∙ none_handled c.passing.self.weighting _ none, none_handled c.passing.self.weighting _ (sym left ∙ none))
