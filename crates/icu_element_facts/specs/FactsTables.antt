@@ -18,4 +18,4 @@ pub record AreFacts (reading : Reading) (t : KeptFacts) : Type 0 where
   pub latin : AreFactsFrom reading 0 t.latin.items
   pub jamo : AreFactsFrom reading 0x1100 t.jamo.items
   pub words : AreWords reading t.words
-  pub pairs : ArePairs reading t.pairs.items
+  pub pairs : ArePairs reading t.pairs

@@ -1,5 +1,5 @@
 -- What is known of a character before it is read: how it may be read by itself, and where a text may be cut before it.
-use Rattle.std.specs.Prelude.{◌≡◌, ◌≢◌, ◌<◌, ◌%◌, ℕ, Bool, true, false, ◌&&◌, ◌==◌, nat_le, List, [], ◌∷◌, ◌++◌, take, IsTrue, IfSome}
+use Rattle.std.specs.Prelude.{◌≡◌, ◌≢◌, ◌<◌, ◌%◌, ℕ, Bool, true, false, ◌&&◌, ◌==◌, nat_le, List, [], ◌∷◌, take, IsTrue, IfSome}
 use Rattle.std.specs.List.{list_all}
 use Rattle.ucd_normal.specs.CanonicalCombiningClass.{canonical_combining_class as class_of}
 use Rattle.ucd_normal.specs.declared.forms.Form.TheVariants.{Nfd}
@@ -11,7 +11,7 @@ use Rattle.icu_table_entries.specs.Elements.{Element}
 use Rattle.icu_table_entries.specs.Entries.{kind_of}
 use Rattle.icu_table_provider.specs.Tables.{entry_of}
 use Rattle.icu_element_reading.specs.TextElements.{Reading, continues_number, digit_of_char, elements_after}
-use Rattle.icu_element_reading.specs.boundaries.Alone.{context_after, elements_by_char, elements_of_char, is_alone}
+use Rattle.icu_element_reading.specs.boundaries.Alone.{elements_by_char, elements_of_char, is_alone}
 use Rattle.icu_element_reading.specs.boundaries.Cuts.{IsBoundary}
 use Rattle.icu_element_reading.specs.boundaries.BoundaryTables.{HasBoundaryBefore}
 use Rattle.icu_element_facts.specs.Followers.{AreFollowers}
@@ -71,8 +71,10 @@ pub record HasLeadingPrimary (reading : Reading) (c : ℕ) (primary : ℕ) : Typ
   pub elements : elements_of_char reading.tables first ≡ element ∷ rest
   pub leading : element.primary ≡ primary
 
--- it gives the elements kept as a text by itself, whatever stands before, and goes on with the followers kept alone
+-- it gives the elements kept as a text by itself, whatever stands before, and goes on with the followers kept alone; it
+-- is the character that is kept
 pub record IsBase (reading : Reading) (c : ℕ) (l : CharFacts) : Type 0 where
+  pub same : l.character ≡ c
   pub at_end : (before : List ℕ) → elements_after reading before (nfd (c ∷ [])) ≡ char_elements l
   pub goes_on : ∥ AreFollowers reading c l.class l.followers ∥₁
 
@@ -121,8 +123,3 @@ pub record StandByThemselves (reading : Reading) (cs : List ℕ) (es : List Elem
   pub alone : list_all (is_alone reading) cs ≡ true
   pub starters : list_all is_starter cs ≡ true
   pub elements : es ≡ elements_by_char reading.tables cs
-
--- two characters give these elements together, whatever stands before them and after
-pub record IsPair (reading : Reading) (c x : ℕ) (es : List Element) : Type 0 where
-  pub stands : (before text : List ℕ) → elements_after reading before (nfd (c ∷ x ∷ text))
-      ≡ es ++ elements_after reading (context_after (context_after before (decompose Nfd c)) (decompose Nfd x)) (nfd text)

@@ -89,6 +89,7 @@ fn with_base(places: &Boundaries<'_>, c: char, facts: CharFacts) -> CharFacts
     let followers = followers_of(places, c);
     let mut known = facts;
     known.followers = followers.bits;
+    known.character = c;
     match elements_of_chars(places, &[c]) {
         Some(few) => with_elements(known, few, (FactsKind::Base, followers.class)),
         None => facts,

@@ -43,6 +43,8 @@ pub struct CharFacts {
     pub begins_with_starter: bool,
     /// The primary weight that the elements of each text that begins with it begin with, or 0 where that is not known.
     pub leading_primary: u32,
+    /// Where its kind is `Base`: the character.
+    pub character: char,
     /// The value that it has in a number, from 0 to 9, where it is a digit below U+00C0 and digits may be read as
     /// numbers (UTS #35 part 5, "Setting Options"). Where this is `None`, that is not known.
     pub digit: Option<u8>,

@@ -30,7 +30,7 @@ pub enum Kept<'f> {
 pub(crate) struct CharWords {
     blocks: Vec<u16>,
     words: Vec<u16>,
-    facts: Vec<CharFacts>,
+    pub(crate) facts: Vec<CharFacts>,
     ghost is_table: { IsCodePointTable blocks.items words.items },
 }
 

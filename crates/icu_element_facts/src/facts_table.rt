@@ -1,16 +1,18 @@
 //! What is known of all characters.
 
-ghost use Rattle.std.specs.Prelude.{◌≡◌, ◌+◌, ◌≤◌, ◌<◌, length, true, IfOk, OnOk};
+ghost use Rattle.std.specs.Prelude.{◌≡◌, ◌+◌, ◌≤◌, ◌<◌, length, true, IfOk, IfSome, OnOk};
 ghost use Rattle.icu_table_provider.specs.well_formed.Checked.{checked_tables};
 ghost use Rattle.icu_element_reading.specs.TextElements.{Reading};
 ghost use Rattle.icu_element_reading.specs.boundaries.BoundaryTables.{boundary_reading};
 ghost use Rattle.icu_element_facts.specs.KeptFacts.{AreTrueFacts};
+ghost use Rattle.icu_element_facts.specs.KeptPairs.{IsKeptOf};
 ghost use Rattle.icu_element_facts.specs.KeptChars.{KeptChar, AreFactsFrom, IsOneMore};
 
 use crate::bases::facts_to_keep;
 use crate::char_facts::CharFacts;
 use crate::char_words::{CharWords, Kept};
-use crate::joined_pairs::{KeptPair, kept_pairs, pair_slots};
+use crate::joined_pairs::push_all_pairs;
+use crate::kept_pairs::{KeptPair, KeptPairs};
 use crate::read_char::{facts_of, own_facts};
 use icu_element_reading::boundaries::Boundaries;
 use icu_table_provider::well_formed::CheckedTables;
@@ -18,17 +20,15 @@ use std::alloc::{AllocError, Global};
 
 /// What is known of all characters: facts of U+0000 to U+037F and of the jamo, U+1100 to U+11FF, of which syllables
 /// are made, a word of each other character, and
-/// pairs of characters that contractions join.
+/// pairs of characters that contractions begin with.
 #[derive(Debug, Drop)]
 pub struct KeptFacts {
     latin: Vec<CharFacts>,
     pub(crate) jamo: Vec<CharFacts>,
     words: CharWords,
-    pub(crate) pairs: Vec<KeptPair>,
-    pub(crate) pair_slots: Vec<u16>,
+    pairs: KeptPairs,
     ghost latin_count: { length latin.items ≡ 0x380 },
     ghost jamo_count: { length jamo.items ≡ 0x100 },
-    ghost slot_count: { length pair_slots.items ≡ 0x800 },
 }
 
 impl KeptFacts {
@@ -48,14 +48,14 @@ impl KeptFacts {
         let latin = facts_from(alloc, places, 0, 0x380)?;
         let jamo = facts_from(alloc, places, 0x1100, 0x100)?;
         let words = CharWords::new(alloc, tables, &places)?;
-        let pairs = kept_pairs(alloc, &places)?;
-        let pair_slots = pair_slots(alloc, pairs.as_slice())?;
+        let mut pairs = KeptPairs::new(alloc)?;
+        push_all_pairs(&places, latin.as_slice(), &mut pairs)?;
+        push_all_pairs(&places, words.facts.as_slice(), &mut pairs)?;
         Ok(KeptFacts {
             latin,
             jamo,
             words,
             pairs,
-            pair_slots,
         })
     }
 
@@ -71,6 +71,15 @@ impl KeptFacts {
         } else {
             self.words.get(c)
         }
+    }
+
+    /// What is kept of two characters that contractions begin with.
+    #[inline(always)]
+    pub fn pair(&self, c: char, x: char) -> Option<&KeptPair>
+        ensures { (reading : Reading) → AreFacts reading self.now → IfSome result (λ p.
+            ∥ IsKeptOf reading c x p.now ∥₁) }
+    {
+        self.pairs.get(c, x)
     }
 
     /// What is known of a character of which no facts are kept, as texts are read whose boundaries these are: of an

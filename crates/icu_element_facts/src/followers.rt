@@ -69,7 +69,7 @@ fn with_second(bits: u64, first: char, chars: &[char]) -> u64
 }
 
 /// The bits of the characters that the mappings of a context have behind this one.
-fn second_bits(context: FoundContext<'_>, first: char) -> u64
+pub(crate) fn second_bits(context: FoundContext<'_>, first: char) -> u64
     ensures { (d : ℕ) → HasNoBit result d
         → NoneBeginsWithBoth (found_context context.entry).mappings first d }
 {

@@ -1,54 +1,38 @@
-//! Pairs of characters that contractions join, as a vowel that is written before its consonant in Thai and Lao
+//! Which two characters contractions begin with: those that one joins, as "s" and "z" in Hungarian, or a vowel that is
+//! written before its consonant in Thai, and others, as "s" and "s", which "ssz" begins with
 //! (UTS #10, "Produce Collation Element Arrays").
 
-ghost use Rattle.std.specs.Prelude.{◌≡◌, ◌≢◌, ◌≤◌, ◌<◌, ◌∷◌, [], true, length, IsTrue, IfOk, IfSome, OnOk};
+ghost use Rattle.std.specs.Prelude.{◌≡◌, ◌≢◌, ◌<◌, ◌∷◌, [], length, IsTrue, IfSome, OnOk};
 ghost use Rattle.ucd_normal.specs.declared.forms.Form.TheVariants.{Nfd};
 ghost use Rattle.unicode_normalization.specs.Decompose.{decompose};
-ghost use Rattle.unicode_normalization.specs.Order.{is_starter};
+ghost use Rattle.icu_table_data.specs.Data.{homed};
+ghost use Rattle.icu_table_data.specs.Final.{final_elements};
+ghost use Rattle.icu_table_provider.specs.Tables.{entry_of};
+ghost use Rattle.icu_element_facts.specs.FewElements.{few_elements};
 ghost use Rattle.icu_table_data.specs.Contexts.{has_ascending_mappings};
 ghost use Rattle.icu_table_data.specs.StoredData.{found_context};
 ghost use Rattle.icu_table_entries.specs.declared.entry.EntryKind.TheVariants.{Digit};
 ghost use Rattle.icu_table_entries.specs.Entries.{kind_of};
-ghost use Rattle.icu_element_reading.specs.TextElements.{Reading};
 ghost use Rattle.icu_element_reading.specs.boundaries.BoundaryTables.{boundary_reading};
-ghost use Rattle.icu_element_facts.specs.FactsTables.{AreFacts};
-ghost use Rattle.icu_element_facts.specs.FewElements.{few_elements};
 ghost use Rattle.icu_element_facts.specs.Followers.{BeginsContractions};
-ghost use Rattle.icu_element_facts.specs.KeptFacts.{IsPair};
-ghost use Rattle.icu_element_facts.specs.KeptPairs.{ArePairs};
-ghost use Rattle.icu_element_facts.specs.inner.JoinedPairs.{AreJoined, IsMappingOf, NamesAlone};
+ghost use Rattle.icu_element_facts.specs.KeptPairs.{ArePairs, IsKeptPair};
+ghost use Rattle.icu_element_facts.specs.inner.JoinedPairs.{AreThirds, IsMappingOf, NamesAlone};
 
-use crate::bases::elements_of_chars;
+use crate::char_facts::{CharFacts, FactsKind};
 use crate::contractions::plain_contractions_of;
-use crate::facts_table::KeptFacts;
 use crate::few_elements::FewElements;
-use crate::own::is_plain;
+use crate::followers::second_bits;
+use crate::kept_pairs::{KeptPair, KeptPairs};
+use crate::own::decomposes_to_itself;
 use icu_element_matches::{find_longest, mapping_goes_on};
 use icu_element_reading::boundaries::Boundaries;
 use icu_table_data::FoundContext;
 use icu_table_entries::{CollationElement32, EntryKind};
-use std::alloc::{AllocError, Global};
+use std::alloc::AllocError;
 use unicode_normalization::char::canonical_combining_class;
 
-/// The first of the characters whose pairs are kept, those of Thai and Lao.
-const FIRST: u32 = 0xE00;
-
-/// The character after the last of them.
-const LIMIT: u32 = 0xF00;
-
-/// Where so many pairs are kept, no further character is looked at: tables may give each character many.
-const MANY_PAIRS: usize = 4096;
-
-/// How many slots there are for indices of pairs.
-const SLOT_COUNT: usize = 0x800;
-
-/// Two characters, with the elements that they give together wherever they stand.
-#[derive(Debug, Clone, Copy)]
-pub(crate) struct KeptPair {
-    first: char,
-    second: char,
-    few: FewElements,
-}
+/// Of a character with more mappings no pairs are kept: all of them are looked at for a pair.
+const MANY_MAPPINGS: usize = 0x400;
 
 /// Whether an entry isn't a digit's.
 fn is_no_digit(ce32: CollationElement32) -> bool
@@ -60,161 +44,191 @@ fn is_no_digit(ce32: CollationElement32) -> bool
     }
 }
 
-/// Whether the mapping at an index names this character alone, and comes to no digit.
-fn is_mapping_of(context: FoundContext<'_>, index: usize, x: char) -> bool
+/// The entry of the mapping at an index, if it names this character alone, and comes to no digit.
+fn entry_at(context: FoundContext<'_>, index: usize, x: char) -> Option<CollationElement32>
     requires { index < length (found_context context).mappings }
-    ensures { IsTrue result → IsMappingOf (found_context context.entry) index x }
+    ensures { IfSome result (λ e. IsMappingOf (found_context context.entry) index x e) }
 {
     let mapping = context.mapping(index);
     match mapping.chars {
-        [only] => *only == x && is_no_digit(mapping.entry),
-        _ => false,
+        [only] if *only == x && is_no_digit(mapping.entry) => Some(mapping.entry),
+        _ => None,
     }
 }
 
-/// Whether a mapping names a character alone, none that begins with it goes on, and it comes to no digit.
-fn names_alone(context: FoundContext<'_>, x: char) -> bool
+/// The entry of a mapping that names a character alone, if it comes to no digit.
+fn entry_alone(context: FoundContext<'_>, x: char) -> Option<CollationElement32>
     requires { IsTrue (has_ascending_mappings (found_context context)) }
-    ensures { IsTrue result → NamesAlone (found_context context.entry) x }
+    ensures { IfSome result (λ e. NamesAlone (found_context context.entry) x e) }
+{
+    let text = [x];
+    let index = find_longest(context, &text)?;
+    entry_at(context, index, x)
+}
+
+/// The bits of the characters that mappings have after this one. Mostly none goes on.
+fn thirds_of(context: FoundContext<'_>, x: char) -> u64
+    requires { IsTrue (has_ascending_mappings (found_context context)) }
+    ensures { AreThirds (found_context context.entry) x result }
 {
     let text = [x];
     if mapping_goes_on(context, &text) {
-        return false;
-    }
-    match find_longest(context, &text) {
-        Some(index) => is_mapping_of(context, index, x),
-        None => false,
+        second_bits(context, x)
+    } else {
+        0
     }
 }
 
-/// Appends a pair with its elements, where there are three at most.
-fn push_joined(
+/// The elements that an entry of a character's context gives, if there are three at most.
+#[tactic(auto, unfolding(icu_element_reading::specs::boundaries::BoundaryTables::boundary_reading))]
+fn elements_of_mapping(
     places: &Boundaries<'_>,
     c: char,
-    x: char,
-    pairs: &mut Vec<KeptPair>,
-) -> Result<(), AllocError>
-    requires { AreJoined (boundary_reading places.now) c x }
-    ensures { OnOk result (ArePairs (boundary_reading places.now) pairs.old.items
-        → ArePairs (boundary_reading places.now) pairs.new.items) }
+    ce32: CollationElement32,
+) -> Option<FewElements>
+    ensures { IfSome result (λ few. few_elements few ≡ final_elements
+        (homed (entry_of (boundary_reading places.now).tables c).home ce32) c) }
 {
-    match elements_of_chars(places, &[c, x]) {
-        Some(few) => pairs.extend_from_slice(&[KeptPair {
-            first: c,
-            second: x,
-            few,
-        }]),
-        None => Ok(()),
+    let (home, _) = places.reading.tables.homed_entry(c);
+    if !home.is_readable(c, ce32) {
+        return None;
+    }
+    FewElements::new().with_final(home, c, ce32)
+}
+
+/// What is kept of a character that begins contractions and one that decomposes to itself, if a mapping is that one
+/// alone, with its entry.
+fn joined_pair(
+    places: &Boundaries<'_>,
+    c: char,
+    context: FoundContext<'_>,
+    x: char,
+    entry: CollationElement32,
+) -> Option<KeptPair>
+    requires begins { BeginsContractions (boundary_reading places.now) c (found_context context) }
+    requires ascending { IsTrue (has_ascending_mappings (found_context context)) }
+    requires itself { decompose Nfd x ≡ x ∷ [] }
+    requires names { NamesAlone (found_context context) x entry }
+    ensures { IfSome result (IsKeptPair (boundary_reading places.now)) }
+{
+    let few = elements_of_mapping(places, c, entry)?;
+    let class = canonical_combining_class(x);
+    Some(KeptPair::joined((c, x), few, class, thirds_of(context, x)))
+}
+
+/// What is kept of a character that begins contractions and a starter that decomposes to itself, if no mapping is that
+/// one alone. None if digits are read as numbers.
+#[tactic(auto, unfolding(icu_element_reading::specs::boundaries::BoundaryTables::boundary_reading))]
+fn unjoined_pair(
+    places: &Boundaries<'_>,
+    c: char,
+    context: FoundContext<'_>,
+    x: char,
+) -> Option<KeptPair>
+    requires begins { BeginsContractions (boundary_reading places.now) c (found_context context) }
+    requires ascending { IsTrue (has_ascending_mappings (found_context context)) }
+    requires itself { decompose Nfd x ≡ x ∷ [] }
+    ensures { IfSome result (IsKeptPair (boundary_reading places.now)) }
+{
+    if places.reading.numeric_primary.is_some() || canonical_combining_class(x) != 0 {
+        return None;
+    }
+    let text = [x];
+    match find_longest(context, &text) {
+        Some(_) => None,
+        None => Some(KeptPair::unjoined((c, x), thirds_of(context, x))),
     }
 }
 
-/// Appends the pair of a character that begins contractions and of what a mapping names, where that is one character
-/// that it joins whatever follows.
+/// What is kept of a character that begins contractions and one that decomposes to itself.
+fn pair_of(places: &Boundaries<'_>, c: char, context: FoundContext<'_>, x: char) -> Option<KeptPair>
+    requires begins { BeginsContractions (boundary_reading places.now) c (found_context context) }
+    requires ascending { IsTrue (has_ascending_mappings (found_context context)) }
+    requires itself { decompose Nfd x ≡ x ∷ [] }
+    ensures { IfSome result (IsKeptPair (boundary_reading places.now)) }
+{
+    match entry_alone(context, x) {
+        Some(entry) => joined_pair(places, c, context, x, entry),
+        None => unjoined_pair(places, c, context, x),
+    }
+}
+
+/// Keeps the pair of a character that begins contractions and of the first that a mapping has.
 fn push_pair(
     places: &Boundaries<'_>,
     c: char,
     context: FoundContext<'_>,
     suffix: &[char],
-    pairs: &mut Vec<KeptPair>,
+    pairs: &mut KeptPairs,
 ) -> Result<(), AllocError>
     requires begins { BeginsContractions (boundary_reading places.now) c (found_context context) }
     requires ascending { IsTrue (has_ascending_mappings (found_context context)) }
-    ensures { OnOk result (ArePairs (boundary_reading places.now) pairs.old.items
-        → ArePairs (boundary_reading places.now) pairs.new.items) }
+    ensures { OnOk result (ArePairs (boundary_reading places.now) pairs.old
+        → ArePairs (boundary_reading places.now) pairs.new) }
 {
-    match suffix {
-        [x] if is_plain(*x) && names_alone(context, *x) => push_joined(places, c, *x, pairs),
-        _ => Ok(()),
+    let [x, ..] = suffix else {
+        return Ok(());
+    };
+    if pairs.is_full() || pairs.get(c, *x).is_some() || !decomposes_to_itself(*x) {
+        return Ok(());
+    }
+    match pair_of(places, c, context, *x) {
+        Some(pair) => pairs.push(pair),
+        None => Ok(()),
     }
 }
 
-/// Appends the pairs of a character that begins contractions.
+/// Keeps the pairs of a character that begins contractions, if it has not too many mappings.
 fn push_pairs(
     places: &Boundaries<'_>,
     c: char,
     context: FoundContext<'_>,
-    pairs: &mut Vec<KeptPair>,
+    pairs: &mut KeptPairs,
 ) -> Result<(), AllocError>
     requires begins { BeginsContractions (boundary_reading places.now) c (found_context context) }
     requires ascending { IsTrue (has_ascending_mappings (found_context context)) }
-    ensures { OnOk result (ArePairs (boundary_reading places.now) pairs.old.items
-        → ArePairs (boundary_reading places.now) pairs.new.items) }
+    ensures { OnOk result (ArePairs (boundary_reading places.now) pairs.old
+        → ArePairs (boundary_reading places.now) pairs.new) }
 {
+    if context.len() > MANY_MAPPINGS {
+        return Ok(());
+    }
     for index in 0..context.len() {
         push_pair(places, c, context, context.mapping(index).chars, pairs)?;
     }
     Ok(())
 }
 
-/// Appends the pairs of the character with a code, where it begins contractions and there aren't many pairs yet.
-fn push_pairs_at(
+/// Keeps the pairs of the character with these facts, if it begins contractions.
+fn push_pairs_of(
     places: &Boundaries<'_>,
-    code: u32,
-    pairs: &mut Vec<KeptPair>,
+    facts: &CharFacts,
+    pairs: &mut KeptPairs,
 ) -> Result<(), AllocError>
-    ensures { OnOk result (ArePairs (boundary_reading places.now) pairs.old.items
-        → ArePairs (boundary_reading places.now) pairs.new.items) }
+    ensures { OnOk result (ArePairs (boundary_reading places.now) pairs.old
+        → ArePairs (boundary_reading places.now) pairs.new) }
 {
-    if pairs.len() >= MANY_PAIRS {
+    if facts.kind != FactsKind::Base {
         return Ok(());
     }
-    let Some(c) = char::from_u32(code) else {
-        return Ok(());
-    };
+    let c = facts.character;
     match plain_contractions_of(places, c) {
         Some(context) => push_pairs(places, c, context, pairs),
         None => Ok(()),
     }
 }
 
-/// The pairs of Thai and Lao, by the first character and then by the second.
-pub(crate) fn kept_pairs(
-    alloc: Global,
+/// Keeps the pairs of the characters with these facts.
+pub(crate) fn push_all_pairs(
     places: &Boundaries<'_>,
-) -> Result<Vec<KeptPair>, AllocError>
-    ensures { IfOk result (λ pairs. ArePairs (boundary_reading places.now) pairs.items) }
+    all: &[CharFacts],
+    pairs: &mut KeptPairs,
+) -> Result<(), AllocError>
+    ensures { OnOk result (ArePairs (boundary_reading places.now) pairs.old
+        → ArePairs (boundary_reading places.now) pairs.new) }
 {
-    let mut pairs = Vec::new(alloc);
-    for code in FIRST..LIMIT {
-        push_pairs_at(places, code, &mut pairs)?;
+    for facts in all {
+        push_pairs_of(places, facts, pairs)?;
     }
-    Ok(pairs)
-}
-
-/// The slot of a pair. In CLDR's root each pair of Thai and of Lao has one of its own.
-fn slot_of(c: char, x: char) -> usize
-    ensures { result < 0x800 }
-{
-    (c as usize % 8) * 256 + x as usize % 256
-}
-
-/// For each slot the index of the last pair that has it.
-pub(crate) fn pair_slots(alloc: Global, pairs: &[KeptPair]) -> Result<Vec<u16>, AllocError>
-    ensures { IfOk result (λ slots. length slots.items ≡ 0x800) }
-{
-    let mut slots = vec![in alloc; 0u16; SLOT_COUNT]?;
-    for index in 0..pairs.len().min(0xFFFF) {
-        let pair = &pairs[index];
-        slots[slot_of(pair.first, pair.second)] = index as u16;
-    }
-    Ok(slots)
-}
-
-impl KeptFacts {
-    /// The elements of two characters that a contraction joins wherever they stand, where they are kept.
-    pub fn pair(&self, c: char, x: char) -> Option<FewElements>
-        ensures { (reading : Reading) → AreFacts reading self.now
-            → IfSome result (λ few. IsPair reading c x (few_elements few)) }
-    {
-        let index = self.pair_slots[slot_of(c, x)] as usize;
-        if index >= self.pairs.len() {
-            return None;
-        }
-        let pair = self.pairs[index];
-        if pair.first == c && pair.second == x {
-            Some(pair.few)
-        } else {
-            None
-        }
-    }
+    Ok(())
 }

@@ -49,6 +49,7 @@ fn outline(places: &Boundaries<'_>, first: char, leading_primary: u32) -> CharFa
         has_boundary_before: places.is_boundary(first),
         begins_with_starter: canonical_combining_class(first) == 0,
         leading_primary,
+        character: first,
         digit: None,
         head: (first as u32 % 64) as u8,
         followers: !0,
@@ -67,9 +68,11 @@ pub(crate) fn with_elements(known: CharFacts, all: FewElements, shape: (FactsKin
     ensures leads { result.leading_primary ≡ known.leading_primary }
     ensures head { result.head ≡ known.head }
     ensures followers { result.followers ≡ known.followers }
+    ensures character { result.character ≡ known.character }
     ensures first { (reading : Reading) (first : ℕ) → IsOutline reading first known
         → IsOutline reading first result }
 {
+    let character = known.character;
     CharFacts {
         elements: [all.elements[0], all.elements[1], all.elements[2]],
         count: all.count,
@@ -78,6 +81,7 @@ pub(crate) fn with_elements(known: CharFacts, all: FewElements, shape: (FactsKin
         has_boundary_before: known.has_boundary_before,
         begins_with_starter: known.begins_with_starter,
         leading_primary: known.leading_primary,
+        character,
         digit: None,
         head: known.head,
         followers: known.followers,
@@ -133,6 +137,7 @@ fn facts_of_one(element: CollationElement) -> CharFacts
         has_boundary_before: true,
         begins_with_starter: true,
         leading_primary: element.primary(),
+        character: '\0',
         digit: None,
         head: 0,
         followers: !0,
