@@ -25,7 +25,7 @@ use Rattle.icu_element_reading.specs.TextElements.{Reading, Step, entry_step, ma
 use Rattle.icu_element_reading.proofs.StepLemmas.{elements_after_cons, elements_after_nil}
 use Rattle.icu_element_reading.specs.boundaries.Alone.{context_after, stays_first, all_stay, rises_from}
 use Rattle.icu_element_reading.proofs.boundaries.NfdLemmas.{nfd-nil, nfd-begins, nfd-stay, stays_first-rises}
-use Rattle.icu_element_facts.specs.Followers.{IsComposed, NoneBeginsWithBoth, DiffersFromPair}
+use Rattle.icu_element_facts.specs.Followers.{IsComposed, JoinsAlone, NoneBeginsWithBoth, DiffersFromPair}
 use Rattle.icu_element_facts.proofs.KeptBaseLemmas.{own_entry}
 use Rattle.icu_element_cursor.specs.inner.MarkRuns.{Rises}
 use Rattle.icu_element_reading.specs.boundaries.Places.{MayBeCut}
@@ -47,7 +47,7 @@ sinks_below context m (d ∷ ds) h =
 
 -- ---- the match
 
-abbrev joined_match : ℕ → List ℕ → List ℕ → Match
+abbrev pub joined_match : ℕ → List ℕ → List ℕ → Match
 joined_match entry suffix text = record { entry = entry; suffix = suffix; rest = text }
 
 not_reached : (a b : ℕ) → a < b → nat_le b a ≡ false
@@ -160,7 +160,7 @@ begun_alike x d ds (y ∷ (z ∷ zs)) h =
       | inr other ↦ ap (λ b. b && (nat_eq z d && starts_with nat_eq ds zs)) (ne_eqb y x other) ∙ sym (ap (λ b. b && false) (ne_eqb y x other))
     ]
 
-longest_past : (best : Option Mapping) (mappings : List Mapping) (x d : ℕ) (ds : List ℕ) → NoneBeginsWithBoth mappings x d
+pub longest_past : (best : Option Mapping) (mappings : List Mapping) (x d : ℕ) (ds : List ℕ) → NoneBeginsWithBoth mappings x d
     → longest_from best mappings (x ∷ d ∷ ds) ≡ longest_from best mappings (x ∷ [])
 unfolding longest_from
 longest_past best [] x d ds h = refl
@@ -200,6 +200,28 @@ none_joins_both mappings entry x passed (m ∷ ms) h =
           rw mark (either is (is_blocked passed m) _ _ over (rw (none_of_both mappings x m h.0) over))
     ]
 
+-- ---- a mapping of one character
+
+-- what goes on with nothing takes that mapping
+module _ (context : Context) (x : ℕ) (joins : JoinsAlone context x) where
+  contracted_by : (ds : List ℕ) → longest_mapping context.mappings (x ∷ ds) ≡ Some joins.mapping
+      → contracted context (x ∷ ds) ≡ with_marks context.mappings joins.mapping.entry (x ∷ []) [] ds
+  unfolding contracted
+  contracted_by ds longest =
+      ap (λ (o : Option Mapping). elim o as (λ _. Match) [
+        | Some mapping ↦ with_marks context.mappings mapping.entry mapping.chars [] (drop (length mapping.chars) (x ∷ ds))
+        | None ↦ with_marks context.mappings context.default [] [] (x ∷ ds)
+      ]) longest
+      ∙ ap (λ (l : List ℕ). with_marks context.mappings joins.mapping.entry l [] (drop (length l) (x ∷ ds))) joins.chars
+
+  longest_before : (ds : List ℕ) → GoesOnNone (NoneBeginsWithBoth context.mappings x) ds → longest_mapping context.mappings (x ∷ ds) ≡ Some joins.mapping
+  unfolding GoesOnNone
+  longest_before [] goes = joins.joined
+  longest_before (d ∷ ds) goes = longest_past None context.mappings x d ds goes.0 ∙ joins.joined
+
+  pub contracted_before : (ds : List ℕ) → GoesOnNone (NoneBeginsWithBoth context.mappings x) ds → contracted context (x ∷ ds) ≡ joined_match joins.mapping.entry (x ∷ []) ds
+  contracted_before ds goes = contracted_by ds (longest_before ds goes) ∙ none_joins_both context.mappings joins.mapping.entry x [] ds goes
+
 -- ---- the step
 
 module _ (reading : Reading) (c : ℕ) (context : Context) (mark : ℕ) (h : IsComposed reading c context mark) (no_numbers : reading.numeric ≡ None) where
@@ -228,32 +250,15 @@ module _ (reading : Reading) (c : ℕ) (context : Context) (mark : ℕ) (h : IsC
   unfolding IsSmall
   exact = exact_from None context.mappings mark h.joins.mapping tt h.joins.joined (ap (λ (l : List ℕ). bytes_eq l (mark ∷ [])) h.joins.chars ∙ same_one mark)
 
-  contracted_by : (ds : List ℕ) → longest_mapping context.mappings (mark ∷ ds) ≡ Some h.joins.mapping → contracted context (mark ∷ ds) ≡ with_marks context.mappings entry (mark ∷ []) [] ds
-  unfolding contracted
-  contracted_by ds longest =
-      ap (λ (o : Option Mapping). elim o as (λ _. Match) [
-        | Some mapping ↦ with_marks context.mappings mapping.entry mapping.chars [] (drop (length mapping.chars) (mark ∷ ds))
-        | None ↦ with_marks context.mappings context.default [] [] (mark ∷ ds)
-      ]) longest
-      ∙ ap (λ (l : List ℕ). with_marks context.mappings entry l [] (drop (length l) (mark ∷ ds))) h.joins.chars
-
   contracted_behind : (ds : List ℕ) → AreLowerMarks context (class_of mark) ds → contracted context (ds ++ mark ∷ []) ≡ joined_match entry (mark ∷ []) ds
   unfolding contracted AreLowerMarks with_marks is_blocked
-  contracted_behind [] below = contracted_by [] h.joins.joined
+  contracted_behind [] below = contracted_by context mark h.joins [] h.joins.joined
   contracted_behind (d ∷ ds) below =
       ap (λ (o : Option Mapping). elim o as (λ _. Match) [
         | Some mapping ↦ with_marks context.mappings mapping.entry mapping.chars [] (drop (length mapping.chars) (d ∷ ds ++ mark ∷ []))
         | None ↦ with_marks context.mappings context.default [] [] (d ∷ ds ++ mark ∷ [])
       ]) (first_none context d (ds ++ mark ∷ []) below.0.none)
       ∙ joins_behind context context.default entry mark [] (d ∷ ds) nonstarter exact refl below
-
-  longest_before : (ds : List ℕ) → GoesOnNone (NoneBeginsWithBoth context.mappings mark) ds → longest_mapping context.mappings (mark ∷ ds) ≡ Some h.joins.mapping
-  unfolding GoesOnNone
-  longest_before [] goes = h.joins.joined
-  longest_before (d ∷ ds) goes = longest_past None context.mappings mark d ds goes.0 ∙ h.joins.joined
-
-  contracted_before : (ds : List ℕ) → GoesOnNone (NoneBeginsWithBoth context.mappings mark) ds → contracted context (mark ∷ ds) ≡ joined_match entry (mark ∷ []) ds
-  contracted_before ds goes = contracted_by ds (longest_before ds goes) ∙ none_joins_both context.mappings entry mark [] ds goes
 
   matched : (before text left : List ℕ) → contracted context text ≡ joined_match entry (mark ∷ []) left → match_of (entry_of reading.tables base) before text ≡ joined_match entry (mark ∷ []) left
   matched before text left is =
@@ -307,7 +312,7 @@ module _ (reading : Reading) (c : ℕ) (context : Context) (mark : ℕ) (h : IsC
       let own : given ≡ es =
       sym (append-nil given)
       ∙ ap (λ (xs : List Element). given ++ xs) (sym (elements_after_nil reading (last_two [] (base ∷ mark ∷ []))))
-      ∙ sym (read_on [] (mark ∷ []) [] (contracted_by [] h.joins.joined))
+      ∙ sym (read_on [] (mark ∷ []) [] (contracted_by context mark h.joins [] h.joins.joined))
       ∙ ap (elements_after reading []) (sym (decomposed_before [] refl ∙ ap (λ (l : List ℕ). base ∷ mark ∷ l) nfd-nil))
       ∙ stands []
       ∙ ap (λ (t : List ℕ). es ++ elements_after reading after t) nfd-nil
@@ -327,7 +332,7 @@ module _ (reading : Reading) (c : ℕ) (context : Context) (mark : ℕ) (h : IsC
   -- and before a text of which no mapping has a beginning behind the mark
   pub composed_goes : (front : List ℕ) → IsUnjoined (NoneBeginsWithBoth context.mappings mark) (class_of mark) front → (es : List Element) → StandsBefore reading c es [] → StandsBefore reading c es front
   composed_goes front u es stands =
-      stands_taking front (mark ∷ nfd front) (decomposed_before front u.rises) (contracted_before (nfd front) u.goes_on) es stands
+      stands_taking front (mark ∷ nfd front) (decomposed_before front u.rises) (contracted_before context mark h.joins (nfd front) u.goes_on) es stands
 
 -- ---- texts that may be cut behind such marks
 

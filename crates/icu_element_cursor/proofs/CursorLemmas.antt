@@ -8,13 +8,13 @@ use Rattle.icu_table_entries.specs.Elements.{Element}
 use Rattle.icu_element_reading.specs.TextElements.{Reading, elements_after}
 use Rattle.icu_element_reading.specs.boundaries.Alone.{context_after}
 use Rattle.icu_element_facts.specs.declared.char_facts.CharFacts.{CharFacts}
-use Rattle.icu_element_facts.specs.KeptFacts.{IsPair, char_elements}
+use Rattle.icu_element_facts.specs.KeptFacts.{char_elements}
 use Rattle.icu_element_cursor.specs.declared.facts_cursor.FactsCursor.{FactsCursor}
 use Rattle.icu_element_cursor.specs.FactsCursors.{facts_give, facts_reading, GivesNextOrEnds, GoesOn}
 use Rattle.icu_element_cursor.specs.inner.NumberElements.{IsNumberPiece}
 use Rattle.icu_element_reading.specs.boundaries.Places.{IsPiece}
 use Rattle.icu_element_cursor.specs.inner.Pieces.{IsPieceBegun}
-use Rattle.icu_element_cursor.specs.inner.Standing.{StandsBefore}
+use Rattle.icu_element_cursor.specs.inner.Standing.{BothStandBefore, StandsBefore}
 use Rattle.icu_element_reading.proofs.boundaries.CutPartLemmas.{nothing, pieces_part}
 
 -- where no element stands ready
@@ -66,13 +66,13 @@ module _ (reading : Reading) (ready : List Element) (before : List ℕ) (none : 
       sym (char_read c own all text after own is stands refl remembered) ∙ ready_taken first own others _ given
 
   -- two characters that are joined are read together
-  pub pair_begun : (c x : ℕ) (own : List Element) (all more text mid after : List ℕ) (first others : List Element) → all ≡ c ∷ more → more ≡ x ∷ text → IsPair reading c x own → own ≡ first ++ others
+  pub pair_begun : (c x : ℕ) (own : List Element) (all more text mid after : List ℕ) (first others : List Element) → all ≡ c ∷ more → more ≡ x ∷ text → BothStandBefore reading c x own text → own ≡ first ++ others
       → mid ≡ context_after before (decompose Nfd c) → after ≡ context_after mid (decompose Nfd x)
       → ready ++ elements_after reading before (nfd all) ≡ first ++ (others ++ elements_after reading after (nfd text))
   pair_begun c x own all more text mid after first others is goes pair given near far =
       nothing_ready ready _ none
       ∙ ap (λ t. elements_after reading before (nfd t)) (is ∙ ap (λ (t : List ℕ). c ∷ t) goes)
-      ∙ pair.stands before text
+      ∙ pair before
       ∙ ap (λ b. own ++ elements_after reading (context_after b (decompose Nfd x)) (nfd text)) (sym near)
       ∙ ap (λ b. own ++ elements_after reading b (nfd text)) (sym far)
       ∙ ap (λ (es : List Element). es ++ elements_after reading after (nfd text)) given
@@ -170,7 +170,7 @@ facts_goes_on reading ready others c own all text (Some e) none is stands given 
 
 -- as of two characters that are joined
 pub pair_goes_on : (reading : Reading) (ready others : List Element) (c x : ℕ) (own : List Element) (all more text : List ℕ) (found : Option Element) → ready ≡ [] → all ≡ c ∷ more → more ≡ x ∷ text
-    → IsPair reading c x own → own ≡ option_to_list found ++ others
+    → BothStandBefore reading c x own text → own ≡ option_to_list found ++ others
     → IfSome found (λ e. (reading ≡ reading) × ((before : List ℕ) → (after : List ℕ) × (ready ++ elements_after reading before (nfd all) ≡ e ∷ (others ++ elements_after reading after (nfd text)))))
 pair_goes_on reading ready others c x own all more text None none is goes pair given = tt
 pair_goes_on reading ready others c x own all more text (Some e) none is goes pair given = (
@@ -180,7 +180,7 @@ pair_goes_on reading ready others c x own all more text (Some e) none is goes pa
         after,
         ap (λ (es : List Element). es ++ elements_after reading before (nfd all)) none
             ∙ ap (λ t. elements_after reading before (nfd t)) (is ∙ ap (λ (t : List ℕ). c ∷ t) goes)
-            ∙ pair.stands before text
+            ∙ pair before
             ∙ ap (λ (es : List Element). es ++ elements_after reading after (nfd text)) given,
       ),
 )

@@ -35,7 +35,7 @@ use Rattle.icu_element_cursor.proofs.UnjoinedLemmas.{apart_none, mark_before, ma
 -- ---- texts
 
 -- a character gives what is kept at the end of a text
-base_stands : (reading : Reading) (c : ℕ) (l : CharFacts) → IsBase reading c l → StandsBefore reading c (char_elements l) []
+pub base_stands : (reading : Reading) (c : ℕ) (l : CharFacts) → IsBase reading c l → StandsBefore reading c (char_elements l) []
 base_stands reading c l h = λ before.
     h.at_end before
     ∙ sym (append-nil (char_elements l))
@@ -56,7 +56,7 @@ none_left is_none [] left is never goes = refl
 none_left is_none (c ∷ text) [] is never goes = absurd (some_left c text is)
 none_left is_none (c ∷ text) (d ∷ ds) is never goes = absurd (never d goes.0)
 
-weaker : (P Q : ℕ → Type 0) → ((d : ℕ) → P d → Q d) → (text : List ℕ) → GoesOnNone P text → GoesOnNone Q text
+pub weaker : (P Q : ℕ → Type 0) → ((d : ℕ) → P d → Q d) → (text : List ℕ) → GoesOnNone P text → GoesOnNone Q text
 unfolding GoesOnNone
 weaker P Q turn [] h = tt
 weaker P Q turn (d ∷ ds) h = (turn d h.0, λ mark. weaker P Q turn ds (h.1 mark))

@@ -3,6 +3,7 @@ pub mod StandLemmas
 pub mod UnjoinedLemmas
 pub mod ComposedLemmas
 pub mod KeptServesLemmas
+pub mod ReadPairLemmas
 pub mod PieceLemmas
 pub mod ReadyLemmas
 pub mod NumberLemmas

@@ -21,7 +21,7 @@ use Rattle.icu_element_reading.proofs.boundaries.NfdLemmas.{stays_first-rises}
 use Rattle.icu_element_facts.specs.declared.char_facts.CharFacts.{CharFacts}
 use Rattle.icu_element_facts.specs.declared.few_elements.FewElements.{FewElements}
 use Rattle.icu_element_facts.specs.FewElements.{few_elements}
-use Rattle.icu_element_facts.specs.KeptFacts.{char_elements, IsOwn, StandsAlone, HasStarters, IsMarkedStarter, IsLoneMark, StandByThemselves, IsPair, rises_to}
+use Rattle.icu_element_facts.specs.KeptFacts.{char_elements, IsOwn, StandsAlone, HasStarters, IsMarkedStarter, IsLoneMark, StandByThemselves, rises_to}
 use Rattle.icu_element_reading.specs.boundaries.Places.{BeginsAtBoundary}
 use Rattle.icu_element_cursor.specs.inner.MarkRuns.{Rises, EndsRuns, IsInRun, IsMarkItself}
 use Rattle.icu_element_cursor.specs.inner.Standing.{StandsBefore, StandsAnywhere}
@@ -154,9 +154,6 @@ characters_set = is_set (hlevel props)
 
 pub few_stand-prop : (reading : Reading) (c : ℕ) (few : FewElements) → IsProp ((text : List ℕ) → StandsBefore reading c (few_elements few) text)
 few_stand-prop reading c few = hlevel (props, elements_set)
-
-pub IsPair-prop : (reading : Reading) (c x : ℕ) (es : List Element) → IsProp (IsPair reading c x es)
-IsPair-prop reading c x es = hlevel (props, elements_set)
 
 -- what is found there serves
 pub found : {A X : Type 0} → ∥ A ∥₁ → (o : Option X) (P Q : X → Type 0) → ((x : X) → IsProp (Q x)) → ((x : X) → P x → Q x) → (A → IfSome o P) → IfSome o Q

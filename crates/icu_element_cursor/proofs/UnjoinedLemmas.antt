@@ -75,7 +75,7 @@ begins_too [] d h = refl
 begins_too (y ∷ ys) d h = cc
 
 -- nor does an empty one begin a text
-none_of_nothing : (mappings : List Mapping) (d : ℕ) → longest_mapping mappings (d ∷ []) ≡ None → longest_mapping mappings [] ≡ None
+pub none_of_nothing : (mappings : List Mapping) (d : ℕ) → longest_mapping mappings (d ∷ []) ≡ None → longest_mapping mappings [] ≡ None
 unfolding longest_from
 none_of_nothing [] d h = refl
 none_of_nothing (mapping ∷ mappings) d h =
@@ -90,7 +90,7 @@ apart_none context d h = record { none = none_by_head context.mappings d [] h; d
 
 -- ---- the match
 
-abbrev lone_match : ℕ → List ℕ → Match
+abbrev pub lone_match : ℕ → List ℕ → Match
 lone_match entry text = record { entry = entry; suffix = []; rest = text }
 
 -- no mark joins nothing
@@ -138,14 +138,14 @@ module _ (reading : Reading) (c : ℕ) (context : Context) (h : BeginsContractio
   abbrev step_of : List ℕ → List Element → Step
   step_of text es = record { elements = es; suffix = []; rest = text }
 
-  matched : (before text : List ℕ) → longest_mapping context.mappings text ≡ None → GoesOnNone (BeginsNone context) text → match_of (entry_of reading.tables c) before text ≡ lone_match context.default text
-  matched before text none goes =
+  matched : (before text : List ℕ) → contracted context text ≡ lone_match context.default text → match_of (entry_of reading.tables c) before text ≡ lone_match context.default text
+  matched before text alone =
       let entry = entry_of reading.tables c in
       let own : after_prefix entry before ≡ entry.entry = own_entry entry before h.begins in
       match_of-contraction entry before text (ap kind_of own ∙ h.begins)
       ∙ ap (λ e. contracted (context_of (homed entry.home e)) text) own
       ∙ ap (λ (x : Context). contracted x text) (sym h.same)
-      ∙ contracted_none context text none goes
+      ∙ alone
 
   stepped : (text : List ℕ) → entry_step reading home c (lone_match context.default text) ≡ step_of text given
   unfolding entry_step
@@ -155,14 +155,14 @@ module _ (reading : Reading) (c : ℕ) (context : Context) (h : BeginsContractio
   unfolding matched_step
   undiacritic text = no_secondary (diacritic_of reading.tables c) _ _ h.no_diacritic ∙ stepped text
 
-  taken : (before text : List ℕ) → longest_mapping context.mappings text ≡ None → GoesOnNone (BeginsNone context) text → step reading before c text ≡ step_of text given
-  taken before text none goes = ap (matched_step reading c text) (matched before text none goes) ∙ undiacritic text
+  taken : (before text : List ℕ) → contracted context text ≡ lone_match context.default text → step reading before c text ≡ step_of text given
+  taken before text alone = ap (matched_step reading c text) (matched before text alone) ∙ undiacritic text
 
-  read_on : (before text : List ℕ) → longest_mapping context.mappings text ≡ None → GoesOnNone (BeginsNone context) text
+  read_on : (before text : List ℕ) → contracted context text ≡ lone_match context.default text
       → elements_after reading before (c ∷ text) ≡ given ++ elements_after reading (last_two before (c ∷ [])) text
-  read_on before text none goes =
+  read_on before text alone =
       elements_after_cons reading before c text
-      ∙ ap (λ (s : Step). s.elements ++ elements_after reading (last_two before (consumed c s)) s.rest) (taken before text none goes)
+      ∙ ap (λ (s : Step). s.elements ++ elements_after reading (last_two before (consumed c s)) s.rest) (taken before text alone)
 
   -- ---- the text
 
@@ -182,12 +182,22 @@ module _ (reading : Reading) (c : ℕ) (context : Context) (h : BeginsContractio
       let after = context_after [] (decompose Nfd c) in
       sym (append-nil given)
       ∙ ap (λ (xs : List Element). given ++ xs) (sym (elements_after_nil reading (last_two [] (c ∷ []))))
-      ∙ sym (read_on [] [] none tt)
+      ∙ sym (read_on [] [] (contracted_none context [] none tt))
       ∙ ap (elements_after reading []) (sym alone_decomposed)
       ∙ stands []
       ∙ ap (λ (t : List ℕ). es ++ elements_after reading after t) nfd-nil
       ∙ ap (λ (xs : List Element). es ++ xs) (elements_after_nil reading after)
       ∙ append-nil es
+
+  -- so it does before a text of which it matches nothing
+  pub stands_alone : (es : List Element) (text left : List ℕ) → nfd text ≡ left → contracted context left ≡ lone_match context.default left → longest_mapping context.mappings [] ≡ None
+      → StandsBefore reading c es [] → StandsBefore reading c es text
+  stands_alone es text left is alone none stands = λ before.
+      ap (elements_after reading before) (decomposed text ∙ ap (λ (l : List ℕ). c ∷ l) is)
+      ∙ read_on before left alone
+      ∙ ap (λ (xs : List Element). xs ++ elements_after reading (last_two before (c ∷ [])) left) (own_are es stands none)
+      ∙ ap (λ (b : List ℕ). es ++ elements_after reading b left) (context_same before)
+      ∙ ap (λ (t : List ℕ). es ++ elements_after reading (context_after before (decompose Nfd c)) t) (sym is)
 
   stands_by : (es : List Element) (text left : List ℕ) → nfd text ≡ left → StandsBefore reading c es [] → GoesOnNone (BeginsNone context) left → StandsBefore reading c es text
   unfolding GoesOnNone
@@ -195,13 +205,8 @@ module _ (reading : Reading) (c : ℕ) (context : Context) (h : BeginsContractio
       ap (elements_after reading before) (decomposed text ∙ ap (λ (l : List ℕ). c ∷ l) is ∙ sym alone_decomposed)
       ∙ stands before
       ∙ ap (λ (t : List ℕ). es ++ elements_after reading (context_after before (decompose Nfd c)) t) (nfd-nil ∙ sym is)
-  stands_by es text (d ∷ ds) is stands goes = λ before.
-      ap (elements_after reading before) (decomposed text ∙ ap (λ (l : List ℕ). c ∷ l) is)
-      ∙ read_on before (d ∷ ds) (first_none context d ds goes.0) goes
-      ∙ ap (λ (xs : List Element). xs ++ elements_after reading (last_two before (c ∷ [])) (d ∷ ds))
-      (own_are es stands (none_of_nothing context.mappings d goes.0.none))
-      ∙ ap (λ (b : List ℕ). es ++ elements_after reading b (d ∷ ds)) (context_same before)
-      ∙ ap (λ (t : List ℕ). es ++ elements_after reading (context_after before (decompose Nfd c)) t) (sym is)
+  stands_by es text (d ∷ ds) is stands goes =
+      stands_alone es text (d ∷ ds) is (contracted_none context (d ∷ ds) (first_none context d ds goes.0) goes) (none_of_nothing context.mappings d goes.0.none) stands
 
   -- a text that goes on none of its contractions changes nothing
   pub unjoined_stands : (text : List ℕ) (least : ℕ) → IsUnjoined (BeginsNone context) least text → (es : List Element) → StandsBefore reading c es [] → StandsBefore reading c es text

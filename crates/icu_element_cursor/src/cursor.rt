@@ -4,16 +4,17 @@ ghost use Rattle.std.specs.Prelude.{◌≡◌, ◌≤◌, [], ◌∷◌, ◌++�
 ghost use Rattle.unicode_normalization.specs.Forms.{nfd};
 ghost use Rattle.icu_element_reading.specs.TextElements.{elements_of};
 ghost use Rattle.icu_element_facts.specs.FewElements.{few_elements};
-ghost use Rattle.icu_element_facts.specs.KeptFacts.{IsNumberDigit, IsPair, char_elements};
+ghost use Rattle.icu_element_facts.specs.KeptFacts.{IsNumberDigit, char_elements};
 ghost use Rattle.icu_element_cursor.specs.Cursors.{cursor_gives, cursor_reading, gives_with, lone_gives};
 ghost use Rattle.icu_element_cursor.specs.inner.AllReady.{all_ready};
 ghost use Rattle.icu_element_cursor.specs.inner.Unread.{HasNothingReady, HasReadNothing};
-ghost use Rattle.icu_element_cursor.specs.inner.Standing.{KeptServes, Serves, StandsAnywhere, StandsBefore};
+ghost use Rattle.icu_element_cursor.specs.inner.Standing.{BothStandBefore, KeptServes, Serves, StandsAnywhere, StandsBefore};
 
 use crate::char_elements::CharElements;
 use crate::cursor_tables::CursorTables;
 use crate::digit_run::read_number;
 use crate::last_characters::LastCharacters;
+use crate::pairs::{ReadPair, read_pair};
 use crate::ready_elements::ReadyElements;
 use crate::ready_place::ReadyPlace;
 use crate::stands::{read_behind, stands_before};
@@ -291,34 +292,29 @@ impl<'c, 'd, T: EncodedText, R: ReadyPlace> ElementCursor<'c, 'd, T, R> {
         if goes_on_none(self.tables, facts, rest) {
             return self.take_alone(c, facts, rest);
         }
-        let (x, after) = rest.split_first_char()?;
-        match self.tables.pair(c, x) {
-            Some(few) => self.take_pair((c, x), &few, rest, after),
+        let tables = self.tables;
+        match read_pair(tables, c, rest) {
+            Some(read) => self.take_pair(c, rest, read),
             None => self.take_unjoined(c, facts, rest),
         }
     }
 
     /// The first element of two characters that a contraction joins. The others are kept.
     #[inline(always)]
-    fn take_pair(
-        &mut self,
-        joined: (char, char),
-        few: &FewElements,
-        rest: T,
-        after: T,
-    ) -> Option<CollationElement>
+    fn take_pair(&mut self, c: char, rest: T, read: ReadPair<'c, T>) -> Option<CollationElement>
         requires nothing { HasNothingReady R.ready self.old }
-        requires text { T.text self.old.text ≡ joined.0 ∷ T.text rest }
-        requires next { T.text rest ≡ joined.1 ∷ T.text after }
-        requires pair { IsPair (cursor_reading self.old.tables.now) joined.0 joined.1
-            (few_elements few.now) }
+        requires text { T.text self.old.text ≡ c ∷ T.text rest }
+        requires next { T.text rest ≡ read.second ∷ T.text read.rest }
+        requires stand { BothStandBefore (cursor_reading self.old.tables.now) c read.second
+            (few_elements read.pair.now.few) (T.text read.rest) }
         ensures next { gives_with R.ready T.text self.old
             ≡ option_to_list result ++ gives_with R.ready T.text self.new }
+        ensures shorter { length (T.text self.new.text) ≤ length (T.text rest) }
     {
-        self.text = after;
-        self.recent.push(joined.0);
-        self.recent.push(joined.1);
-        self.ready.begin_few(few)
+        self.text = read.rest;
+        self.recent.push(c);
+        self.recent.push(read.second);
+        self.ready.begin_few(&read.pair.few)
     }
 
     /// The first element of a character that begins contractions, where none goes on. The others are kept.
@@ -559,6 +555,52 @@ impl<'c, 'd, T: EncodedText> ElementCursor<'c, 'd, T> {
         if stands_before(self.tables, facts, rest) {
             return Ok(self.read_facts(c, facts, rest));
         }
+        if facts.kind == FactsKind::Base {
+            return self.read_base(c, facts, rest);
+        }
+        self.read_group(c, facts, rest)
+    }
+
+    /// Reads a character that begins contractions with the next one, where a contraction joins them, or else with what
+    /// stands around it.
+    #[inline(never)]
+    fn read_base(
+        &mut self,
+        c: char,
+        facts: &CharFacts,
+        rest: T,
+    ) -> Result<Option<CollationElement>, LongPiece>
+        requires nothing { HasNothingReady all_ready self.old }
+        requires text { T.text self.old.text ≡ c ∷ T.text rest }
+        requires facts { Serves (cursor_reading self.old.tables.now) c facts.now }
+        ensures next { IfOk result (λ first. cursor_gives T.text self.old
+            ≡ option_to_list first ++ cursor_gives T.text self.new) }
+        ensures shorter { OnOk result (length (T.text self.new.text) ≤ length (T.text rest)) }
+        ensures stays { OnErr result (HasReadNothing T.text self.old self.new) }
+    {
+        let tables = self.tables;
+        match read_pair(tables, c, rest) {
+            Some(read) => Ok(self.take_pair(c, rest, read)),
+            None => self.read_group(c, facts, rest),
+        }
+    }
+
+    /// Reads the number that a character begins, or the piece.
+    #[inline(always)]
+    fn read_group(
+        &mut self,
+        c: char,
+        facts: &CharFacts,
+        rest: T,
+    ) -> Result<Option<CollationElement>, LongPiece>
+        requires nothing { HasNothingReady all_ready self.old }
+        requires text { T.text self.old.text ≡ c ∷ T.text rest }
+        requires facts { Serves (cursor_reading self.old.tables.now) c facts.now }
+        ensures next { IfOk result (λ first. cursor_gives T.text self.old
+            ≡ option_to_list first ++ cursor_gives T.text self.new) }
+        ensures shorter { OnOk result (length (T.text self.new.text) ≤ length (T.text rest)) }
+        ensures stays { OnErr result (HasReadNothing T.text self.old self.new) }
+    {
         match facts.digit {
             Some(digit) => self.read_digits(c, digit, rest),
             None => self.read_piece(c, rest),

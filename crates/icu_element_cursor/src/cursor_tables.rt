@@ -1,19 +1,20 @@
 //! What texts are read by, character by character.
 
-ghost use Rattle.std.specs.Prelude.{◌≡◌, ◌≢◌, ◌∷◌, [], ℕ, List, IfSome, IsTrue};
+ghost use Rattle.std.specs.Prelude.{◌≡◌, ◌≢◌, ◌∷◌, [], ℕ, List, IfSome, IsTrue, take};
 ghost use Rattle.icu_element_reading.specs.Reading.{reading_of};
 ghost use Rattle.icu_element_reading.specs.boundaries.Alone.{elements_of_char};
 ghost use Rattle.icu_element_facts.specs.FewElements.{few_elements};
-ghost use Rattle.icu_element_facts.specs.KeptFacts.{AreFirstFacts, IsNumberDigit, IsPair};
+ghost use Rattle.icu_element_facts.specs.KeptFacts.{AreFirstFacts, IsNumberDigit};
 ghost use Rattle.icu_element_facts.specs.FactsTables.{AreFacts};
 ghost use Rattle.icu_element_reading.specs.boundaries.BoundaryTables.{boundary_reading};
 ghost use Rattle.icu_element_reading.specs.boundaries.Places.{MayBeCut};
 ghost use Rattle.icu_element_cursor.specs.inner.MarkRuns.{EndsRuns, IsInRun};
-ghost use Rattle.icu_element_cursor.specs.inner.Standing.{KeptServes, Serves, StandsBefore};
+ghost use Rattle.icu_element_cursor.specs.inner.Standing.{BeginWithPrimary, KeptServes, PairServes, Serves, StandsBefore};
 
+use crate::pairs::{is_unjoined_by_pair, read_pair};
 use crate::unjoined::goes_on_none;
 use crate::{Boundaries, CharFacts, FactsKind, Kept, KeptFacts};
-use icu_element_facts::{FewElements, own_element, own_elements};
+use icu_element_facts::{FewElements, KeptPair, own_element, own_elements};
 use icu_element_reading::TextReading;
 use icu_table_entries::CollationElement;
 use icu_text_encodings::EncodedText;
@@ -125,25 +126,34 @@ impl<'d> CursorTables<'d> {
         self.kept_facts.syllable_elements(c)
     }
 
-    /// The elements of two characters that a contraction joins wherever they stand.
+    /// What is kept of two characters that contractions begin with.
+    #[inline(always)]
     #[tactic(auto, unfolding(crate::specs::Cursors::cursor_reading))]
-    pub(crate) fn pair(&self, c: char, x: char) -> Option<FewElements>
-        ensures { IfSome result (λ few. IsPair (cursor_reading self.now) c x (few_elements few)) }
+    pub(crate) fn pair(&self, c: char, x: char) -> Option<&KeptPair>
+        ensures { IfSome result (λ p. PairServes (cursor_reading self.now) c x p.now) }
     {
         self.kept_facts.pair(c, x)
     }
 
-    /// The primary weight that the elements of a text begin with whose first character has these facts, and goes on
-    /// nothing that it begins, or 0 where that is not known.
+    /// The primary weight that the elements of a text begin with whose first character has these facts, and is read
+    /// alone or with the next one, or 0 where that is not known.
     #[inline(never)]
     pub fn first_primary<T: EncodedText>(&self, facts: &CharFacts, rest: T) -> u32
         ensures { (c : ℕ) → AreFirstFacts (cursor_reading self.now) c facts.now → result ≢ 0
             → BeginsWithPrimary (cursor_reading self.now) (c ∷ T.text rest) result }
     {
-        if facts.kind == FactsKind::Base && facts.count > 0 && goes_on_none(self, facts, rest) {
-            facts.elements[0].primary()
-        } else {
-            0
+        if facts.kind != FactsKind::Base {
+            return 0;
+        }
+        if goes_on_none(self, facts, rest) {
+            return primary_of_first(&facts.elements, facts.count);
+        }
+        match read_pair(self, facts.character, rest) {
+            Some(read) => primary_of_first(&read.pair.few.elements, read.pair.few.count),
+            None if is_unjoined_by_pair(self, facts.character, rest) => {
+                primary_of_first(&facts.elements, facts.count)
+            }
+            None => 0,
         }
     }
 
@@ -194,6 +204,17 @@ impl<'d> CursorTables<'d> {
             _ => class_of_first(c),
         }
     }
+}
+
+/// The primary weight of the first of so many elements, or 0 where there is none.
+fn primary_of_first(elements: &[CollationElement; 3], count: u8) -> u32
+    ensures { result ≢ 0 → BeginWithPrimary (take count elements.now) result }
+{
+    if count == 0 {
+        return 0;
+    }
+    let elements = &elements[..];
+    elements[0].primary()
 }
 
 /// The class of a character in a run of marks, by its decomposition.

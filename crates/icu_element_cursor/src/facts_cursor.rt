@@ -5,19 +5,19 @@ ghost use Rattle.unicode_normalization.specs.Forms.{nfd};
 ghost use Rattle.icu_element_reading.specs.TextElements.{elements_after};
 ghost use Rattle.icu_element_reading.specs.boundaries.Places.{BeginsAtBoundary};
 ghost use Rattle.icu_element_facts.specs.FewElements.{few_elements};
-ghost use Rattle.icu_element_facts.specs.KeptFacts.{IsPair, char_elements};
+ghost use Rattle.icu_element_facts.specs.KeptFacts.{char_elements};
 ghost use Rattle.icu_element_cursor.specs.Cursors.{cursor_reading};
 ghost use Rattle.icu_element_cursor.specs.inner.Ready.{elements_ready};
-ghost use Rattle.icu_element_cursor.specs.inner.Standing.{Serves, StandsAnywhere, StandsBefore};
+ghost use Rattle.icu_element_cursor.specs.inner.Standing.{BothStandBefore, Serves, StandsAnywhere, StandsBefore};
 
 use crate::char_elements::CharElements;
 use crate::cursor_tables::CursorTables;
 use crate::digit_run::read_weight;
+use crate::pairs::{ReadPair, read_pair};
 use crate::ready_place::ReadyPlace;
 use crate::stands::{begins_at_boundary, read_behind, stands_at_once};
 use crate::unjoined::{goes_on_none, is_unjoined};
 use crate::{CharFacts, FactsKind, Kept};
-use icu_element_facts::FewElements;
 use icu_table_entries::CollationElement;
 use icu_text_encodings::EncodedText;
 
@@ -273,9 +273,9 @@ impl<'c, 'd, T: EncodedText> FactsCursor<'c, 'd, T> {
         if goes_on_none(self.tables, facts, rest) {
             return self.begin_alone(c, facts, rest);
         }
-        let (x, after) = rest.split_first_char()?;
-        match self.tables.pair(c, x) {
-            Some(few) => self.begin_pair((c, x), &few, rest, after),
+        let tables = self.tables;
+        match read_pair(tables, c, rest) {
+            Some(read) => self.begin_pair(c, rest, read),
             None => self.begin_unjoined(c, facts, rest),
         }
     }
@@ -297,22 +297,16 @@ impl<'c, 'd, T: EncodedText> FactsCursor<'c, 'd, T> {
 
     /// The first element of two characters that a contraction joins. The others are kept.
     #[inline(always)]
-    fn begin_pair(
-        &mut self,
-        joined: (char, char),
-        few: &FewElements,
-        rest: T,
-        after: T,
-    ) -> Option<CollationElement>
+    fn begin_pair(&mut self, c: char, rest: T, read: ReadPair<'c, T>) -> Option<CollationElement>
         requires nothing { elements_ready self.old.ready ≡ [] }
-        requires text { T.text self.old.text ≡ joined.0 ∷ T.text rest }
-        requires next { T.text rest ≡ joined.1 ∷ T.text after }
-        requires pair { IsPair (cursor_reading self.old.tables.now) joined.0 joined.1
-            (few_elements few.now) }
+        requires text { T.text self.old.text ≡ c ∷ T.text rest }
+        requires next { T.text rest ≡ read.second ∷ T.text read.rest }
+        requires stand { BothStandBefore (cursor_reading self.old.tables.now) c read.second
+            (few_elements read.pair.now.few) (T.text read.rest) }
         ensures { IfSome result (λ e. GoesOn T.text self.old e self.new) }
     {
-        self.text = after;
-        self.ready.begin_few(few)
+        self.text = read.rest;
+        self.ready.begin_few(&read.pair.few)
     }
 
     /// The first element of a character that begins contractions, where none goes on. The others are kept.

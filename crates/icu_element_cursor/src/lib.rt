@@ -12,6 +12,7 @@ mod few_digits;
 pub mod first_chars;
 mod last_characters;
 mod long_piece;
+mod pairs;
 mod piece;
 pub mod ready_elements;
 pub mod ready_place;

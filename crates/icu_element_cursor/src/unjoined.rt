@@ -13,6 +13,7 @@ ghost use Rattle.icu_element_cursor.specs.inner.Unjoined.{BeginsNone, IsFollower
 
 use crate::composed::stands_composed;
 use crate::cursor_tables::CursorTables;
+use crate::pairs::is_unjoined_by_pair;
 use crate::{CharFacts, FactsKind, Kept};
 use icu_element_facts::plain_contractions_of;
 use icu_element_matches::{find_longest, mapping_goes_on};
@@ -157,6 +158,9 @@ pub(crate) fn is_unjoined<T: EncodedText>(tables: &CursorTables<'_>, c: char, te
     if tables.reading().numeric_primary.is_some() {
         return false;
     }
+    if is_unjoined_by_pair(tables, c, text) {
+        return true;
+    }
     match plain_contractions_of(tables.places(), c) {
         Some(context) => joins_none(tables, context, 0, text),
         None => is_unjoined_composed(tables, c, text),
@@ -179,12 +183,12 @@ fn is_unjoined_composed<T: EncodedText>(tables: &CursorTables<'_>, c: char, text
     }
 }
 
-/// Whether a character doesn't go on what another one begins, by its first bits.
+/// Whether a character has none of these bits, as its facts say.
 #[inline(always)]
-fn is_no_follower(facts: &CharFacts, next: &CharFacts) -> bool
-    ensures { IsTrue result → bit_at facts.now.followers (next.now.head % 64) ≡ 0 }
+fn has_no_bit(bits: u64, next: &CharFacts) -> bool
+    ensures { IsTrue result → bit_at bits (next.now.head % 64) ≡ 0 }
 {
-    (facts.followers >> (next.head % 64)) & 1 == 0
+    (bits >> (next.head % 64)) & 1 == 0
 }
 
 /// Whether a text goes on nothing that the character with these facts begins, by what is kept of the text's first
@@ -198,6 +202,21 @@ pub(crate) fn goes_on_none<T: EncodedText>(
     ensures { IsTrue result → IsUnjoinedBefore (cursor_reading tables.now)
         (HasNoBit facts.now.followers) facts.now.class (T.text text) }
 {
+    go_on_none(tables, facts.followers, facts.class, text)
+}
+
+/// Whether the characters that a text begins with have none of these bits: its first one, and if that is a mark, all
+/// marks of the run, whose classes rise from this one, and the starter behind it. False says nothing.
+#[inline(always)]
+pub(crate) fn go_on_none<T: EncodedText>(
+    tables: &CursorTables<'_>,
+    bits: u64,
+    class: u8,
+    text: T,
+) -> bool
+    ensures { IsTrue result → IsUnjoinedBefore (cursor_reading tables.now) (HasNoBit bits) class
+        (T.text text) }
+{
     let Some((x, _)) = text.split_first_char() else {
         return true;
     };
@@ -205,21 +224,26 @@ pub(crate) fn goes_on_none<T: EncodedText>(
         Kept::Own => true,
         Kept::Facts(next) => {
             next.has_boundary_before
-                || (is_no_follower(facts, next)
-                    && (next.begins_with_starter || marks_go_on_none(tables, facts, text)))
+                || (has_no_bit(bits, next)
+                    && (next.begins_with_starter || marks_go_on_none(tables, bits, class, text)))
         }
         Kept::Nothing => tables.has_boundary_before(x),
     }
 }
 
-/// Whether the marks that a text begins with, and the character behind them, go on nothing that the character with
-/// these facts begins. False says nothing.
+/// Whether the marks that a text begins with, and the character after them, have none of these bits, and the classes of
+/// the marks rise from this one. False says nothing.
 #[inline(never)]
-fn marks_go_on_none<T: EncodedText>(tables: &CursorTables<'_>, facts: &CharFacts, text: T) -> bool
-    ensures { IsTrue result → IsUnjoinedBefore (cursor_reading tables.now)
-        (HasNoBit facts.now.followers) facts.now.class (T.text text) }
+fn marks_go_on_none<T: EncodedText>(
+    tables: &CursorTables<'_>,
+    bits: u64,
+    class: u8,
+    text: T,
+) -> bool
+    ensures { IsTrue result → IsUnjoinedBefore (cursor_reading tables.now) (HasNoBit bits) class
+        (T.text text) }
 {
-    let mut last = facts.class;
+    let mut last = class;
     let mut rest = text;
     'marks: for _ in 0..CHARS_AHEAD {
         let Some((c, after)) = rest.split_first_char() else {
@@ -231,7 +255,7 @@ fn marks_go_on_none<T: EncodedText>(tables: &CursorTables<'_>, facts: &CharFacts
         if next.has_boundary_before {
             return true;
         }
-        if !is_no_follower(facts, next) {
+        if !has_no_bit(bits, next) {
             return false;
         }
         if next.begins_with_starter {

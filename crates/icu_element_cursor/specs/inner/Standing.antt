@@ -1,5 +1,5 @@
 -- What is kept of a character serves for reading.
-use Rattle.std.specs.Prelude.{◌≡◌, ℕ, true, false, List, ◌∷◌, ◌++◌, Some, IsTrue, ⊤}
+use Rattle.std.specs.Prelude.{◌≡◌, ℕ, true, false, List, [], ◌∷◌, ◌++◌, Some, IsTrue, ⊤}
 use Rattle.ucd_normal.specs.declared.forms.Form.TheVariants.{Nfd}
 use Rattle.unicode_normalization.specs.Decompose.{decompose}
 use Rattle.unicode_normalization.specs.Forms.{nfd}
@@ -10,7 +10,9 @@ use Rattle.icu_element_facts.specs.declared.char_facts.CharFacts.{CharFacts}
 use Rattle.icu_element_facts.specs.declared.char_facts.FactsKind.TheVariants.{Starters, Marked, Mark, Base}
 use Rattle.icu_element_facts.specs.KeptFacts.{char_elements, first_bits, IsNumberDigit}
 use Rattle.icu_element_facts.specs.KeptChars.{starts_with_starter}
+use Rattle.icu_element_facts.specs.FewElements.{few_elements}
 use Rattle.icu_element_facts.specs.Followers.{HasNoBit}
+use Rattle.icu_element_facts.specs.declared.kept_pairs.KeptPair.{KeptPair}
 use Rattle.icu_element_facts.specs.declared.char_words.Kept.{Kept}
 use Rattle.icu_element_facts.specs.declared.char_words.Kept.TheVariants.{Own, Facts, Nothing}
 use Rattle.icu_element_reading.specs.boundaries.Places.{MayBeCut}
@@ -21,6 +23,25 @@ use Rattle.icu_element_cursor.specs.inner.Unjoined.{IsUnjoinedBefore}
 abbrev pub StandsBefore : Reading → ℕ → List Element → List ℕ → Type 0
 StandsBefore reading c es text =
     (before : List ℕ) → elements_after reading before (nfd (c ∷ text)) ≡ es ++ elements_after reading (context_after before (decompose Nfd c)) (nfd text)
+
+-- these elements begin with one of this primary weight
+pub record BeginWithPrimary (es : List Element) (primary : ℕ) : Type 0 where
+  pub element : Element
+  pub rest : List Element
+  pub elements : es ≡ element ∷ rest
+  pub leading : element.primary ≡ primary
+
+-- two characters give these elements before a text, whatever stands before, and the text gives what it gives after both
+abbrev pub BothStandBefore : Reading → ℕ → ℕ → List Element → List ℕ → Type 0
+BothStandBefore reading c x es text =
+    (before : List ℕ) → elements_after reading before (nfd (c ∷ x ∷ text))
+    ≡ es ++ elements_after reading (context_after (context_after before (decompose Nfd c)) (decompose Nfd x)) (nfd text)
+
+-- what is kept of a pair says before which texts the two are read together, or the first by itself
+pub record PairServes (reading : Reading) (c x : ℕ) (p : KeptPair) : Type 0 where
+  pub before : p.joins ≡ true → (text : List ℕ) → IsUnjoinedBefore reading (HasNoBit p.followers) p.class text → BothStandBefore reading c x (few_elements p.few) text
+  pub anywhere : p.joins ≡ true → p.class ≡ 0 → p.followers ≡ 0 → (text : List ℕ) → BothStandBefore reading c x (few_elements p.few) text
+  pub unjoined : p.joins ≡ false → (text : List ℕ) → IsUnjoinedBefore reading (HasNoBit p.followers) 0 text → (es : List Element) → StandsBefore reading c es [] → StandsBefore reading c es (x ∷ text)
 
 -- what is kept of a character says when it stands by itself, what it is worth in a number, that runs of marks end
 -- before it, that texts may be cut there, and with which bits its decomposition begins

@@ -11,20 +11,20 @@ use Rattle.icu_element_cursor.proofs.unjoined.marks_go_on_none.Goals as goal
 pub returns-in_default : goal.returns-in_default
 returns-in_default g c =
     let reading = cursor_reading c.args.tables.now in
-    let none = HasNoBit c.args.facts.now.followers in
+    let none = HasNoBit c.args.bits in
     λ _. c.marks.invariant (subst (IsUnjoinedBefore reading none c.marks.last) (sym c.in_default.ensures) (ended_before reading none c.marks.last))
 
 pub returns-in_default-facts : goal.returns-in_default-facts
 returns-in_default-facts g c =
     let reading = cursor_reading c.args.tables.now in
-    let none = HasNoBit c.args.facts.now.followers in
+    let none = HasNoBit c.args.bits in
     λ yes. c.marks.invariant (subst (IsUnjoinedBefore reading none c.marks.last) (sym c.in-Some.ensures)
     (cut_before reading none c.marks.last c.in-Some.c (g.T.EncodedText.text c.in-Some.after) (c.has_boundary_before.ensures yes)))
 
 pub returns-then-next : goal.returns-then-next
 returns-then-next g c =
     let reading = cursor_reading c.args.tables.now in
-    let none = HasNoBit c.args.facts.now.followers in
+    let none = HasNoBit c.args.bits in
     let serves : Serves reading c.in-Some.c c.in-Some-facts.next.now = search rules in
     λ _. c.marks.invariant (subst (IsUnjoinedBefore reading none c.marks.last) (sym c.in-Some.ensures)
     (cut_before reading none c.marks.last c.in-Some.c (g.T.EncodedText.text c.in-Some.after) (serves.boundary (search rules))))
@@ -32,7 +32,7 @@ returns-then-next g c =
 pub returns-then-next-2 : goal.returns-then-next-2
 returns-then-next-2 g c =
     let reading = cursor_reading c.args.tables.now in
-    let bits = c.args.facts.now.followers in
+    let bits = c.args.bits in
     let next = c.in-Some-facts.next.now in
     let serves : Serves reading c.in-Some.c next = search rules in
     λ _. c.marks.invariant (subst (IsUnjoinedBefore reading (HasNoBit bits) c.marks.last) (sym c.in-Some.ensures)
@@ -41,7 +41,7 @@ returns-then-next-2 g c =
 pub marks-preserved : goal.marks-preserved
 marks-preserved g c =
     let reading = cursor_reading c.args.tables.now in
-    let bits = c.args.facts.now.followers in
+    let bits = c.args.bits in
     let next = c.in-Some-facts.next.now in
     let serves : Serves reading c.in-Some.c next = search rules in
     let is : next.kind ≡ Mark = search rules in

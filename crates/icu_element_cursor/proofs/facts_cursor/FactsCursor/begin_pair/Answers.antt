@@ -7,5 +7,5 @@ pub returns : goal.returns
 unfolding facts_give
 returns g c =
     let text = g.T.EncodedText.text in
-    pair_goes_on (cursor_reading c.args.self.now.tables.now) _ _ c.args.joined.0 c.args.joined.1 _ _ (text c.args.rest) (text c.args.after) c.begin_few.result
-    c.requires.nothing c.requires.text c.requires.next c.requires.pair c.begin_few.ensures
+    pair_goes_on (cursor_reading c.args.self.now.tables.now) _ _ c.args.c c.args.read.second _ _ (text c.args.rest) (text c.args.read.rest) c.begin_few.result
+    c.requires.nothing c.requires.text c.requires.next c.requires.stand c.begin_few.ensures
