@@ -13,6 +13,7 @@ use Rattle.icu_element_reading.proofs.boundaries.CutLemmas.{boundary_cut}
 use Rattle.icu_table_entries.specs.Elements.{Element}
 use Rattle.icu_element_reading.specs.TextElements.{Reading, elements_of}
 use Rattle.icu_order_texts.specs.weighting.Collations.{Collation}
+use Rattle.icu_order_texts.specs.weighting.Forms.{last_variable_by}
 use Rattle.icu_order_texts.specs.TextOrder.{reading_by, lists_by}
 use Rattle.icu_search_places.specs.PieceLaws.{BeginsPieces}
 use Rattle.icu_search_places.specs.SearchPlaces.{leads}
@@ -20,6 +21,7 @@ use Rattle.icu_search.specs.inner.AsciiMarks.{has_mark, counted_char, opens_with
 use Rattle.icu_search.specs.inner.SilentStarts.{begins_with_primary}
 use Rattle.icu_search.specs.inner.FirstWeights.{BeginsOtherwise}
 use Rattle.icu_search.proofs.FirstWeightLemmas.{first_read, reads_other}
+use Rattle.icu_search.proofs.SilentElementLemmas.{silent_gives_none}
 
 -- ---- marks
 
@@ -104,7 +106,7 @@ opens_silently c text x y tail is nothing leading cut next = record {
   next = y;
   tail = tail;
   text_is = is;
-  silent = record { pieces = cut; silent = nothing.silent; either = inr (leads_on c y tail leading next) };
+  silent = record { pieces = cut; silent = silent_gives_none (last_variable_by c) (elements_of (reading_by c) (nfd (x ∷ []))) nothing.silent false; either = inr (leads_on c y tail leading next) };
   ends = nothing.ends;
 }
 

@@ -1,25 +1,26 @@
 -- Parts of a text with whose characters no match begins.
-use Rattle.std.proofs.Common.{◌≡◌, ◌⊎◌, ℕ, ◌+◌, ◌-◌, ◌<◌, ◌≤◌, Bool, true, false, ◌&&◌, List, [], ◌∷◌, ◌++◌, Option, None, get_or, length, take, drop, refl, sym, ap, ◌∙◌, subst, arith, inl, inr, append-nil, length-append}
+use Rattle.std.proofs.Common.{◌≡◌, ℕ, ◌+◌, ◌-◌, ◌<◌, ◌≤◌, Bool, true, false, ◌&&◌, List, [], ◌∷◌, ◌++◌, None, get_or, length, take, drop, refl, sym, ap, ◌∙◌, subst, arith, inl, inr, append-nil, length-append}
 use Rattle.std.specs.Prelude.{slice_range}
 use Rattle.std.specs.Option.{option_map}
 use Rattle.std.proofs.lemmas.Bool.{cases_Bool, cases_lt, and_from, true≢false}
-use Rattle.std.proofs.lemmas.List.{drop_all, drop_at, drop-drop, ext_get_or, get_or-drop, get_or-take, length-drop, length-take-le, take_at, take-append-drop, take-append-le}
+use Rattle.std.proofs.lemmas.List.{drop_all, drop_at, drop-drop, ext_get_or, get_or-drop, get_or-take, length-drop, length-take-le, take_all, take_at, take-append-drop, take-append-le}
 use Rattle.std.proofs.Math.Bool.{and-false}
 use Rattle.icu_search_places.proofs.FoundLemmas.{ends_in_place}
+use Rattle.unicode_normalization.specs.Forms.{nfd}
 use Rattle.icu_element_reading.specs.TextElements.{Reading}
-use Rattle.icu_order_texts.specs.TextOrder.{reading_by}
-use Rattle.icu_search_places.specs.LeastMatches.{span, shortest_from, TellsLeastStop}
+use Rattle.icu_order_texts.specs.TextOrder.{lists_by, reading_by}
+use Rattle.icu_search_places.specs.LeastMatches.{EndsLaterMatch, span, shortest_from, TellsLeastStop}
 use Rattle.icu_search_places.specs.SearchPlaces.{is_place}
 use Rattle.icu_search_places.specs.Searches.{Search, is_match}
 use Rattle.icu_search_places.specs.declared.barren_part.BarrenPart.{BarrenPart}
 use Rattle.icu_search_places.proofs.LeastLemmas.{ShortestOf, ShortestOf-shortest_from}
 use Rattle.icu_search_places.proofs.SearchPieceLemmas.{place_before}
-use Rattle.icu_search.specs.inner.BarrenParts.{IsBarren, GoesOnAtCut, NoneBegins, Repeats}
+use Rattle.icu_search.specs.inner.BarrenParts.{IsBarren, IsBarrenWithin, GoesOnAtCut, NoneBegins, NoneFrom, Repeats}
 use Rattle.icu_search.specs.inner.CountedChars.{CountsAlone}
-use Rattle.icu_search.specs.inner.PartOutcomes.{ends_match, equals_pattern}
+use Rattle.icu_search.specs.inner.PartOutcomes.{equals_pattern}
 use Rattle.icu_search.specs.inner.SearchCuts.{BeginsPieceAt, EndsPieceAt}
-use Rattle.icu_search.proofs.CountedWalks.{CountedTo, total_is, weight_count}
-use Rattle.icu_search.proofs.LongerPartLemmas.{too_many, unlike_count}
+use Rattle.icu_search.proofs.CountedWalks.{CountedTo, left_counted, total_is, weight_count}
+use Rattle.icu_search.proofs.LongerPartLemmas.{lists_grow, too_few, too_many, unlike_count}
 use Rattle.icu_search.proofs.PartWalks.{empty_matches_not, matches_there, no_place, not_ended}
 use Rattle.icu_search.proofs.ShortestLemmas.{none_found}
 use Rattle.icu_search.proofs.TextCutLemmas.{first_place, places_from, places_to, taken_twice}
@@ -65,7 +66,7 @@ none_of_shortest matches start n ordered is t from to =
 pub told_barren : (s : Search) (text : List ℕ) (start last : ℕ) → last ≤ length text → equals_pattern s [] ≡ false → ((t : ℕ) → start < t → t ≤ length text → is_match s text start t ≡ false)
     → TellsLeastStop (is_match s text) start last None
 told_barren s text start last within not_empty none = λ t from to match.
-    elim (cases_lt start t) as (λ _. (start < t) × (is_match s text (start + 1) t ≡ true)) [
+    elim (cases_lt start t) as (λ _. EndsLaterMatch (is_match s text) start t) [
       | inl after ↦ absurd (true≢false (sym match ∙ none t after (omega (arith, to, within))))
       | inr at ↦
           let same : t ≡ start = omega (arith, from, at) in
@@ -104,8 +105,18 @@ module _ (s : Search) where
         | inr not ↦ no_place s text start t not
       ]
 
+  -- it says so of its characters, or of each start from its own on
+  pub part_within : (text : List ℕ) (part : BarrenPart) → IsBarren s text part → part.stop ≤ length text → IsBarrenWithin s text part
+  part_within text part (inl b) within = b
+  part_within text part (inr none) within = absurd (omega (arith, none.0, within))
+
+  pub none_behind : (text : List ℕ) (part : BarrenPart) → IsBarren s text part → length text < part.stop → (start : ℕ) → part.start ≤ start
+      → (t : ℕ) → start < t → t ≤ length text → is_match s text start t ≡ false
+  none_behind text part (inl b) past start from t after to = absurd (omega (arith, b.within, past))
+  none_behind text part (inr none) past start from t after to = none.1 start t from after to
+
   -- where the part stands
-  pub none_here : (text : List ℕ) (part : BarrenPart) → IsBarren s text part → EndsPieceAt reading text part.stop
+  pub none_here : (text : List ℕ) (part : BarrenPart) → IsBarrenWithin s text part → EndsPieceAt reading text part.stop
       → (t : ℕ) → part.start < t → t ≤ length text → is_match s text part.start t ≡ false
   none_here text part b ends =
       let n = part.stop - part.start in
@@ -116,8 +127,8 @@ module _ (s : Search) where
       (subst (GoesOnAtCut s) (sym tail) (tail_piece text part.stop ends)) (sym (take-append-drop n rest))
 
   -- and where its characters come again
-  pub recurs : (text : List ℕ) (part : BarrenPart) → IsBarren s text part → (start step n reach : ℕ) → start ≡ part.start + step → n ≡ part.stop - part.start
-      → Repeats text part.start step reach → start + n ≤ reach → start + n ≤ length text → IsBarren s text (record { start = start; stop = start + n; step = step; reach = reach })
+  pub recurs : (text : List ℕ) (part : BarrenPart) → IsBarrenWithin s text part → (start step n reach : ℕ) → start ≡ part.start + step → n ≡ part.stop - part.start
+      → Repeats text part.start step reach → start + n ≤ reach → start + n ≤ length text → IsBarrenWithin s text (record { start = start; stop = start + n; step = step; reach = reach })
   recurs text part b start step n reach at size repeats known within =
       let back : (start + n) - start ≡ n = omega arith in
       let same : slice_range text start (start + n) ≡ slice_range text part.start part.stop =
@@ -139,7 +150,8 @@ module _ (s : Search) where
   places_in_front front tail k (inr piece) fits =
       ap (λ (l : List ℕ). is_place reading (front ++ l) k) piece.2 ∙ place_before reading piece.0 piece.3 piece.1 front k fits
 
-  module _ (text : List ℕ) (start stop : ℕ) (ordered : start < stop) (within : stop ≤ length text) (allowed : (k : ℕ) → s.allowed k ≡ true)
+  module _ (text : List ℕ) (start stop : ℕ) (ordered : start < stop) (within : stop ≤ length text) (allowed : s.allowed start ≡ true)
+      (ended : (k : ℕ) → start < k → k ≤ stop → weight_count s.collation (slice_range text start k) ≡ weight_count s.collation s.pattern → s.allowed k ≡ true)
       (begins : BeginsPieceAt reading text start) (ends : EndsPieceAt reading text stop)
       (none : (t : ℕ) → start ≤ t → t ≤ length text → is_match s text start t ≡ false)
       (many : weight_count s.collation s.pattern < weight_count s.collation (slice_range text start stop)) where
@@ -157,19 +169,24 @@ module _ (s : Search) where
         let here : start ≡ start + 0 = omega arith in
         ap (is_place reading text) here ∙ places_from reading text start 0 begins ∙ first_place reading (drop start text) 0 refl
 
-    unlike_within : (k : ℕ) → k ≤ n → is_place reading front k ≡ true → equals_pattern s (take k front) ≡ false
-    unlike_within k fits place =
+    unlike_within : (k : ℕ) → 0 < k → k ≤ n → is_place reading front k ≡ true → equals_pattern s (take k front) ≡ false
+    unlike_within k some fits place =
         let t = start + k in
         let back : t - start ≡ k = omega arith in
         let part : slice_range text start t ≡ take k front = ap (λ i. take i (drop start text)) back ∙ taken_twice k n (drop start text) fits in
         let there : is_place reading (drop start text) (t - start) ≡ true =
         ap (is_place reading (drop start text)) back ∙ places_to reading text start stop k (omega (arith, ordered)) ends fits ∙ place in
-        elim (cases_Bool (equals_pattern s (take k front))) [
-          | inl equal ↦
-              let matches = matches_there s text start t (omega arith) (allowed start) start_is there
-              (and_from (s.allowed t) (equals_pattern s (slice_range text start t)) (allowed t) (ap (equals_pattern s) part ∙ equal)) in
-              absurd (true≢false (sym matches ∙ none t (omega arith) (omega (arith, fits, within, ordered))))
-          | inr not ↦ not
+        elim (cases_Bool (s.allowed t)) as (λ _. equals_pattern s (take k front) ≡ false) [
+          | inl may ↦ elim (cases_Bool (equals_pattern s (take k front))) as (λ _. equals_pattern s (take k front) ≡ false) [
+            | inl equal ↦
+                let matches = matches_there s text start t (omega arith) allowed start_is there
+                (and_from (s.allowed t) (equals_pattern s (slice_range text start t)) may (ap (equals_pattern s) part ∙ equal)) in
+                absurd (true≢false (sym matches ∙ none t (omega arith) (omega (arith, fits, within, ordered))))
+            | inr not ↦ not
+          ]
+          | inr never ↦
+              unlike_count s.collation (take k front) s.pattern
+              (λ as_many. true≢false (sym (ended t (omega (arith, some)) (omega (arith, fits, ordered)) (ap (weight_count s.collation) part ∙ as_many)) ∙ never))
         ]
 
     none_begins : NoneBegins s front
@@ -183,11 +200,54 @@ module _ (s : Search) where
           | inr before ↦
               let inside : k ≤ length front = omega (arith, before, size) in
               let there : is_place reading front k ≡ true = sym (places_in_front front tail k piece inside) ∙ place in
-              ap (equals_pattern s) (take-append-le k front tail inside) ∙ unlike_within k before there
+              ap (equals_pattern s) (take-append-le k front tail inside) ∙ unlike_within k some before there
         ]
 
-    pub is_barren : IsBarren s text (record { start = start; stop = stop; step = 0; reach = 0 })
+    pub is_barren : IsBarrenWithin s text (record { start = start; stop = stop; step = 0; reach = 0 })
     is_barren = record { some = ordered; within = within; none = none_begins; repeats = repeats_none text start 0 0 (omega arith) }
+
+  -- ---- too few weights are left
+
+  module _ (text : List ℕ) (start : ℕ) (few : weight_count s.collation (drop start text) < weight_count s.collation s.pattern)
+      (cuts : (k : ℕ) → start < k → k ≤ length text → EndsPieceAt reading text k) where
+    left_few : (k : ℕ) → start ≤ k → k < length text → weight_count s.collation (drop k text) < weight_count s.collation s.pattern
+    left_few k from before =
+        elim (cases_lt start k) as (λ _. weight_count s.collation (drop k text) < weight_count s.collation s.pattern) [
+          | inl after ↦ elim (cuts k after (omega (arith, before))) as (λ _. weight_count s.collation (drop k text) < weight_count s.collation s.pattern) [
+            | inl end ↦ absurd (omega (arith, before, end))
+            | inr cut ↦ omega (arith, few, left_counted s.collation text start k from cut)
+          ]
+          | inr at ↦
+              let same : k ≡ start = omega (arith, from, at) in
+              omega (arith, few, ap (λ i. weight_count s.collation (drop i text)) same)
+        ]
+
+    part_few : (rest : List ℕ) (i : ℕ) → weight_count s.collation rest < weight_count s.collation s.pattern → 0 < i → is_place reading rest i ≡ true
+        → weight_count s.collation (take i rest) < weight_count s.collation s.pattern
+    part_few rest i fewer some place =
+        let all : take (length rest) rest ≡ rest = take_all (length rest) rest (omega arith) in
+        elim (cases_lt i (length rest)) as (λ _. weight_count s.collation (take i rest) < weight_count s.collation s.pattern) [
+          | inl before ↦
+              let grown = lists_grow s.collation rest i (length rest) some before (omega arith) place (ends_in_place reading rest (length rest) refl) in
+              omega (
+                arith,
+                fewer,
+                ap (weight_count s.collation) all,
+                ap length grown.1.primaries,
+                length-append (lists_by s.collation (nfd (take i rest))).primaries grown.0.primaries,
+              )
+          | inr end ↦ omega (arith, fewer, ap (weight_count s.collation) (take_all i rest end))
+        ]
+
+    pub none_left : NoneFrom s text start
+    none_left = λ k stop from after to.
+        let i = stop - k in
+        elim (cases_Bool (is_place reading (drop k text) i)) [
+          | inl place ↦
+              let fewer = part_few (drop k text) i (left_few k from (omega (arith, after, to))) (omega (arith, after)) place in
+              not_ended s text k stop (ap (λ b. s.allowed stop && b) (too_few s.collation (slice_range text k stop) s.pattern fewer) ∙ and-false (s.allowed stop))
+          | inr not ↦ no_place s text k stop not
+        ]
 
 -- ---- weights of what is looked at
 

@@ -39,7 +39,7 @@ no_weights c =
     ap length (primaries_counted c [] ∙ ap (counted_primaries (last_variable_by c)) (ap (elements_of (reading_by c)) nfd-nil ∙ elements_after_nil (reading_by c) []) ∙ nothing (last_variable_by c))
 
 module _ (c : Collation) (text : List ℕ) (start at : ℕ) (ordered : start ≤ at) (p : CutsAt (reading_by c) text at) where
-  abbrev first : List ℕ
+  abbrev pub first : List ℕ
   first = drop start p.front
 
   size : at - start ≡ length first
@@ -48,10 +48,10 @@ module _ (c : Collation) (text : List ℕ) (start at : ℕ) (ordered : start ≤
   rest : drop start text ≡ first ++ p.char ∷ p.tail
   rest = ap (drop start) p.text_is ∙ drop-append-le start p.front (p.char ∷ p.tail) (omega (arith, ordered, p.offset_is))
 
-  part : slice_range text start at ≡ first
+  pub part : slice_range text start at ≡ first
   part = ap (take (at - start)) rest ∙ ap (λ n. take n (first ++ p.char ∷ p.tail)) size ∙ take_at first (p.char ∷ p.tail) (length first) refl
 
-  longer : slice_range text start (at + 1) ≡ first ++ p.char ∷ []
+  pub longer : slice_range text start (at + 1) ≡ first ++ p.char ∷ []
   longer =
       let more : (at + 1) - start ≡ length first + suc zero = omega (arith, size, ordered) in
       ap (take ((at + 1) - start)) rest
@@ -79,6 +79,25 @@ module _ (c : Collation) (text : List ℕ) (start at : ℕ) (ordered : start ≤
         length-append (counted_primaries last (own first)) (counted_primaries last (own (p.char ∷ []))),
         ap length (primaries_counted c first),
         ap length (primaries_counted c (p.char ∷ [])),
+      )
+
+  -- what follows the cut has no more than what follows a start before it
+  pub left_counted : weight_count c (drop at text) ≤ weight_count c (drop start text)
+  left_counted =
+      let last = last_variable_by c in
+      let own : List ℕ → List Element = λ t. elements_of (reading_by c) (nfd t) in
+      let cut = p.begins in
+      let behind = p.char ∷ p.tail in
+      let there : drop at text ≡ behind = ap (drop at) p.text_is ∙ drop_at p.front behind at p.offset_is in
+      let whole : own (first ++ behind) ≡ own first ++ own behind = boundary_cut (reading_by c) p.char cut.first cut.more p.tail cut.decomposes cut.boundary [] first in
+      let weights = primaries_counted c (first ++ behind) ∙ ap (counted_primaries last) whole ∙ counted-append last (own first) (own behind) in
+      omega (
+        arith,
+        ap (weight_count c) rest,
+        ap (weight_count c) there,
+        ap length weights,
+        length-append (counted_primaries last (own first)) (counted_primaries last (own behind)),
+        ap length (primaries_counted c behind),
       )
 
   pub one_more_counted : weight_count c (slice_range text start (at + 1)) ≡ weight_count c (slice_range text start at) + weight_count c (slice_range text at (at + 1))

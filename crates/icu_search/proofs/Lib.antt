@@ -10,5 +10,7 @@ pub mod SilentElementLemmas
 pub mod SilentStartLemmas
 pub mod AsciiMarkLemmas
 pub mod CountedWalks
+pub mod SilentEndLemmas
 pub mod BarrenLemmas
 pub mod SureMatchLemmas
+pub mod NoneReadLemmas

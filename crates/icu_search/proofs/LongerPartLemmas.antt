@@ -25,7 +25,7 @@ first_tied Equal next h = refl
 first_tied Greater next h = h
 
 -- between the ends a place stands before a character
-inner_place : (reading : Reading) (text : List ℕ) (k : ℕ) → 0 < k → k < length text → is_place reading text k ≡ true → is_place_before reading text (drop k text) ≡ true
+pub inner_place : (reading : Reading) (text : List ℕ) (k : ℕ) → 0 < k → k < length text → is_place reading text k ≡ true → is_place_before reading text (drop k text) ≡ true
 inner_place reading text k after before here =
     let not_first : k ≡ 0 → ⊥ = λ e. omega (arith, e, after) in
     let not_last : k ≡ length text → ⊥ = λ e. omega (arith, e, before) in

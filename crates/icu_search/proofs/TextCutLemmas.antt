@@ -10,7 +10,7 @@ use Rattle.unicode_normalization.specs.Forms.{nfd}
 use Rattle.icu_element_reading.specs.TextElements.{Reading}
 use Rattle.icu_order_texts.specs.TextOrder.{reading_by, lists_by}
 use Rattle.icu_search_places.specs.PieceLaws.{BeginsPieces}
-use Rattle.icu_search_places.specs.LeastMatches.{span, shortest_from, TellsLeastStop}
+use Rattle.icu_search_places.specs.LeastMatches.{EndsLaterMatch, span, shortest_from, TellsLeastStop}
 use Rattle.icu_search_places.specs.SearchPlaces.{is_place, is_place_before}
 use Rattle.icu_search_places.specs.Searches.{Search, is_match}
 use Rattle.icu_search_places.proofs.LeastLemmas.{ShortestOf, ShortestOf-shortest_from}
@@ -152,7 +152,7 @@ module _ (s : Search) (text : List ℕ) (start last : ℕ) (part : List ℕ) (p 
 
   pub told_ruled_out : start ≤ last → equals_pattern s [] ≡ false → TellsLeastStop (is_match s text) start last None
   told_ruled_out ordered not_empty = λ t from to match.
-      elim (cases_lt start t) as (λ _. (start < t) × (is_match s text (start + 1) t ≡ true)) [
+      elim (cases_lt start t) as (λ _. EndsLaterMatch (is_match s text) start t) [
         | inl after ↦ absurd (true≢false (sym match ∙ none_matches t after to))
         | inr at ↦
             let same : t ≡ start = omega (arith, from, at) in

@@ -5,7 +5,8 @@ ghost use Rattle.icu_search_places.specs.KnownParts.{SaysBarren};
 ghost use Rattle.icu_search_places.specs.LeastMatches.{span};
 ghost use Rattle.icu_search.specs.inner.BarrenParts.{is_barren_in, IsBarren, Repeats};
 ghost use Rattle.icu_search.specs.inner.SearchCuts.{BeginsPieceAt};
-ghost use Rattle.icu_order_texts.specs.TextOrder.{reading_by};
+ghost use Rattle.icu_order_texts.specs.TextOrder.{lists_by, reading_by};
+ghost use Rattle.unicode_normalization.specs.Forms.{nfd};
 
 use crate::searched_text::SearchedText;
 use icu_search_places::BarrenPart;
@@ -77,6 +78,9 @@ impl<'s, 'c> SearchedText<'s, 'c> {
         if start <= part.start {
             return false;
         }
+        if part.stop > self.text.char_count() {
+            return true;
+        }
         let size = part.stop - part.start;
         if self.text.char_count() - start < size {
             return false;
@@ -117,15 +121,26 @@ impl<'s, 'c> SearchedText<'s, 'c> {
         }
     }
 
-    /// A part from an offset on with whose characters no match begins, where none begins at the offset. `None` says
-    /// nothing.
+    /// Whether a part that ends at an offset, with so many primary weights, has other than as many as the pattern, or a
+    /// match may end there.
+    fn may_end(&self, stop: usize, met: usize) -> bool
+        requires { stop ≤ char_len_in self.now }
+        ensures { let s = searched_in self.now in IsTrue result
+            → met ≡ length (lists_by s.collation (nfd s.pattern)).primaries
+            → s.allowed stop ≡ true }
+    {
+        met != self.searcher.count_of_pattern() || self.is_allowed(stop)
+    }
+
+    /// A part from an offset on with whose characters no match begins, where none begins at the offset: one that ends
+    /// behind the text's end if the text has fewer primary weights from there on than the pattern. `None` says nothing.
     fn barren_from(&self, start: usize) -> Option<BarrenPart>
         requires within { start ≤ char_len_in self.now }
         requires none { (stop : ℕ) → start ≤ stop → stop ≤ char_len_in self.now
             → matches_in self.now start stop ≡ false }
         ensures { IfSome result (is_barren_in self.now) }
     {
-        if !self.allows_each() {
+        if !self.is_allowed(start) {
             return None;
         }
         if !self.begins_piece(start) {
@@ -143,7 +158,13 @@ impl<'s, 'c> SearchedText<'s, 'c> {
             if total > self.searcher.count_of_pattern() {
                 return Some(BarrenPart::new(start, at + 1));
             }
+            if !self.may_end(at + 1, total) {
+                return None;
+            }
             met = total;
+        }
+        if met < self.searcher.count_of_pattern() {
+            return Some(BarrenPart::new(start, count + 1));
         }
         None
     }

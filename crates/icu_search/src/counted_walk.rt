@@ -1,6 +1,6 @@
 //! The first end of a match, by how many primary weights the characters have that follow its start.
 
-ghost use Rattle.std.specs.Prelude.{◌≡◌, ◌-◌, ◌<◌, ◌≤◌, false, true, length, slice_range, IfOk, IfSome, IsTrue};
+ghost use Rattle.std.specs.Prelude.{◌≡◌, ◌+◌, ◌-◌, ◌<◌, ◌≤◌, false, true, length, slice_range, IfOk, IfSome, IsTrue};
 ghost use Rattle.std.specs.Option.{option_map};
 ghost use Rattle.icu_search_places.specs.LeastMatches.{HoldsNoOther, shortest_from, span};
 ghost use Rattle.icu_search_places.specs.SearchPlaces.{is_place};
@@ -12,7 +12,7 @@ use std::alloc::AllocError;
 
 impl<'s, 'c> SearchedText<'s, 'c> {
     ghost use Rattle.icu_search.specs.SearchedTexts.{char_len_in, matches_in, searched_in, text_searched};
-    ghost use Rattle.icu_search.specs.inner.CountedChars.{CountsAlone};
+    ghost use Rattle.icu_search.specs.inner.CountedChars.{AddsNothing, CountsAlone};
     ghost use Rattle.icu_search.specs.inner.PartOutcomes.{ends_match};
 
     /// How many primary weights a character has by itself, if the text ends behind it or may be cut there. `None` says
@@ -30,20 +30,52 @@ impl<'s, 'c> SearchedText<'s, 'c> {
         self.searcher.count_of(text[at])
     }
 
-    /// Whether a part that has so many primary weights is a match, where a match begins at its start and a place is at
-    /// its end.
-    fn ends_counted(&self, start: usize, stop: usize, met: usize) -> Result<bool, AllocError>
-        requires ordered { start ≤ stop }
+    /// Whether the part up to a character and the part with it are both equal to the pattern or both unlike it, as the
+    /// character gives nothing there. The first isn't empty, and may end before the character. False says nothing.
+    fn adds_nothing(&self, start: usize, at: usize) -> bool
+        requires ordered { start ≤ at }
+        requires inside { at < char_len_in self.now }
+        ensures { IsTrue result
+            → AddsNothing (searched_in self.now) (text_searched self.now) start at }
+    {
+        if start == at {
+            return false;
+        }
+        if !self.is_allowed(at) {
+            return false;
+        }
+        if !self.searcher.gives_nothing(self.text.characters()[at]) {
+            return false;
+        }
+        self.cuts_at(at)
+    }
+
+    /// Whether a part that has so many primary weights is a match, where a match begins at its start, a place is at its
+    /// end, and the part without its last character, at `at`, isn't a match.
+    fn ends_counted(
+        &self,
+        start: usize,
+        at: usize,
+        stop: usize,
+        met: usize,
+    ) -> Result<bool, AllocError>
+        requires ordered { start ≤ at }
+        requires next { stop ≡ at + 1 }
         requires within { stop ≤ char_len_in self.now }
         ensures { let s = searched_in self.now in
             let part = slice_range (text_searched self.now) start stop in
             IfOk result (λ b. met ≡ length (lists_by s.collation (nfd part)).primaries
+            → is_place (reading_by s.collation) (text_searched self.now) start ≡ true
+            → s.allowed start ≡ true → matches_in self.now start at ≡ false
             → b ≡ ends_match s part stop) }
     {
         if met != self.searcher.count_of_pattern() {
             return Ok(false);
         }
         if !self.is_allowed(stop) {
+            return Ok(false);
+        }
+        if self.adds_nothing(start, at) {
             return Ok(false);
         }
         let equal = self.part_equals(start, stop)?;
@@ -72,7 +104,7 @@ impl<'s, 'c> SearchedText<'s, 'c> {
             if total > self.searcher.count_of_pattern() {
                 return Ok(Some(None));
             }
-            if self.ends_counted(start, at + 1, total)? {
+            if self.ends_counted(start, at, at + 1, total)? {
                 return Ok(Some(Some(at + 1)));
             }
             met = total;

@@ -2,7 +2,7 @@
 
 ghost use Rattle.std.specs.Prelude.{◌≡◌, ◌+◌, ◌<◌, ◌≤◌, ℕ, [], false, true, None, IfOk, IsTrue};
 ghost use Rattle.icu_search_places.specs.KnownParts.{SaysBarren};
-ghost use Rattle.icu_search_places.specs.LeastMatches.{TellsLeastStop};
+ghost use Rattle.icu_search_places.specs.LeastMatches.{EndsLaterMatch, TellsLeastStop};
 ghost use Rattle.icu_search.specs.inner.BarrenParts.{is_barren_in};
 ghost use Rattle.icu_search.specs.inner.PartOutcomes.{equals_pattern};
 
@@ -12,6 +12,9 @@ use std::alloc::AllocError;
 
 /// So many elements of what follows a start are looked at before others are.
 const FEW: usize = 3;
+
+/// So many characters at most are looked at together, whether they give nothing.
+const MOST_SILENT: usize = 32;
 
 impl<'s, 'c> SearchedText<'s, 'c> {
     ghost use Rattle.icu_search.specs.SearchedTexts.{char_len_in, matches_in, searched_in};
@@ -34,27 +37,45 @@ impl<'s, 'c> SearchedText<'s, 'c> {
         }
     }
 
-    /// Whether each match behind an offset that begins there holds one that begins at the next, since the character
-    /// there gives nothing that counts. False says nothing.
+    /// Up to where the characters from an offset on are looked at together: to where the text may be cut, if that is
+    /// near.
+    fn near_cut(&self, start: usize) -> usize
+        requires { start < char_len_in self.now }
+        ensures behind { start < result }
+        ensures within { result ≤ char_len_in self.now }
+    {
+        let count = self.text.char_count();
+        for cut in start + 1..count {
+            if self.cuts_at(cut) || cut - start >= MOST_SILENT {
+                return cut;
+            }
+        }
+        start + 1
+    }
+
+    /// Whether each match behind an offset that begins there ends where one does that begins later, since the
+    /// characters there, up to where the text may be cut, give nothing that counts. False says nothing.
     fn begins_silently(&self, start: usize) -> bool
+        requires some { equals_pattern (searched_in self.now) [] ≡ false }
         ensures { IsTrue result → (stop : ℕ) → start < stop → matches_in self.now start stop ≡ true
-            → matches_in self.now (start + 1) stop ≡ true }
+            → EndsLaterMatch (matches_in self.now) start stop }
     {
         let text = self.text.characters();
         if start >= text.len() {
             return false;
         }
-        let (first, rest) = text[start..].split_at(1);
-        if !self.searcher.may_be_silent(text[start]) {
+        if !self.searcher.gives_nothing(text[start]) {
             return false;
         }
+        let cut = self.near_cut(start);
+        if !self.cuts_at(cut) {
+            return false;
+        }
+        let (first, rest) = text[start..].split_at(cut - start);
         if !self.searcher.passes_silent(first, rest) {
             return false;
         }
-        if !self.cuts_at(start + 1) {
-            return false;
-        }
-        self.is_allowed(start + 1)
+        self.is_allowed(cut)
     }
 
     /// Whether no least match begins at an offset and ends at `last` or before, as the characters tell with which what
@@ -98,6 +119,9 @@ impl<'s, 'c> SearchedText<'s, 'c> {
             return self.shortest_stop_to(start, last);
         }
         if self.recurs(start, barren) {
+            return Ok(None);
+        }
+        if self.has_no_place(start) {
             return Ok(None);
         }
         if self.passes_over(start, last) {

@@ -6,7 +6,7 @@ ghost use Rattle.icu_search_places.specs.LeastMatches.{shortest_from};
 ghost use Rattle.icu_search_places.specs.Searches.{found, is_match};
 ghost use Rattle.icu_search_places.specs.Selections.{first_span};
 ghost use Rattle.icu_search.specs.SearchedTexts.{offsets_searched, searched_in, text_searched};
-ghost use Rattle.icu_search.specs.Searchers.{search_by, search_of};
+ghost use Rattle.icu_search.specs.Searchers.{search_by, search_of, whole_match};
 ghost use Rattle.icu_search.specs.TextOffsets.{grapheme_offsets, match_in_units, str_offsets, word_offsets};
 
 use crate::boundary::Boundary;
@@ -56,6 +56,17 @@ impl<'c> Searcher<'c> {
                 let within = searched.within(bounds.as_slice())?;
                 Ok(within)
             }
+        }
+    }
+
+    /// The whole of a text, if it is equal to the pattern. Never fails, and allocates nothing.
+    pub fn whole_match(&self, text: &str) -> Option<Match>
+        ensures { result ≡ whole_match (search_of self.now) (chars text.now) (length text.now) }
+    {
+        if self.is_whole(text) {
+            Some(Match::new(0, text.len()))
+        } else {
+            None
         }
     }
 

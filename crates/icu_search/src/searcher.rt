@@ -27,7 +27,7 @@ use crate::first_weights::{KnownVariables, rules_out};
 use crate::pattern_weights::{
     counted, first_primaries, first_sure, known_count, reading_of_collator, weight_count,
 };
-use crate::silent_starts::{ends_at_tertiaries, starts_silently};
+use crate::silent_starts::{ends_at_tertiaries, is_silent_alone, starts_silently};
 use icu_collator::{Collator, CollatorBorrowed};
 use icu_element_reading::{CollationElement, TextReading};
 use icu_search_places::indexed_text::utf8_copy;
@@ -197,6 +197,14 @@ impl<'c> Searcher<'c> {
         self.collator.order(self.pattern.as_str(), "").is_eq()
     }
 
+    /// Whether a text is equal to the pattern as a whole.
+    pub(crate) fn is_whole(&self, text: &str) -> bool
+        ensures { let s = search_of self.now in
+            result ≡ is_eq (text_order s.collation (chars text.now) s.pattern) }
+    {
+        self.collator.order(text, self.pattern.as_str()).is_eq()
+    }
+
     /// The allocator that searches take.
     pub(crate) fn allocator(&self) -> Global {
         self.alloc
@@ -290,9 +298,18 @@ impl<'c> Searcher<'c> {
         }
     }
 
-    /// Whether a match that begins with a character may hold one that begins at the next.
-    pub(crate) fn may_be_silent(&self, c: char) -> bool {
-        (c as u32) >= 0x80 || has_mark(&self.silent, c)
+    /// Whether a character by itself gives nothing below the quaternary level before a primary weight, and no level
+    /// counts from that one on. False says nothing.
+    pub(crate) fn gives_nothing(&self, c: char) -> bool
+        ensures { IsTrue result → GivesNothing (search_of self.now).collation c }
+    {
+        if (c as u32) < 0x80 {
+            return has_mark(&self.silent, c);
+        }
+        if !ends_at_tertiaries(&self.collator) {
+            return false;
+        }
+        is_silent_alone(&self.collator, c)
     }
 
     /// Whether no part with which a text begins is equal to the pattern, up to a place: the primary weights of so many
@@ -337,8 +354,8 @@ impl<'c> Searcher<'c> {
         begins_pieces(&self.collator, c)
     }
 
-    /// Whether a match that begins with a character holds one that begins at the next, which the second text begins
-    /// with, where it may be cut there. False says nothing.
+    /// Whether a match that begins with a text holds one that begins behind it, if the second text follows and may be
+    /// cut there. False says nothing.
     pub(crate) fn passes_silent(&self, first: &[char], rest: &[char]) -> bool
         ensures { IsTrue result → let c = (search_of self.now).collation in
             EndsAtTertiaries (form_by c) × StartsSilently c first.now rest.now }

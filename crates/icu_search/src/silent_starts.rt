@@ -1,18 +1,19 @@
 //! Characters that give nothing below the quaternary level: no least match begins with one.
 
-ghost use Rattle.std.specs.Prelude.{◌≡◌, ◌∷◌, [], List, ℕ, IfSome, IsTrue};
+ghost use Rattle.std.specs.Prelude.{◌≡◌, ◌&&◌, ◌||◌, ◌==◌, ◌∷◌, ◌++◌, [], List, ℕ, None, option_to_list, IfSome, IsTrue};
+ghost use Rattle.icu_element_cursor.specs.Cursors.{cursor_gives};
 ghost use Rattle.icu_collator.specs.Collators.{collation_borrowed};
 ghost use Rattle.icu_element_reading.specs.TextElements.{elements_of};
-ghost use Rattle.icu_search.specs.inner.SilentStarts.{EndsAtTertiaries, is_weightless};
+ghost use Rattle.icu_search.specs.inner.SilentStarts.{EndsAtTertiaries, PassesNone, is_weightless};
 ghost use Rattle.icu_order_texts.specs.Forms.{form_by, last_variable_by};
 ghost use Rattle.icu_order_texts.specs.TextOrder.{reading_by};
-ghost use Rattle.icu_search.specs.inner.SilentTexts.{HasFirstElement, IsSilentAlone, StartsSilently};
+ghost use Rattle.icu_search.specs.inner.SilentTexts.{GivesNone, HasFirstElement, IsSilentAlone, StartsSilently};
 ghost use Rattle.icu_order_texts.specs.weighting.Handled.{is_variable};
 ghost use Rattle.unicode_normalization.specs.Forms.{nfd};
 
 use icu_collator::CollatorBorrowed;
 use icu_collator::options::Strength;
-use icu_element_cursor::FactsCursor;
+use icu_element_cursor::{ElementCursor, FactsCursor};
 use icu_element_reading::CollationElement;
 use icu_table_entries::element::MERGE_SEPARATOR_PRIMARY;
 use icu_text_encodings::CharsText;
@@ -43,7 +44,22 @@ fn only_element(collator: &CollatorBorrowed<'_>, text: &[char]) -> Option<Collat
     }
 }
 
-/// The element with which those of a text begin, if facts tell.
+/// The next element that a cursor gives, or `Some(None)` after the last one. `None` says nothing.
+fn next_or_end(
+    cursor: &mut ElementCursor<'_, '_, CharsText<'_>>,
+) -> Option<Option<CollationElement>>
+    ensures next { IfSome result (λ next. cursor_gives (λ t. t.0.now) cursor.old
+        ≡ option_to_list next ++ cursor_gives (λ t. t.0.now) cursor.new) }
+    ensures end { IfSome result (λ next. next ≡ None
+        → cursor_gives (λ t. t.0.now) cursor.old ≡ []) }
+{
+    match cursor.next() {
+        Ok(next) => Some(next),
+        Err(_) => None,
+    }
+}
+
+/// The element with which those of a text begin. `None` says nothing.
 pub(crate) fn first_element(
     collator: &CollatorBorrowed<'_>,
     text: &[char],
@@ -52,7 +68,9 @@ pub(crate) fn first_element(
         (reading_by (collation_borrowed collator.now)) text.now e) }
 {
     let tables = collator.cursor_tables();
-    FactsCursor::new(&tables, CharsText(text)).next()
+    let mut cursor = ElementCursor::new(&tables, CharsText(text));
+    let next = next_or_end(&mut cursor)?;
+    next
 }
 
 /// Whether an element has no weights.
@@ -81,6 +99,53 @@ pub(crate) fn is_silent_alone(collator: &CollatorBorrowed<'_>, c: char) -> bool
     }
 }
 
+/// So many elements of a text are looked at, whether they give nothing.
+const MOST: usize = 64;
+
+/// Whether an element that isn't variable gives nothing below the quaternary level, where a variable one came last or
+/// none did.
+fn vanishes(element: CollationElement, after: bool) -> bool
+    ensures { result ≡ (is_weightless element || (after && element.primary == 0)) }
+{
+    is_weightless(element) || (after && element.primary() == 0)
+}
+
+/// Whether a variable element came last behind an element that gives nothing below the quaternary level, where one came
+/// last before it or none did. `None` if the element gives something.
+fn passed(element: CollationElement, last: u32, after: bool) -> Option<bool>
+    ensures { IfSome result (PassesNone last after element) }
+{
+    if is_variable(element, last) {
+        return Some(true);
+    }
+    if vanishes(element, after) {
+        return Some(after);
+    }
+    None
+}
+
+/// Whether a variable element is among those of a text, if none of them gives anything below the quaternary level.
+/// `None` says nothing.
+fn gives_none(collator: &CollatorBorrowed<'_>, text: &[char]) -> Option<bool>
+    ensures { IfSome result (GivesNone (collation_borrowed collator.now) text.now) }
+{
+    let last = collator.last_variable();
+    let tables = collator.cursor_tables();
+    let mut cursor = ElementCursor::new(&tables, CharsText(text));
+    let mut after = false;
+    for _ in 0..MOST {
+        let next = next_or_end(&mut cursor)?;
+        let Some(element) = next else {
+            return Some(after);
+        };
+        let Some(now) = passed(element, last, after) else {
+            return None;
+        };
+        after = now;
+    }
+    None
+}
+
 /// Whether a text gives nothing below the quaternary level before another one. False says nothing.
 pub(crate) fn starts_silently(
     collator: &CollatorBorrowed<'_>,
@@ -89,14 +154,11 @@ pub(crate) fn starts_silently(
 ) -> bool
     ensures { IsTrue result → StartsSilently (collation_borrowed collator.now) first.now rest.now }
 {
-    let Some(element) = only_element(collator, first) else {
+    let Some(after) = gives_none(collator, first) else {
         return false;
     };
-    if is_weightless(element) {
+    if !after {
         return true;
-    }
-    if !is_variable(element, collator.last_variable()) {
-        return false;
     }
     match first_element(collator, rest) {
         Some(next) => next.primary() != 0,

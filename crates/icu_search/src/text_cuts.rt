@@ -1,6 +1,6 @@
 //! Where texts that are searched are cut, and where their places are.
 
-ghost use Rattle.std.specs.Prelude.{◌≡◌, ◌<◌, ◌≤◌, IfOk, IsTrue};
+ghost use Rattle.std.specs.Prelude.{◌≡◌, ◌<◌, ◌≤◌, false, IfOk, IsTrue};
 ghost use Rattle.icu_search_places.specs.SearchPlaces.{is_place};
 ghost use Rattle.icu_order_texts.specs.TextOrder.{reading_by};
 ghost use Rattle.icu_search.specs.inner.SearchCuts.{BeginsPieceAt, CutsAt, EndsPieceAt, IsPieceFrom};
@@ -65,6 +65,19 @@ impl<'s, 'c> SearchedText<'s, 'c> {
             }
         }
         count
+    }
+
+    /// Whether it is known that no place of the text is at an offset. False says nothing.
+    #[inline(always)]
+    pub(crate) fn has_no_place(&self, offset: usize) -> bool
+        requires { offset ≤ char_len_in self.now }
+        ensures { IsTrue result → is_place (reading_by (searched_in self.now).collation)
+            (text_searched self.now) offset ≡ false }
+    {
+        match &self.places {
+            Some(marks) => !marks[offset],
+            None => false,
+        }
     }
 
     /// Whether a place of the text is at an offset. Fails only where an allocation does.

@@ -105,13 +105,13 @@ module _ (matches : ℕ → ℕ → Bool) (n : ℕ) where
         | inr behind ↦ let above = (member_of (RisesTo m) l later rising.0 behind).stop in omega (arith, before, above)
       ]
 
-  first_ends : (start stop : ℕ) → start ≤ stop → stop ≤ n → matches start stop ≡ true → IfFirst (λ m. m.stop ≤ stop) (least_to matches n start)
-  first_ends start stop ordered inside is =
+  first_ends : (start begin stop : ℕ) → start ≤ begin → begin ≤ stop → stop ≤ n → matches begin stop ≡ true → IfFirst (λ m. m.stop ≤ stop) (least_to matches n start)
+  first_ends start begin stop behind ordered inside is =
       let k = n - start in
-      let e : n ≡ start + k = omega (arith, ordered, inside) in
+      let e : n ≡ start + k = omega (arith, behind, ordered, inside) in
       let ls = Leasts-least_from matches start k n e in
       let spans = least_from matches start k in
-      let some = the_member (HoldsSpan (span start stop)) spans (ls.held (span start stop) (record { is_match = is; from_low = omega arith; ordered = ordered; to_high = inside })) in
+      let some = the_member (HoldsSpan (span begin stop)) spans (ls.held (span begin stop) (record { is_match = is; from_low = behind; ordered = ordered; to_high = inside })) in
       subst (IfFirst (λ m. m.stop ≤ stop)) (sym (least_to-at start k e)) (ends_first spans stop ls.rise some.0 some.1.0 some.1.1.stop)
 
   -- a match that is found among fewer ends is found among more
@@ -196,8 +196,8 @@ module _ (matches : ℕ → ℕ → Bool) (n : ℕ) where
           elim (cases_lt (last_to_try held n) m.stop) [
             | inl behind ↦ past held m (first_span (least_to matches n (start + 1))) behind is.to_high
             | inr before ↦
-                let one_on = tells m.stop is.low_to before is.is_match in
-                ap (joined_to_held held) (joined_over m (least_to matches n (start + 1)) (first_ends (start + 1) m.stop (omega (arith, one_on.0)) is.to_high one_on.1))
+                let holds = tells m.stop is.low_to before is.is_match in
+                ap (joined_to_held held) (joined_over m (least_to matches n (start + 1)) (first_ends (start + 1) holds.begin m.stop (omega (arith, holds.later)) holds.ordered is.to_high holds.is_match))
           ]
 
   -- they begin at the offset or after it, and end no earlier than they begin

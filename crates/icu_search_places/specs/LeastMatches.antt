@@ -45,11 +45,18 @@ found_matches matches n = apart_from 0 (least_matches matches n)
 
 -- ---- ends, one by one
 
+-- a match begins later than at a start, and ends at an offset
+pub record EndsLaterMatch (matches : ℕ → ℕ → Bool) (start stop : ℕ) : Type 0 where
+  pub begin : ℕ
+  pub later : start < begin
+  pub ordered : begin ≤ stop
+  pub is_match : matches begin stop ≡ true
+
 -- Where the first match from a start ends, of those that end at an offset or before. None is told where there is none,
--- and may be told where each of them holds a match from the next start, so that none is least.
+-- and may be told where each of them holds a match that begins later, so that none is least.
 abbrev pub TellsLeastStop : (ℕ → ℕ → Bool) → ℕ → ℕ → Option ℕ → Type 0
 TellsLeastStop matches start last (Some stop) = (stop ≤ last) × (shortest_from matches start start (last - start) ≡ Some (span start stop))
-TellsLeastStop matches start last None = (stop : ℕ) → start ≤ stop → stop ≤ last → matches start stop ≡ true → (start < stop) × (matches (start + 1) stop ≡ true)
+TellsLeastStop matches start last None = (stop : ℕ) → start ≤ stop → stop ≤ last → matches start stop ≡ true → EndsLaterMatch matches start stop
 
 -- no match begins behind the start of a part and ends within it
 abbrev pub HoldsNoOther : (ℕ → ℕ → Bool) → Span → Type 0

@@ -26,7 +26,7 @@ pub trait MatchEnds {
         ensures bound { result < usize.MAX };
 
     /// An offset up to which no start from another one on begins a least match: each match there holds one that begins
-    /// at the next offset.
+    /// later, and ends where it does.
     fn next_start(&self, start: usize) -> usize
         ensures { (k : ℕ) → start ≤ k → k < result
             → TellsLeastStop (matches self.now) k (char_len self.now) None };
@@ -36,7 +36,7 @@ pub trait MatchEnds {
         ensures { IsTrue result → HoldsNoOther (matches self.now) part };
 
     /// Of the matches that begin at an offset, and end at `last` or before, where the one ends that ends first. It may
-    /// be left out where each of them holds a match that begins at the next offset: none is least then. Calls hand on a
+    /// be left out where each of them ends where a match does that begins later: none is least then. Calls hand on a
     /// part with which no match begins. Fails only where an allocation does.
     fn least_stop(
         &self,

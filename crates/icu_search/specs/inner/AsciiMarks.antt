@@ -89,7 +89,7 @@ pub record OpensSilently (c : Collation) (text : List ℕ) : Type 0 where
   pub next : ℕ
   pub tail : List ℕ
   pub text_is : text ≡ char ∷ next ∷ tail
-  pub silent : IsSilentBefore c char next tail
+  pub silent : IsSilentBefore c (char ∷ []) next tail
   pub ends : EndsAtTertiaries (form_by c)
 
 -- a text has no characters, or begins with one before which texts may be cut

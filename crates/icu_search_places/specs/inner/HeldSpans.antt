@@ -15,7 +15,7 @@ stops_before None offset = false
 stops_before (Some m) offset = nat_lt m.stop offset
 
 -- The first match from a start, of those that end at an offset or before. None is told where there is none, and may be
--- told where each of them holds a match from the next start.
+-- told where each of them holds a match from a later start.
 abbrev pub TellsLeastSpan : (ℕ → ℕ → Bool) → ℕ → ℕ → Option Span → Type 0
 TellsLeastSpan matches start last (Some m) = (m.start ≡ start) × TellsLeastStop matches start last (Some m.stop)
 TellsLeastSpan matches start last None = TellsLeastStop matches start last None

@@ -11,15 +11,15 @@ returns c = λ silent stop longer match.
     let t = c.args.self.now in
     let s = searched_in t in
     let text = text_searched t in
+    let start = c.args.start in
+    let cut = c.near_cut-cut.result in
     let h = c.passes_silent.ensures c.if-not-passes_silent.false in
     let whole : c.characters-text.result.now ≡ text = c.characters-text.ensures in
     let count : length c.characters-text.result.now ≡ length text = ap length whole in
-    let inside : c.args.start < length text = omega (arith, c.if-start-text.false, count) in
-    let cut : CutsAt (reading_by s.collation) text (c.args.start + 1) = c.cuts_at.ensures c.if-not-cuts_at.false in
-    let allowed : s.allowed (c.args.start + 1) ≡ true = sym c.is_allowed.ensures ∙ silent in
+    let at : CutsAt (reading_by s.collation) text cut = c.cuts_at.ensures c.if-not-cuts_at.false in
+    let allowed : s.allowed cut ≡ true = sym c.is_allowed.ensures ∙ silent in
     let chars = c.characters-text.result.now in
-    let start = c.args.start in
     let rest : take (length chars - start) (drop start chars) ≡ drop start text = take_all (length chars - start) (drop start chars) (omega (arith, length-drop start chars)) ∙ ap (drop start) whole in
-    let front : c.split_at.result.0.now ≡ take 1 (drop c.args.start text) = c.split_at.ensures.front ∙ ap (take 1) rest in
-    let back : c.split_at.result.1.now ≡ drop 1 (drop c.args.start text) = c.split_at.ensures.back ∙ ap (drop 1) rest in
-    silent_at s text c.args.start inside cut allowed h.0 c.split_at.result.0.now c.split_at.result.1.now front back h.1 stop longer match
+    let front : c.split_at.result.0.now ≡ take (cut - start) (drop start text) = c.split_at.ensures.front ∙ ap (take (cut - start)) rest in
+    let back : c.split_at.result.1.now ≡ drop (cut - start) (drop start text) = c.split_at.ensures.back ∙ ap (drop (cut - start)) rest in
+    silent_at s text start cut c.near_cut-cut.ensures.behind at allowed h.0 c.requires.some c.split_at.result.0.now c.split_at.result.1.now front back h.1 stop longer match

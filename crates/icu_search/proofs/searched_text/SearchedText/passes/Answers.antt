@@ -1,4 +1,4 @@
-use Rattle.std.proofs.Common.{◌≡◌, List, ℕ, ◌+◌, ◌-◌, length, take, drop, refl, sym, ap, ◌∙◌, arith, inl}
+use Rattle.std.proofs.Common.{◌≡◌, List, ℕ, [], ◌∷◌, ◌+◌, ◌-◌, length, take, drop, refl, sym, ap, ◌∙◌, arith, inl}
 use Rattle.std.specs.Prelude.{slice_range}
 use Rattle.std.proofs.lemmas.List.{take_all, length-drop}
 use Rattle.icu_order_texts.specs.TextOrder.{reading_by}
@@ -36,4 +36,5 @@ returns-then-allows_each c = λ is.
     let rest_is : slice_range chars at (length chars) ≡ drop at text =
     take_all (length chars - at) (drop at chars) (omega (arith, length-drop at chars)) ∙ ap (drop at) c.characters.ensures in
     told_silent s text at (length text) c.requires.some (λ stop longer match.
-    silent_start s text at o.char o.next o.tail (sym rest_is ∙ o.text_is) o.silent o.ends (c.allows_each.ensures c.if-allows_each.true (at + 1)) stop longer match)
+    silent_start s text at (o.char ∷ []) o.next o.tail (sym rest_is ∙ o.text_is) o.silent o.ends c.requires.some (c.allows_each.ensures c.if-allows_each.true (at + length (o.char ∷ [])))
+    (omega arith) stop longer match)
