@@ -136,7 +136,7 @@ fn add_stated<S: RuleSource>(
     match statement {
         Statement::Import(tag) => {
             if *allowed == 0 {
-                return Err(at.error(RulesErrorKind::EndlessImport));
+                return Err(at.error(RulesErrorKind::ManyImports));
             }
             *allowed -= 1;
             let rules = imported(alloc, source, at, tag.as_str())?;
@@ -203,7 +203,7 @@ impl Rules {
             statements = replaced(alloc, source, statements, &mut allowed)?;
         }
         match first_import(statements.as_slice()) {
-            Some(at) => Err(at.error(RulesErrorKind::EndlessImport)),
+            Some(at) => Err(at.error(RulesErrorKind::DeepImport)),
             None => Ok(Rules { statements }),
         }
     }

@@ -80,9 +80,12 @@ pub enum RulesErrorKind {
     /// An import of rules that there aren't.
     #[error("expected a tag of rules")]
     UnknownRules,
-    /// An import that leads back to its own rules, or past the greatest depth.
-    #[error("expected imports that end")]
-    EndlessImport,
+    /// An import that is nested deeper than 8 imports, as each is that leads back to its own rules.
+    #[error("expected imports nested at most 8 deep, which don't lead back to their own rules")]
+    DeepImport,
+    /// An import after 256 others, those of imported rules too.
+    #[error("expected at most 256 imports, with those of imported rules")]
+    ManyImports,
 }
 
 /// Why rules aren't read.
