@@ -1,2 +1,2 @@
 mod RuleTextLemmas
-mod RelatedTextLemmas
+pub mod RelatedTextLemmas

@@ -68,7 +68,7 @@ one_weighted level x xs false is more =
     (ap (λ (ws : List ℕ). slice_index_or ws (level - 1) 0) (none_weighted x is) ∙ no_weight_at (level - 1)))
 
 -- elements without weights have none at a level
-numbers_weighted : (level : ℕ) (xs : List Element) → element_numbers level (weighted xs) ≡ element_numbers level xs
+pub numbers_weighted : (level : ℕ) (xs : List Element) → element_numbers level (weighted xs) ≡ element_numbers level xs
 numbers_weighted level [] = refl
 numbers_weighted level (x ∷ xs) = one_weighted level x xs (is_weighted x) refl (numbers_weighted level xs)
 
@@ -117,7 +117,7 @@ alone [] said (e ∷ es) string h = cc
 alone (p ∷ ps) said [] string h = cc
 alone (p ∷ ps) said (e ∷ es) string h = cc
 
-plain_rules : (said : Statement) (strength : Strength) (string : List ℕ) → strength_said said ≡ Some strength
+pub plain_rules : (said : Statement) (strength : Strength) (string : List ℕ) → strength_said said ≡ Some strength
     → plain_string said ≡ Some string → statement_rules said ≡ relation strength [] string [] ∷ []
 plain_rules (statements.Relation r) strength string s h =
     let parts = alone r.prefix.items r.string.items r.extension.items string h in
@@ -142,7 +142,7 @@ module _ (placed : List PlacedStatement) (index : ℕ) (p : PlacedStatement) (fo
   here : get_or placed index p ≡ p
   here = get_or_from_slice_get placed index p p found
 
-  rules_are : rules_of placed ≡ rules_of (take index placed) ++ rule ∷ rules_of (drop (index + 1) placed)
+  pub rules_are : rules_of placed ≡ rules_of (take index placed) ++ rule ∷ rules_of (drop (index + 1) placed)
   rules_are =
       sym (ap rules_of (take-append-drop index placed))
       ∙ flat_map-append (λ (s : PlacedStatement). statement_rules s.statement) (take index placed) (drop index placed)
@@ -150,7 +150,7 @@ module _ (placed : List PlacedStatement) (index : ℕ) (p : PlacedStatement) (fo
       (ap rules_of (drop_more placed index p (slice_get_within placed index p found))
       ∙ ap (λ (rs : List Rule). rs ++ rules_of (drop (index + 1) placed)) (one_of (get_or placed index p) here))
 
-  first_are : rules_of (take (index + 1) placed) ≡ rules_of (take index placed) ++ rule ∷ []
+  pub first_are : rules_of (take (index + 1) placed) ≡ rules_of (take index placed) ++ rule ∷ []
   first_are =
       ap rules_of (take_more placed index p (slice_get_within placed index p found))
       ∙ flat_map-append (λ (s : PlacedStatement). statement_rules s.statement) (take index placed) (get_or placed index p ∷ [])
@@ -175,7 +175,7 @@ related_by law root numbering strength other string before behind later rules al
     (subst (λ (rs : List Rule). AreRelatedBy root numbering strength other string before rs (before ++ relation strength [] string [] ∷ later)) (sym first)
     (law root before later strength other string numbering))
 
-strength_at : (placed : List PlacedStatement) (index : ℕ) (p : PlacedStatement) (strength : Strength) → slice_get placed index ≡ Some p
+pub strength_at : (placed : List PlacedStatement) (index : ℕ) (p : PlacedStatement) (strength : Strength) → slice_get placed index ≡ Some p
     → relation_strength (slice_get placed index) ≡ Some strength → strength_said p.statement ≡ Some strength
 strength_at placed index p strength found is = sym (ap relation_strength found) ∙ is
 

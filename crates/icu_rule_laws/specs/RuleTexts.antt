@@ -1,7 +1,8 @@
 -- Texts are read by the tables of rules as the rules say (UTS #10, "Produce Collation Element Arrays"; UTS #35 part 5,
 -- "Collation Tailorings").
-use Rattle.std.specs.Prelude.{ℕ, ◌≡◌, List, map}
+use Rattle.std.specs.Prelude.{ℕ, ◌≡◌, false, List, map}
 use Rattle.std.specs.List.{AllByRecursion}
+use Rattle.icu_table_provider.specs.Metadata.{has_tailored_diacritics}
 use Rattle.icu_table_provider.specs.Tables.{Tables}
 use Rattle.icu_table_provider.specs.well_formed.Checked.{checked_tables}
 use Rattle.icu_table_provider.specs.well_formed.WellFormedTables.{IsWellFormedTables}
@@ -27,6 +28,12 @@ tables_of_root root = (checked_tables (tables_beside root)).tables
 pub record AreRuledTables (root : CheckedRoot) (t : Tailoring) : Type 0 where
   pub accepted : IsWellFormedTables (tailored_tables t)
   pub plain : HasPlainDiacritics (tables_of_root root) (tailored_tables t).tables
+
+-- So it is of accepted tables if neither these nor the root's have diacritics of their own, by their metadata.
+abbrev pub CommonDiacriticsArePlain : CheckedRoot → Type 0
+CommonDiacriticsArePlain root = (t : Tailoring) → IsWellFormedTables (tailored_tables t)
+    → has_tailored_diacritics (tailored_tables t).bits ≡ false → has_tailored_diacritics (checked_tables (tables_beside root)).bits ≡ false
+    → AreRuledTables root t
 
 -- by the tables of rules over a root a decomposed text has the elements that it has by the mappings of the rules, with
 -- the numbers of their weights, but for elements without weights

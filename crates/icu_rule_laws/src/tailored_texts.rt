@@ -1,7 +1,7 @@
 //! Texts are read by the tables of a tailoring as by the mappings that rules give their characters: laws that join what
 //! `icu_rule_tables` makes with what `icu_element_reading` reads.
 ghost use Rattle.icu_rule_laws.specs.tailored_texts.SaidMappings.{GivenMappingsAreSaid, RootsHaveMappingsAlone, RulesKeepMappingsAlone};
-ghost use Rattle.icu_rule_laws.specs.tailored_texts.TailoredTexts.{TextsAreReadByTailorings};
+ghost use Rattle.icu_rule_laws.specs.tailored_texts.TailoredTexts.{DiacriticsOfOneLengthArePlain, TextsAreReadByTailorings};
 
 use icu_rule_steps::symbolic_mappings::RootMappings;
 use icu_rule_weights::tailoring_numbers::elements_of_the_root_stay;
@@ -29,3 +29,9 @@ pub fn texts_are_read_by_tailorings<R: RootMappings>()
 {
     elements_of_the_root_stay();
 }
+
+/// A table of diacritics that is as long as the root's has each mark that the root's has, so nothing is asked of the
+/// entries of such marks.
+pub fn diacritics_of_one_length_are_plain()
+    ensures { DiacriticsOfOneLengthArePlain }
+{}

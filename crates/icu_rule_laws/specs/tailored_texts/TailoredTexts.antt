@@ -1,6 +1,6 @@
 -- Texts are read by the tables of a tailoring as by its mappings (UTS #10, "Produce Collation Element Arrays"; UTS #35
 -- part 5, "Collation Tailorings").
-use Rattle.std.specs.Prelude.{ℕ, ◌≡◌, ◌<◌, ◌^◌, Bool, true, ◌&&◌, nat_lt, List, [], ◌∷◌, map, Some, None}
+use Rattle.std.specs.Prelude.{ℕ, ◌≡◌, ◌<◌, ◌^◌, Bool, true, ◌&&◌, nat_lt, List, [], ◌∷◌, length, map, Some, None}
 use Rattle.std.specs.List.{AllByRecursion}
 use Rattle.icu_table_entries.specs.Elements.{Element}
 use Rattle.icu_table_data.specs.CodePointTables.{code_point_count}
@@ -66,3 +66,8 @@ TextsAreReadByTailorings {R} mappings_of = (t : TailoringNumbers) (m : Mappings 
     → (text : List ℕ) → AllByRecursion IsScalarCode text
     → weighted (elements_of (non_numeric_reading tables) text)
     ≡ weighted (map (numbered_element t) (symbolic_elements (mappings_in mappings_of m) text))
+
+-- so it is if both tables of diacritics have one length
+abbrev pub DiacriticsOfOneLengthArePlain : Type 0
+DiacriticsOfOneLengthArePlain =
+    (over tables : Tables) → length tables.diacritics ≡ length over.diacritics → HasPlainDiacritics over tables

@@ -1,0 +1,9 @@
+pub mod KeyedReadings
+pub mod UpperLemmas
+pub mod ReadLevels
+pub mod StayingLemmas
+pub mod ApartLevelLemmas
+pub mod BackwardLemmas
+pub mod SaidLemmas
+pub mod ApartOrderLemmas
+pub mod ApartTextLemmas

@@ -1,0 +1,3 @@
+pub mod UpperWeights
+pub mod ApartElements
+pub mod ApartElementLaws

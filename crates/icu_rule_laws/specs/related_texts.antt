@@ -1,0 +1,3 @@
+pub mod PlainOrders
+pub mod RelationOrders
+pub mod SwedishLetters

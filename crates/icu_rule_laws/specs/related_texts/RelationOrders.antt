@@ -1,0 +1,119 @@
+-- How texts order that relations of rules relate, by a collation of the tables of these rules (UTS #35 part 5,
+-- "Collation Tailorings").
+use Rattle.std.specs.Prelude.{ℕ, ◌≡◌, ◌≢◌, ◌≤◌, List, [], ◌∷◌, ◌++◌, min, take, Some, None}
+use Rattle.std.specs.List.{AllByRecursion, slice_get}
+use Rattle.unicode_normalization.specs.Forms.{nfd}
+use Rattle.icu_options.specs.declared.settings.Strength.{Strength}
+use Rattle.icu_options.specs.declared.settings.Strength.TheVariants.{Identical}
+use Rattle.icu_order_texts.specs.weighting.Collations.{Collation}
+use Rattle.icu_order_levels.specs.Keys.{characters_order}
+use Rattle.icu_order_texts.specs.weighting.Forms.{is_identical}
+use Rattle.icu_order_texts.specs.TextOrder.{lists_by, text_order}
+use Rattle.icu_order_texts.specs.text_laws.OrderLaws.{strength_rank}
+use Rattle.icu_rule_parser.specs.declared.rules.PlacedStatement.{PlacedStatement}
+use Rattle.icu_rule_root.specs.declared.checked_root.CheckedRoot.{CheckedRoot}
+use Rattle.icu_rule_root.specs.StoredRoots.{stored_root}
+use Rattle.icu_rule_meaning.specs.Rules.{Rule, relation, level_of, rules_of}
+use Rattle.icu_rule_meaning.specs.RelationLaws.{elements_at, weights_before}
+use Rattle.icu_rule_meaning.specs.SymbolicOrders.{Numbering}
+use Rattle.icu_rule_meaning.specs.TailoredRoots.{Root}
+use Rattle.icu_rule_meaning.specs.declared.symbolic.SymbolicElement.{SymbolicElement}
+use Rattle.icu_rule_weights.specs.tailoring_numbers.NumberedElements.{FitsAll}
+use Rattle.icu_rule_weights.specs.tailoring_numbers.Numberings.{numbering_of}
+use Rattle.icu_rule_steps.specs.held_relations.HeldRelations.{IsHeld, elements_by_all}
+use Rattle.icu_rule_tables.specs.RuleSettings.{reorder_words}
+use Rattle.icu_rule_tables.specs.StatesByRules.{state_over}
+use Rattle.icu_rule_tables.specs.Tailorings.{SaysRules, tailored_tables}
+use Rattle.icu_rule_tables.specs.declared.tailoring.Tailoring.{Tailoring}
+use Rattle.icu_rule_laws.specs.RuleTexts.{AreRuledTables}
+use Rattle.icu_rule_laws.specs.RelatedTexts.{relation_strength}
+use Rattle.icu_rule_laws.specs.tailored_texts.TailoredTexts.{IsScalarCode}
+use Rattle.icu_rule_laws.specs.apart_elements.ApartElements.{said_at}
+use Rattle.icu_rule_laws.specs.apart_elements.ApartElementLaws.{IsWithoutCase}
+use Rattle.icu_rule_laws.specs.related_texts.PlainOrders.{HasNoVariable, HasPlainSettings, ReadsPlainly}
+
+-- The level of relations, one after another: the least of theirs, which is that of the greatest difference. It is 5 if
+-- none makes a difference, and 0 if one of the rules is no relation.
+abbrev pub chain_level : List Rule → ℕ
+chain_level [] = 5
+chain_level (relation strength prefix string extension ∷ rules) = min (level_of strength) (chain_level rules)
+chain_level (_ ∷ rules) = 0
+
+-- a relation of this strength differs from an element that has a weight at the level, and one of `=` from any
+abbrev pub DiffersFromWeight : Root → Numbering → List Rule → Strength → Type 0
+DiffersFromWeight root numbering earlier Identical = Unit {0}
+DiffersFromWeight root numbering earlier strength =
+    numbering (take (level_of strength) (weights_before root earlier (level_of strength))) ≢ 0
+
+-- so does each of these relations, after earlier rules
+abbrev pub DifferFromWeights : Root → Numbering → List Rule → List Rule → Type 0
+DifferFromWeights root numbering earlier [] = Unit {0}
+DifferFromWeights root numbering earlier (relation strength prefix string extension ∷ rules) =
+    DiffersFromWeight root numbering earlier strength
+    × DifferFromWeights root numbering (earlier ++ relation strength prefix string extension ∷ []) rules
+DifferFromWeights root numbering earlier (_ ∷ rules) = Unit {0}
+
+-- Texts stand in a chain of relations: by all rules the left one has the elements before these relations, and the right
+-- one those after them, with the same elements before both, as of a prefix, and after both, as of an extension. So no
+-- later rule moved them. If something comes after both, what the relations differ from has a weight at their levels.
+pub record StandInChain (root : Root) (placed : List PlacedStatement) (numbering : Numbering) (chain : List Rule) (left right : List ℕ) : Type 0 where
+  pub earlier : List Rule
+  pub later : List Rule
+  pub rules : rules_of placed ≡ earlier ++ (chain ++ later)
+  pub front : List SymbolicElement
+  pub behind : List SymbolicElement
+  pub of_left : elements_by_all root placed left ≡ front ++ (elements_at root earlier ++ behind)
+  pub of_right : elements_by_all root placed right ≡ front ++ (elements_at root (earlier ++ chain) ++ behind)
+  pub counts : behind ≢ [] → DifferFromWeights root numbering earlier chain
+
+-- no weight of the elements of a text is too great for its level
+abbrev pub FitsText : (root : CheckedRoot) (placed : List PlacedStatement) (t : Tailoring) → SaysRules root placed t → List ℕ → Type 0
+FitsText root placed t says text = FitsAll says.numbers (elements_by_all (stored_root root) placed text)
+
+-- By a collation of the tables of rules two texts that stand in a chain of relations order by the level of the chain:
+-- by plain settings the left one is Less by each strength that has the level, and else they are Equal, if neither has
+-- a variable element. At the quaternary level, and if there is no difference, strengths up to the tertiary one are
+-- spoken of. That weights fit is asked if both the relations and the strength come to tertiary weights.
+abbrev pub RelationsOrder : CheckedRoot → Type 0
+RelationsOrder root = (placed : List PlacedStatement) (t : Tailoring) (says : SaysRules root placed t) → AreRuledTables root t
+    → (c : Collation) → c.tables ≡ tailored_tables t
+    → (left right : List ℕ) → AllByRecursion IsScalarCode (nfd left) → AllByRecursion IsScalarCode (nfd right)
+    → (chain : List Rule) → StandInChain (stored_root root) placed (numbering_of says.numbers) chain left right
+    → 1 ≤ chain_level chain → HasPlainSettings c (chain_level chain) → HasNoVariable c left → HasNoVariable c right
+    → (3 ≤ chain_level chain → 2 ≤ strength_rank c.settings.strength → FitsText root placed t says left × FitsText root placed t says right)
+    → (4 ≤ chain_level chain → strength_rank c.settings.strength ≤ 2)
+    → text_order c left right ≡ said_at c.settings.strength (chain_level chain)
+
+-- Texts in a chain of `=` alone differ by their characters alone, which the identical strength compares: by all
+-- settings without case by which texts are read plainly, whatever is variable.
+abbrev pub IdentitiesOrder : CheckedRoot → Type 0
+IdentitiesOrder root = (placed : List PlacedStatement) (t : Tailoring) (says : SaysRules root placed t) → AreRuledTables root t
+    → (c : Collation) → c.tables ≡ tailored_tables t
+    → (left right : List ℕ) → AllByRecursion IsScalarCode (nfd left) → AllByRecursion IsScalarCode (nfd right)
+    → (chain : List Rule) → StandInChain (stored_root root) placed (numbering_of says.numbers) chain left right
+    → chain_level chain ≡ 5 → ReadsPlainly c → IsWithoutCase c
+    → text_order c left right ≡ characters_order (is_identical c.settings.strength) (lists_by c (nfd left)) (lists_by c (nfd right))
+
+-- Two texts order as a relation of this strength says: by plain settings the left one is Less by each strength that has
+-- its level, and else they are Equal; and by `=` they differ by their characters alone.
+pub record OrderAsRelation (root : CheckedRoot) (placed : List PlacedStatement) (t : Tailoring) (says : SaysRules root placed t) (c : Collation) (strength : Strength) (left right : List ℕ) : Type 0 where
+  pub differ : HasPlainSettings c (level_of strength) → HasNoVariable c left → HasNoVariable c right
+      → (3 ≤ level_of strength → 2 ≤ strength_rank c.settings.strength → FitsText root placed t says left × FitsText root placed t says right)
+      → (4 ≤ level_of strength → strength_rank c.settings.strength ≤ 2)
+      → text_order c left right ≡ said_at c.settings.strength (level_of strength)
+  pub same : strength ≡ Identical → ReadsPlainly c → IsWithoutCase c
+      → text_order c left right ≡ characters_order (is_identical c.settings.strength) (lists_by c (nfd left)) (lists_by c (nfd right))
+
+-- So do the strings of a relation that is held, by a collation of the tables of its rules.
+abbrev pub HeldRelationsOrder : CheckedRoot → Type 0
+HeldRelationsOrder root = (placed : List PlacedStatement) (t : Tailoring) (says : SaysRules root placed t) → AreRuledTables root t
+    → (c : Collation) → c.tables ≡ tailored_tables t
+    → (index : ℕ) (strength : Strength) → relation_strength (slice_get placed index) ≡ Some strength
+    → (held : IsHeld (stored_root root) placed index)
+    → AllByRecursion IsScalarCode (nfd held.strings.other) → AllByRecursion IsScalarCode (nfd held.strings.string)
+    → OrderAsRelation root placed t says c strength held.strings.other held.strings.string
+
+-- by rules without `[reorder ..]` scripts stand in the order of the tables
+abbrev pub RulesKeepScripts : CheckedRoot → Type 0
+RulesKeepScripts root = (placed : List PlacedStatement) (t : Tailoring) → SaysRules root placed t
+    → reorder_words (state_over root placed).settings ≡ None → (tailored_tables t).reordering ≡ None
