@@ -1,5 +1,5 @@
 -- The keywords of a tag, and the settings that they name (UTS #35 part 5, "Setting Options").
-use Rattle.std.specs.Prelude.{◌≡◌, ℕ, ◌&&◌, not, List, [], ◌∷◌, ◌++◌, Bool, true, false, Option, None, Some, option_map, bytes_eq, string_bytes, codes, if◌then◌else◌}
+use Rattle.std.specs.Prelude.{◌≡◌, ℕ, ◌&&◌, ◌||◌, not, List, [], ◌∷◌, ◌++◌, Bool, true, false, Option, None, Some, option_map, bytes_eq, string_bytes, codes, if◌then◌else◌}
 use Rattle.std.specs.List.{before_first, flat_map}
 use Rattle.icu_options.specs.declared.settings.Strength.{Strength}
 use Rattle.icu_options.specs.declared.settings.Strength.TheVariants as strengths
@@ -56,12 +56,13 @@ abbrev pub setting_of : {T : Type 0} → (List ℕ → Option T) → Option (Lis
 setting_of named None = Some None
 setting_of named (Some word) = option_map (λ x. Some x) (named word)
 
--- the strength that a word names
+-- the strength that a word names, by its type or an alias of that (CLDR's file bcp47/collation.xml); an alias of more
+-- than eight letters can't stand in a tag
 unfoldable pub strength_by_name : List ℕ → Option Strength
 strength_by_name word =
-    if bytes_eq word (codes "level1") then Some strengths.Primary
+    if bytes_eq word (codes "level1") || bytes_eq word (codes "primary") then Some strengths.Primary
     else (if bytes_eq word (codes "level2") then Some strengths.Secondary
-    else (if bytes_eq word (codes "level3") then Some strengths.Tertiary
+    else (if bytes_eq word (codes "level3") || bytes_eq word (codes "tertiary") then Some strengths.Tertiary
     else (if bytes_eq word (codes "level4") then Some strengths.Quaternary
     else (if bytes_eq word (codes "identic") then Some strengths.Identical else None))))
 
@@ -82,7 +83,7 @@ group_named word =
 -- whether a word asks for the case level
 unfoldable pub case_level_named : List ℕ → Option CaseLevel
 case_level_named word =
-    if bytes_eq word (codes "true") then Some levels.On
+    if bytes_eq word (codes "true") || bytes_eq word (codes "yes") then Some levels.On
     else (if bytes_eq word (codes "false") then Some levels.Off else None)
 
 -- the case that a word puts first
@@ -95,13 +96,13 @@ case_first_named word =
 -- whether a word asks for digits as numbers
 unfoldable pub numeric_named : List ℕ → Option CollationNumericOrdering
 numeric_named word =
-    if bytes_eq word (codes "true") then Some numeric.True
+    if bytes_eq word (codes "true") || bytes_eq word (codes "yes") then Some numeric.True
     else (if bytes_eq word (codes "false") then Some numeric.False else None)
 
 -- whether a word asks for a backward secondary level
 unfoldable pub backward_named : List ℕ → Option Bool
 backward_named word =
-    if bytes_eq word (codes "true") then Some true
+    if bytes_eq word (codes "true") || bytes_eq word (codes "yes") then Some true
     else (if bytes_eq word (codes "false") then Some false else None)
 
 -- the settings are those that the keys name

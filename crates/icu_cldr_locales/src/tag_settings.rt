@@ -57,9 +57,9 @@ fn strength_by_name(word: &str) -> Option<Strength>
     ensures { result ≡ strength_by_name word.now }
 {
     match word {
-        "level1" => Some(Strength::Primary),
+        "level1" | "primary" => Some(Strength::Primary),
         "level2" => Some(Strength::Secondary),
-        "level3" => Some(Strength::Tertiary),
+        "level3" | "tertiary" => Some(Strength::Tertiary),
         "level4" => Some(Strength::Quaternary),
         "identic" => Some(Strength::Identical),
         _ => None,
@@ -95,7 +95,7 @@ fn case_level_named(word: &str) -> Option<CaseLevel>
     ensures { result ≡ case_level_named word.now }
 {
     match word {
-        "true" => Some(CaseLevel::On),
+        "true" | "yes" => Some(CaseLevel::On),
         "false" => Some(CaseLevel::Off),
         _ => None,
     }
@@ -118,7 +118,7 @@ fn numeric_named(word: &str) -> Option<CollationNumericOrdering>
     ensures { result ≡ numeric_named word.now }
 {
     match word {
-        "true" => Some(CollationNumericOrdering::True),
+        "true" | "yes" => Some(CollationNumericOrdering::True),
         "false" => Some(CollationNumericOrdering::False),
         _ => None,
     }
@@ -129,7 +129,7 @@ fn backward_named(word: &str) -> Option<bool>
     ensures { result ≡ backward_named word.now }
 {
     match word {
-        "true" => Some(true),
+        "true" | "yes" => Some(true),
         "false" => Some(false),
         _ => None,
     }
