@@ -15,9 +15,9 @@ use Rattle.icu_options.specs.declared.settings.MaxVariable.TheVariants.{Punctuat
 use Rattle.icu_options.specs.declared.settings.Strength.{Strength}
 use Rattle.icu_order_texts.specs.Collations.{Collation}
 use Rattle.cldr_collators.specs.RootCollators.{chosen_settings}
-use Rattle.cldr_collators.specs.declared.choice.Chosen.{Chosen}
+use Rattle.cldr_languages.specs.declared.language_options.LanguageOptions.{LanguageOptions}
 
-settings_by : Chosen → Strength → Option CollationCaseFirst → Option CollationNumericOrdering → Settings
+settings_by : LanguageOptions → Strength → Option CollationCaseFirst → Option CollationNumericOrdering → Settings
 settings_by c strength first numeric = record {
   strength = strength;
   max_variable = unwrap_or c.max_variable Punctuation;
@@ -28,7 +28,7 @@ settings_by c strength first numeric = record {
   numeric = unwrap_or (option_map is_numeric numeric) false;
 }
 
-pub chosen_merged : (c : Chosen) (strength : Strength) (kept : Collation) (o : CollatorOptions) (p : CollatorPreferences)
+pub chosen_merged : (c : LanguageOptions) (strength : Strength) (kept : Collation) (o : CollatorOptions) (p : CollatorPreferences)
     → IsRoot kept.tables
     → o ≡ record { strength = Some strength; alternate_handling = c.alternate_handling; max_variable = c.max_variable; case_level = c.case_level }
     → p.case_first ≡ c.case_first → p.numeric_ordering ≡ c.numeric

@@ -8,10 +8,10 @@ use Rattle.icu_options.specs.declared.settings.AlternateHandling.TheVariants.{No
 use Rattle.icu_options.specs.declared.settings.CollationCaseFirst.TheVariants as case_first
 use Rattle.icu_options.specs.declared.settings.MaxVariable.TheVariants.{Punctuation}
 use Rattle.icu_order_texts.specs.Collations.{Collation}
-use Rattle.cldr_collators.specs.declared.choice.Chosen.{Chosen}
+use Rattle.cldr_languages.specs.declared.language_options.LanguageOptions.{LanguageOptions}
 
 -- the settings that were chosen, at a strength, and those of the root where none was
-abbrev pub chosen_settings : Chosen → Strength → Settings
+abbrev pub chosen_settings : LanguageOptions → Strength → Settings
 chosen_settings chosen strength = record {
   strength = strength;
   max_variable = unwrap_or chosen.max_variable Punctuation;
@@ -23,6 +23,6 @@ chosen_settings chosen strength = record {
 }
 
 -- texts are compared by the tables of a root, with the chosen settings
-pub record ComparesAs (chosen : Chosen) (strength : Strength) (c : Collation) : Type 0 where
+pub record ComparesAs (chosen : LanguageOptions) (strength : Strength) (c : Collation) : Type 0 where
   pub root : IsRoot c.tables
   pub settings : c.settings ≡ chosen_settings chosen strength

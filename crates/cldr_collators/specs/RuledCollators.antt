@@ -15,10 +15,10 @@ use Rattle.icu_rule_tables.specs.Tailorings.{SaysRules, tailored_tables}
 use Rattle.icu_rule_tables.specs.declared.tailoring.Tailoring.{Tailoring}
 use Rattle.icu_collator.specs.Collators.{loaded_for, settings_kept, tables_kept}
 use Rattle.icu_collator.specs.declared.collator.Collator.{Collator}
-use Rattle.cldr_collators.specs.declared.choice.Chosen.{Chosen}
+use Rattle.cldr_languages.specs.declared.language_options.LanguageOptions.{LanguageOptions}
 
 -- what a choice of settings asks of a collator, as options and preferences
-pub record AsksFor (chosen : Chosen) (strength : Strength) (options : CollatorOptions) (preferences : CollatorPreferences) : Type 0 where
+pub record AsksFor (chosen : LanguageOptions) (strength : Strength) (options : CollatorOptions) (preferences : CollatorPreferences) : Type 0 where
   pub of_collator : options ≡ record {
     strength = Some strength;
     alternate_handling = chosen.alternate_handling;
@@ -29,7 +29,7 @@ pub record AsksFor (chosen : Chosen) (strength : Strength) (options : CollatorOp
   pub numeric : preferences.numeric_ordering ≡ chosen.numeric
 
 -- Texts are compared by the tables of a tailoring. Settings are those that were chosen, and else those of its metadata.
-pub record ComparesByTables (t : Tailoring) (chosen : Chosen) (strength : Strength) (c : Collator) : Type 0 where
+pub record ComparesByTables (t : Tailoring) (chosen : LanguageOptions) (strength : Strength) (c : Collator) : Type 0 where
   pub options : CollatorOptions
   pub preferences : CollatorPreferences
   pub asks : AsksFor chosen strength options preferences
@@ -37,7 +37,7 @@ pub record ComparesByTables (t : Tailoring) (chosen : Chosen) (strength : Streng
   pub settings : settings_kept c ≡ merge options preferences (metadata_settings (tables_kept c).bits)
 
 -- texts are compared by the tables that rules say over the root of these tables
-pub record ComparesByRules (tables : CollatorTables) (statements : List PlacedStatement) (chosen : Chosen) (strength : Strength) (c : Collator) : Type 0 where
+pub record ComparesByRules (tables : CollatorTables) (statements : List PlacedStatement) (chosen : LanguageOptions) (strength : Strength) (c : Collator) : Type 0 where
   pub root : CheckedRoot
   pub is_root : IsRootOf tables (stored_root root)
   pub tailoring : Tailoring

@@ -1,60 +1,53 @@
 //! A collator by the rules of a locale.
 ghost use Rattle.std.specs.Prelude.{◌≡◌, IfOk};
-ghost use Rattle.icu_cldr_root.specs.Roots.{root_tables};
 ghost use Rattle.icu_rule_tables.specs.Tailorings.{SaysRules};
 ghost use Rattle.icu_table_provider.specs.well_formed.WellFormedTables.{IsWellFormedTables};
 ghost use Rattle.icu_collator.specs.Collators.{tables_kept};
 ghost use Rattle.icu_table_provider.specs.well_formed.Checked.{checked_tables};
 ghost use Rattle.cldr_collators.specs.RuledCollators.{ComparesByRules, ComparesByTables};
 
-use crate::asked_locale::refused_locale;
-use crate::asked_rules::{LocaleRules, refused_rule};
-use crate::choice::Chosen;
-use crate::file_source::error_of;
-use icu_cldr_root::CldrRoot;
+use cldr_languages::language_error::{data_error, tag_error};
+use cldr_languages::{LanguageError, LanguageOptions, LocaleRules};
 use icu_collator::Collator;
 use icu_options::Strength;
 use icu_rule_root::CheckedRoot;
+use icu_rule_tables::script_reordering::ReorderingError;
 use icu_rule_tables::{RuleRefusal, RuleTablesError, Tailoring};
-use icu_table_check::checked_owned;
 use icu_table_entries::{DataError, DataErrorKind};
 use icu_table_provider::well_formed::CheckedTables;
-use program_files::{ProgramError, refused_by};
 use std::alloc::Global;
 use std::fmt::Display;
 
 /// An error that says what is wrong with the tables of rules.
-fn refused_tables<E: Display>(alloc: Global, rules: &LocaleRules, error: &E) -> ProgramError {
-    refused_by(alloc, rules.source.as_str(), error)
+fn refused_tables<E: Display>(alloc: Global, rules: &LocaleRules, error: &E) -> LanguageError {
+    data_error(alloc, rules.texts.name(), error)
 }
 
-/// An error that says of a statement of rules what is wrong there, or of the tag, where that asks for a reordering.
+/// An error that says of the keyword `kr` of a tag why scripts can't stand in the order that it asks for.
+fn refused_order(alloc: Global, tag: &str, error: ReorderingError) -> LanguageError {
+    match format!(in alloc; "kr: {error}") {
+        Ok(fault) => tag_error(alloc, tag, fault.as_str()),
+        Err(_) => LanguageError::NoMemory,
+    }
+}
+
+/// An error that says of a statement of rules what is wrong there, or of the tag, if that asks for a reordering.
 fn refused_statement(
     alloc: Global,
     rules: &LocaleRules,
     place: usize,
     kind: RuleRefusal,
-) -> ProgramError {
+) -> LanguageError {
     match (kind, &rules.reordering_tag) {
-        (RuleRefusal::Unreordered(_), Some(tag)) => refused_locale(
-            alloc,
-            tag.as_str(),
-            "kr: expected groups that can be put in this order, each once",
-        ),
-        (kind, _) => refused_rule(
-            alloc,
-            rules.source.as_str(),
-            rules.text.as_str(),
-            place,
-            &kind,
-        ),
+        (RuleRefusal::Unreordered(error), Some(tag)) => refused_order(alloc, tag.as_str(), error),
+        (kind, _) => rules.texts.refused_rule(alloc, place, &kind),
     }
 }
 
 /// What an error of rules that make no tables comes to.
-fn error_of_rules(alloc: Global, rules: &LocaleRules, error: RuleTablesError) -> ProgramError {
+fn error_of_rules(alloc: Global, rules: &LocaleRules, error: RuleTablesError) -> LanguageError {
     match error {
-        RuleTablesError::NoMemory => ProgramError::NoMemory,
+        RuleTablesError::NoMemory => LanguageError::NoMemory,
         RuleTablesError::Refused {
             place,
             import,
@@ -65,9 +58,9 @@ fn error_of_rules(alloc: Global, rules: &LocaleRules, error: RuleTablesError) ->
 }
 
 /// What an error of tables that a collator would be made of comes to.
-pub fn refused_by_check(alloc: Global, rules: &LocaleRules, error: DataError) -> ProgramError {
+pub fn refused_by_check(alloc: Global, rules: &LocaleRules, error: DataError) -> LanguageError {
     match error.kind {
-        DataErrorKind::NoMemory => ProgramError::NoMemory,
+        DataErrorKind::NoMemory => LanguageError::NoMemory,
         _ => refused_tables(alloc, rules, &error),
     }
 }
@@ -77,9 +70,9 @@ fn collator_of(
     alloc: Global,
     tailoring: &Tailoring<'_>,
     rules: &LocaleRules,
-    chosen: Chosen,
+    chosen: LanguageOptions,
     strength: Strength,
-) -> Result<Collator, ProgramError>
+) -> Result<Collator, LanguageError>
     ensures well_formed { IfOk result (λ c. IsWellFormedTables (tables_kept c)) }
     ensures compares { IfOk result (ComparesByTables tailoring.now chosen strength) }
 {
@@ -99,7 +92,7 @@ pub fn tailoring_by<'t>(
     alloc: Global,
     root: &CheckedRoot<'t>,
     rules: &LocaleRules,
-) -> Result<Tailoring<'t>, ProgramError>
+) -> Result<Tailoring<'t>, LanguageError>
     ensures { IfOk result (SaysRules root.now rules.now.rules.statements.items) }
 {
     match Tailoring::from_rules(alloc, root, &rules.rules) {
@@ -109,13 +102,17 @@ pub fn tailoring_by<'t>(
 }
 
 /// A collator by rules over checked tables, with the chosen settings.
-fn collator_over(
+///
+/// # Errors
+///
+/// Fails where an allocation does, or with what is wrong with a rule or the tag.
+pub fn tailored_collator(
     alloc: Global,
     tables: &CheckedTables,
     rules: &LocaleRules,
-    chosen: Chosen,
+    chosen: LanguageOptions,
     strength: Strength,
-) -> Result<Collator, ProgramError>
+) -> Result<Collator, LanguageError>
     ensures well_formed { IfOk result (λ c. IsWellFormedTables (tables_kept c)) }
     ensures compares { IfOk result (ComparesByRules (checked_tables tables.now)
         rules.now.rules.statements.items chosen strength) }
@@ -123,41 +120,5 @@ fn collator_over(
     let root = CheckedRoot::new(alloc, tables)?;
     let tailoring = tailoring_by(alloc, &root, rules)?;
     let collator = collator_of(alloc, &tailoring, rules, chosen, strength)?;
-    Ok(collator)
-}
-
-/// The tables that were read from a file, checked.
-pub fn checked_root_tables(
-    alloc: Global,
-    root: CldrRoot,
-    file: &str,
-) -> Result<CheckedTables, ProgramError>
-    ensures { IfOk result (λ tables. checked_tables tables ≡ root_tables root) }
-{
-    match checked_owned(alloc, root.into_tables()) {
-        Ok(tables) => Ok(tables),
-        Err(error) => Err(error_of(alloc, file, error)),
-    }
-}
-
-/// A collator by rules over the tables that were read from a file, with the chosen settings.
-///
-/// # Errors
-///
-/// Fails where an allocation does, or with a line that says of the file, of a rule or of the tag what is wrong there.
-pub fn tailored_collator(
-    alloc: Global,
-    root: CldrRoot,
-    file: &str,
-    rules: &LocaleRules,
-    chosen: Chosen,
-    strength: Strength,
-) -> Result<Collator, ProgramError>
-    ensures well_formed { IfOk result (λ c. IsWellFormedTables (tables_kept c)) }
-    ensures compares { IfOk result (ComparesByRules (root_tables root)
-        rules.now.rules.statements.items chosen strength) }
-{
-    let tables = checked_root_tables(alloc, root, file)?;
-    let collator = collator_over(alloc, &tables, rules, chosen, strength)?;
     Ok(collator)
 }

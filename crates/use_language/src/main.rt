@@ -2,12 +2,13 @@
 #![tactic(auto)]
 
 use anyhow::Result;
-use cldr_collators::language_collator;
+use cldr_collators::{LanguageOptions, Languages};
 use icu_collator::sort::sort_texts;
 
 fn print_sorted(rt: &HostRuntime, language: &str, names: &mut [&str]) -> Result<()> {
-    let collator = language_collator(rt, language, Some("cldr"))?;
-    sort_texts(&collator.as_borrowed(), names);
+    let mut languages = Languages::open(rt, "cldr")?;
+    let found = languages.collator(rt, language, LanguageOptions::default())?;
+    sort_texts(&found.collator.as_borrowed(), names);
     for name in names {
         println!(rt; "{name}")?;
     }

@@ -1,5 +1,5 @@
 -- Files of tables that are written, and tables by rules.
-use Rattle.std.specs.Prelude.{◌≡◌, ℕ, List, [], ◌⊎◌, None, Ok}
+use Rattle.std.specs.Prelude.{◌≡◌, ℕ, List, [], None, Ok}
 use Rattle.icu_table_provider.specs.CollatorTables.{CollatorTables}
 use Rattle.icu_table_provider.specs.LoadedTables.{loaded_tables}
 use Rattle.icu_table_provider.specs.TableSets.{loads_of}

@@ -1,9 +1,10 @@
-use Rattle.std.proofs.Common.{subst}
-use Rattle.icu_table_provider.specs.CollatorTables.{CollatorTables}
-use Rattle.cldr_collators.specs.RuledCollators.{ComparesByRules}
 use Rattle.cldr_collators.proofs.tailored_collator.tailored_collator.Goals as goal
 
 pub returns-clause-compares : goal.returns-clause-compares
-returns-clause-compares c =
-    subst (λ (t : CollatorTables). ComparesByRules t c.args.rules.now.rules.statements.items c.args.chosen c.args.strength c.in_ok-collator.collator)
-    c.in_ok-tables.ensures c.in_ok-collator.ensures.compares
+returns-clause-compares c = record {
+  root = c.in_ok-root.root;
+  is_root = c.in_ok-root.ensures;
+  tailoring = c.in_ok-tailoring.tailoring;
+  says = c.in_ok-tailoring.ensures;
+  compares = c.in_ok-collator.ensures.compares;
+}

@@ -1,6 +1,6 @@
 //! Places in a text of rules, as messages show them.
 
-use std::alloc::AllocError;
+use std::alloc::{AllocError, Global};
 
 /// How many characters of a line are shown.
 const SHOWN: usize = 60;
@@ -28,14 +28,34 @@ pub(crate) fn line_at(text: &str, place: usize) -> &str {
     line_or(unread.trim(), before)
 }
 
-/// Pushes a line, or its beginning and a mark where it is long.
-pub(crate) fn push_shortened(shown: &mut String, line: &str) -> Result<(), AllocError> {
+/// A line, or its beginning and a mark if it is long.
+pub(crate) fn shown_line(alloc: Global, line: &str) -> Result<String, AllocError> {
+    let mut shown = String::new(alloc);
     for (i, c) in line.chars().enumerate() {
         if i == SHOWN {
             shown.push_str("..")?;
-            return Ok(());
+            return Ok(shown);
         }
         shown.push(c)?;
     }
-    Ok(())
+    Ok(shown)
+}
+
+/// A place of a text, by the numbers of its line and its column, from 1 on.
+pub(crate) fn numbered_place(
+    alloc: Global,
+    text: &str,
+    place: usize,
+) -> Result<String, AllocError> {
+    let mut line: usize = 1;
+    let mut column: usize = 1;
+    for c in text.chars().take(place) {
+        if c == '\n' {
+            line = line.saturating_add(1);
+            column = 1;
+        } else {
+            column = column.saturating_add(1);
+        }
+    }
+    format!(in alloc; "line {line}, column {column}")
 }

@@ -1,8 +1,7 @@
 //! The version of CLDR's data.
 
-use program_files::{ProgramError, joined, refused_by_system};
-use std::fs;
-use std::io::ErrorKind;
+use crate::language_error::LanguageError;
+use crate::text_files::text_if_there;
 use std::rt::Files;
 
 /// The file of a folder of CLDR's data that has its version.
@@ -22,13 +21,11 @@ fn version_in(text: &str) -> Option<&str> {
 ///
 /// # Errors
 ///
-/// Fails where an allocation does, or with a line that names the file, where it is there and isn't read.
-pub fn cldr_version<R: Files + AllocGlobal>(rt: &R, folder: &str) -> Result<String, ProgramError> {
-    let file = joined(rt.alloc(), folder, VERSION_FILE)?;
-    let text = match fs::read_to_string(rt, file.as_str()) {
-        Ok(text) => text,
-        Err(e) if e.kind() == ErrorKind::NotFound => return Ok(String::new(rt.alloc())),
-        Err(e) => return Err(refused_by_system(rt.alloc(), file.as_str(), &e)),
+/// Fails where an allocation does, or with the file, if it is there and isn't read.
+pub fn cldr_version<R: Files + AllocGlobal>(rt: &R, folder: &str) -> Result<String, LanguageError> {
+    let file = format!(in rt.alloc(); "{folder}{VERSION_FILE}")?;
+    let Some(text) = text_if_there(rt, file.as_str())? else {
+        return Ok(String::new(rt.alloc()));
     };
     match version_in(text.as_str()) {
         Some(version) => Ok(version.to_string(rt.alloc())?),

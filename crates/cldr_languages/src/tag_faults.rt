@@ -54,6 +54,31 @@ fn region_in_short(
     }
 }
 
+/// The words for types of settings and of collations that CLDR has as aliases (bcp47/collation.xml) and that are too
+/// long for a tag, each with the type.
+const LONG_ALIASES: &[(&str, &str)] = &[
+    ("secondary", "level2"),
+    ("quaternary", "level4"),
+    ("quarternary", "level4"),
+    ("identical", "identic"),
+    ("ignorable", "noignore"),
+    ("phonebook", "phonebk"),
+    ("dictionary", "dict"),
+    ("traditional", "trad"),
+    ("gb2312han", "gb2312"),
+];
+
+/// What to write for a part of a tag that is an alias, but too long.
+fn type_in_short(alloc: Global, part: &str) -> Result<Option<String>, AllocError> {
+    let lower = in_case_of(alloc, SubtagKind::TypePart, part)?;
+    for (alias, short) in LONG_ALIASES {
+        if *alias == lower.as_str() {
+            return Ok(Some(format!(in alloc; "{part} is written {short} in a tag")?));
+        }
+    }
+    Ok(None)
+}
+
 /// What to write for a word, if that is known.
 fn advice(
     alloc: Global,
@@ -62,9 +87,12 @@ fn advice(
     place: usize,
 ) -> Result<Option<String>, AllocError> {
     if place == 0 {
-        code_of_name(alloc, lists, word)
-    } else {
-        region_in_short(alloc, lists, part_at(word, place))
+        return code_of_name(alloc, lists, word);
+    }
+    let part = part_at(word, place);
+    match type_in_short(alloc, part)? {
+        Some(advice) => Ok(Some(advice)),
+        None => region_in_short(alloc, lists, part),
     }
 }
 
@@ -82,13 +110,19 @@ pub(crate) fn tag_fault(
     }
 }
 
-/// What is said of a keyword by which no order goes: `vt` and `kh`.
+/// What is said of a keyword by which no order goes, `vt` and `kh`, and of an alias that is read as one, `no`.
 fn said_of_key(key: &str) -> Option<&'static str> {
     match key {
         "vt" => Some("`vt` isn't read; write `kv` with space, punct, symbol or currency"),
         "kh" => Some("`kh` isn't read; write `ks` with level4"),
+        "no" => Some("`no` is no type, since types have three letters at least; write false"),
         _ => None,
     }
+}
+
+/// Whether a text is a type of `kk`.
+fn is_normalization(text: &str) -> bool {
+    matches!(text, "true" | "yes" | "false")
 }
 
 /// What is wrong with the keywords of a tag that set nothing: one by which no order goes, or `kk` with a type that it
@@ -104,7 +138,7 @@ pub(crate) fn keyword_fault(subtags: &[Subtag]) -> Option<&'static str> {
                     return Some(said);
                 }
             }
-            SubtagKind::TypePart if key == "kk" && text != "true" && text != "false" => {
+            SubtagKind::TypePart if key == "kk" && !is_normalization(text) => {
                 return Some("expected `kk` with true or false");
             }
             _ => (),

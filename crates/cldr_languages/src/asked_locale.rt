@@ -1,12 +1,10 @@
-//! The locale that is asked for: by an option, or by the environment.
+//! The locale that is asked for, by a tag or by a name that POSIX has for it.
 
+use crate::language_error::{LanguageError, tag_error};
 use crate::tag_faults::{keyword_fault, tag_fault};
 use icu_cldr_locales::resolution::{LocaleData, TagRequest, tag_text};
 use icu_cldr_locales::{LanguageTag, TagError, TagSettings};
-use program_files::{ProgramError, refused};
 use std::alloc::{AllocError, Global};
-use std::env::{self, VarError};
-use std::rt::Env;
 
 /// A locale that is asked for.
 #[derive(Drop)]
@@ -21,37 +19,29 @@ pub struct AskedLocale {
     pub request: TagRequest,
 }
 
-/// An error that says of a locale what is wrong with it.
-pub(crate) fn refused_locale(alloc: Global, tag: &str, what: &str) -> ProgramError {
-    match format!(in alloc; "locale {tag}: {what}") {
-        Ok(text) => ProgramError::Refused(text),
-        Err(_) => ProgramError::NoMemory,
-    }
-}
-
 /// The tag that a word is.
-fn tag_of(alloc: Global, lists: &LocaleData, word: &str) -> Result<LanguageTag, ProgramError> {
+fn tag_of(alloc: Global, lists: &LocaleData, word: &str) -> Result<LanguageTag, LanguageError> {
     match LanguageTag::parse(alloc, word) {
         Ok(tag) => Ok(tag),
-        Err(TagError::NoMemory) => Err(ProgramError::NoMemory),
+        Err(TagError::NoMemory) => Err(LanguageError::NoMemory),
         Err(TagError::Refused { place, kind }) => {
             let what = tag_fault(alloc, lists, word, place, kind)?;
-            Err(refused_locale(alloc, word, what.as_str()))
+            Err(tag_error(alloc, word, what.as_str()))
         }
     }
 }
 
 /// What the keywords of a tag set.
-fn settings_of(alloc: Global, word: &str, tag: &LanguageTag) -> Result<TagSettings, ProgramError> {
+fn settings_of(alloc: Global, word: &str, tag: &LanguageTag) -> Result<TagSettings, LanguageError> {
     if let Some(what) = keyword_fault(tag.subtags.as_slice()) {
-        return Err(refused_locale(alloc, word, what));
+        return Err(tag_error(alloc, word, what));
     }
     match tag.settings() {
         Ok(settings) => Ok(settings),
-        Err(error) => match error.to_string(alloc) {
-            Ok(what) => Err(refused_locale(alloc, word, what.as_str())),
-            Err(_) => Err(ProgramError::NoMemory),
-        },
+        Err(error) => {
+            let what = error.to_string(alloc)?;
+            Err(tag_error(alloc, word, what.as_str()))
+        }
     }
 }
 
@@ -59,8 +49,8 @@ fn settings_of(alloc: Global, word: &str, tag: &LanguageTag) -> Result<TagSettin
 ///
 /// # Errors
 ///
-/// Fails where an allocation does, or with a line that says what is wrong with the tag.
-pub(crate) fn settings_of_word(alloc: Global, word: &str) -> Result<TagSettings, ProgramError> {
+/// Fails where an allocation does, or with what is wrong with the tag.
+pub fn settings_of_word(alloc: Global, word: &str) -> Result<TagSettings, LanguageError> {
     let lists = LocaleData::compiled_in(alloc)?;
     let tag = tag_of(alloc, &lists, word)?;
     settings_of(alloc, word, &tag)
@@ -71,7 +61,7 @@ fn asked_by_tag(
     alloc: Global,
     lists: &LocaleData,
     word: String,
-) -> Result<AskedLocale, ProgramError> {
+) -> Result<AskedLocale, LanguageError> {
     let tag = tag_of(alloc, lists, word.as_str())?;
     let settings = settings_of(alloc, word.as_str(), &tag)?;
     let request = TagRequest::of_tag(alloc, lists, &tag)?;
@@ -84,12 +74,12 @@ fn asked_by_tag(
 }
 
 /// The locale that a word asks for: a tag, `root`, or the name of a locale as POSIX has it. `None` is the root's order:
-/// `C`, `POSIX` and no name.
+/// `C` and `POSIX`.
 ///
 /// # Errors
 ///
-/// Fails where an allocation does, or with a line that says what is wrong with the word.
-pub fn locale_of_word(alloc: Global, word: &str) -> Result<Option<AskedLocale>, ProgramError> {
+/// Fails where an allocation does, or with what is wrong with the word.
+pub fn locale_of_word(alloc: Global, word: &str) -> Result<Option<AskedLocale>, LanguageError> {
     let Some(name) = tag_of_posix(alloc, word)? else {
         return Ok(None);
     };
@@ -153,55 +143,4 @@ fn tag_of_posix(alloc: Global, name: &str) -> Result<Option<String>, AllocError>
             Ok(Some(tag))
         }
     }
-}
-
-/// What a variable of the environment says, unless it is empty.
-fn said_by<R: Env + AllocGlobal>(rt: &R, name: &str) -> Result<Option<String>, ProgramError> {
-    match env::var(rt, name) {
-        Ok(text) if text.is_empty() => Ok(None),
-        Ok(text) => Ok(Some(text)),
-        Err(VarError::NotPresent) => Ok(None),
-        Err(VarError::NotUnicode) => Err(refused(rt.alloc(), name, "not in UTF-8")),
-        Err(VarError::OutOfMemory) => Err(ProgramError::NoMemory),
-    }
-}
-
-/// The locale of POSIX that the environment says: the first of `LC_ALL`, `LC_COLLATE` and `LANG` that is set.
-fn posix_locale<R: Env + AllocGlobal>(rt: &R) -> Result<Option<String>, ProgramError> {
-    for name in ["LC_ALL", "LC_COLLATE", "LANG"] {
-        if let Some(text) = said_by(rt, name)? {
-            return Ok(Some(text));
-        }
-    }
-    Ok(None)
-}
-
-/// The word that asks for a locale: the one that is named, else that of the environment. `None` is the root's order.
-///
-/// # Errors
-///
-/// Fails where an allocation does, or with a line that says what is wrong with a variable.
-pub fn asked_word<R: Env + AllocGlobal>(
-    rt: &R,
-    tag: Option<&str>,
-) -> Result<Option<String>, ProgramError> {
-    match tag {
-        Some(word) => Ok(Some(word.to_string(rt.alloc())?)),
-        None => posix_locale(rt),
-    }
-}
-
-/// The locale that is asked for: the one that a word names, else that of the environment. `None` is the root's order.
-///
-/// # Errors
-///
-/// Those of `asked_word` and `locale_of_word`.
-pub fn asked_locale<R: Env + AllocGlobal>(
-    rt: &R,
-    tag: Option<&str>,
-) -> Result<Option<AskedLocale>, ProgramError> {
-    let Some(word) = asked_word(rt, tag)? else {
-        return Ok(None);
-    };
-    locale_of_word(rt.alloc(), word.as_str())
 }

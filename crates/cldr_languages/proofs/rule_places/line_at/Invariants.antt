@@ -1,7 +1,7 @@
 use Rattle.std.proofs.Common.{length}
 use denote.Text.{Utf8}
 use denote.Shadow.{shadow}
-use Rattle.cldr_collators.proofs.rule_places.line_at.Given as goal
+use Rattle.cldr_languages.proofs.rule_places.line_at.Given as goal
 
 -- what a loop changes is text
 abbrev pub invariant-seeking : goal.invariant-seeking

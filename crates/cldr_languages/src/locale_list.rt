@@ -1,8 +1,8 @@
 //! The locales that there are collations of, and their types.
 
+use crate::language_error::{LanguageError, unread};
 use crate::needed_files::add_files;
 use icu_cldr_files::{Collation, LocaleFile, default_type_of, parent_of};
-use program_files::{ProgramError, joined, refused_by_system};
 use std::alloc::{AllocError, Global};
 use std::fs;
 use std::rt::Files;
@@ -11,16 +11,16 @@ use std::rt::Files;
 fn locales_in<R: Files + AllocGlobal + Clone + Drop>(
     rt: &R,
     folder: &str,
-) -> Result<Vec<String>, ProgramError> {
+) -> Result<Vec<String>, LanguageError> {
     let entries = match fs::read_dir(rt, folder) {
         Ok(entries) => entries,
-        Err(e) => return Err(refused_by_system(rt.alloc(), folder, &e)),
+        Err(e) => return Err(unread(rt.alloc(), folder, e)),
     };
     let mut locales = Vec::new(rt.alloc());
     for entry in entries {
         let entry = match entry {
             Ok(entry) => entry,
-            Err(e) => return Err(refused_by_system(rt.alloc(), folder, &e)),
+            Err(e) => return Err(unread(rt.alloc(), folder, e)),
         };
         if let Some(locale) = entry.file_name().strip_suffix(".xml") {
             let locale = locale.to_string(rt.alloc())?;
@@ -112,6 +112,22 @@ fn push_tag(text: &mut String, locale: &str) -> Result<(), AllocError> {
     Ok(())
 }
 
+/// The types of a locale, as tags name them, with spaces between, its default type first.
+pub(crate) fn listed_types(
+    alloc: Global,
+    files: &[LocaleFile],
+    locale: &str,
+) -> Result<String, AllocError> {
+    let mut text = String::new(alloc);
+    for collation_type in types_of(alloc, files, locale)? {
+        if !text.is_empty() {
+            text.push(' ')?;
+        }
+        text.push_str(keyword_of(collation_type))?;
+    }
+    Ok(text)
+}
+
 /// Pushes the line of a locale: its tag, a tab, and its types with spaces between.
 fn push_line(
     alloc: Global,
@@ -119,13 +135,10 @@ fn push_line(
     locale: &str,
     text: &mut String,
 ) -> Result<(), AllocError> {
+    let types = listed_types(alloc, files, locale)?;
     push_tag(text, locale)?;
-    let mut separator = '\t';
-    for collation_type in types_of(alloc, files, locale)? {
-        text.push(separator)?;
-        text.push_str(keyword_of(collation_type))?;
-        separator = ' ';
-    }
+    text.push('\t')?;
+    text.push_str(types.as_str())?;
     text.push('\n')?;
     Ok(())
 }
@@ -135,12 +148,12 @@ fn push_line(
 ///
 /// # Errors
 ///
-/// Fails where an allocation does, or with a line that names a file or a folder.
+/// Fails where an allocation does, or with the file or the folder that isn't read.
 pub fn locale_lines<R: Files + AllocGlobal + Clone + Drop>(
     rt: &R,
     folder: &str,
-) -> Result<String, ProgramError> {
-    let place = joined(rt.alloc(), folder, "/common/collation")?;
+) -> Result<String, LanguageError> {
+    let place = format!(in rt.alloc(); "{folder}/common/collation")?;
     let mut text = String::new(rt.alloc());
     let mut files = Vec::new(rt.alloc());
     for locale in locales_in(rt, place.as_str())? {

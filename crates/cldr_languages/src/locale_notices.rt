@@ -1,10 +1,12 @@
 //! What is said of a locale whose order isn't exactly what its tag asks for, with what to write instead.
 
 use crate::asked_locale::AskedLocale;
-use crate::needed_files::files_of_request;
+use crate::language_error::LanguageError;
+use crate::locale_list::listed_types;
+use crate::needed_files::add_files_of_request;
+use icu_cldr_files::LocaleFile;
 use icu_cldr_locales::resolution::{LocaleData, canonical_parts, tag_parts};
 use icu_cldr_locales::{SubtagKind, in_case_of};
-use program_files::ProgramError;
 use std::alloc::{AllocError, Global};
 use std::rt::Files;
 
@@ -86,12 +88,21 @@ fn misplaced_type(
     format!(in alloc; "locale {word}: {name} is a type; write {language}-u-co-{name}")
 }
 
-/// What is said of a type that isn't there.
-fn missing_type(alloc: Global, asked: &AskedLocale, name: &str) -> Result<String, AllocError> {
+/// What is said of a type that isn't there, with those of the file in which it was looked for.
+fn missing_type(
+    alloc: Global,
+    asked: &AskedLocale,
+    files: &[LocaleFile],
+    name: &str,
+) -> Result<String, AllocError> {
     let word = asked.word.as_str();
-    format!(in alloc;
-        "locale {word}: no collation of the type {name}; --list-locales says which there are"
-    )
+    match asked.request.resolution(files).found {
+        Some(found) => {
+            let types = listed_types(alloc, files, found.file.locale.as_str())?;
+            format!(in alloc; "locale {word}: no collation of the type {name}; there are {types}")
+        }
+        None => format!(in alloc; "locale {word}: no collation of the type {name}"),
+    }
 }
 
 /// What is said of the type that a tag asks for, if it isn't there.
@@ -99,27 +110,29 @@ fn notice_of_type<R: Files + AllocGlobal>(
     rt: &R,
     folder: &str,
     asked: &AskedLocale,
-) -> Result<Option<String>, ProgramError> {
+) -> Result<Option<String>, LanguageError> {
     let Some(name) = asked.tag.collation_type(rt.alloc())? else {
         return Ok(None);
     };
-    let files = files_of_request(rt, folder, &asked.request)?;
+    let mut files = Vec::new(rt.alloc());
+    add_files_of_request(rt, folder, &asked.request, &mut files)?;
     if asked.request.resolution(files.as_slice()).is_exact {
         return Ok(None);
     }
-    Ok(Some(missing_type(rt.alloc(), asked, name.as_str())?))
+    let said = missing_type(rt.alloc(), asked, files.as_slice(), name.as_str())?;
+    Ok(Some(said))
 }
 
 /// What is said of a locale whose order isn't exactly what its tag asks for, by the files of a folder of CLDR's data.
 ///
 /// # Errors
 ///
-/// Fails where an allocation does, or with a line that says what is wrong with a file.
+/// Fails where an allocation does, or with what is wrong with a file.
 pub fn locale_notice<R: Files + AllocGlobal>(
     rt: &R,
     folder: &str,
     asked: &AskedLocale,
-) -> Result<Option<String>, ProgramError> {
+) -> Result<Option<String>, LanguageError> {
     let lists = LocaleData::compiled_in(rt.alloc())?;
     if is_unknown_language(asked) {
         return Ok(Some(unknown_language(rt.alloc(), &lists, asked)?));

@@ -1,47 +1,29 @@
 //! The files of collations, as far as they are needed.
 
+use crate::language_error::{LanguageError, data_error, no_data};
+use crate::text_files::text_if_there;
 use icu_cldr_files::{CollationFile, LdmlError, LocaleFile, collation_of, parent_of};
 use icu_cldr_locales::locale_rules::{CollationName, import_tags};
 use icu_cldr_locales::resolution::TagRequest;
 use icu_cldr_locales::{LanguageTag, TagError};
-use program_files::{ProgramError, joined, refused, refused_by, refused_by_system};
 use std::alloc::{AllocError, Global};
-use std::fs;
-use std::io::{ErrorKind, Read};
 use std::rt::Files;
 
 /// How many texts of rules are read for what they import. `Rules::resolve` allows as many imports.
 const IMPORTS: u32 = 256;
 
-/// The text of a file, if the file is there.
-fn text_of_file<R: Files + AllocGlobal>(
-    rt: &R,
-    file: &str,
-) -> Result<Option<String>, ProgramError> {
-    let mut opened = match fs::open(rt, file) {
-        Ok(opened) => opened,
-        Err(e) if e.kind() == ErrorKind::NotFound => return Ok(None),
-        Err(e) => return Err(refused_by_system(rt.alloc(), file, &e)),
-    };
-    let mut text = String::new(rt.alloc());
-    match opened.read_to_string(&mut text) {
-        Ok(_) => Ok(Some(text)),
-        Err(e) => Err(refused_by_system(rt.alloc(), file, &e)),
-    }
-}
-
 /// What a file of collations says, if the file is there.
 fn collations_in<R: Files + AllocGlobal>(
     rt: &R,
     file: &str,
-) -> Result<Option<CollationFile>, ProgramError> {
-    let Some(text) = text_of_file(rt, file)? else {
+) -> Result<Option<CollationFile>, LanguageError> {
+    let Some(text) = text_if_there(rt, file)? else {
         return Ok(None);
     };
     match CollationFile::parse(rt.alloc(), text.as_str()) {
         Ok(found) => Ok(Some(found)),
-        Err(LdmlError::NoMemory) => Err(ProgramError::NoMemory),
-        Err(error) => Err(refused_by(rt.alloc(), file, &error)),
+        Err(LdmlError::NoMemory) => Err(LanguageError::NoMemory),
+        Err(error) => Err(data_error(rt.alloc(), file, &error)),
     }
 }
 
@@ -51,10 +33,7 @@ pub(crate) fn collation_file(
     folder: &str,
     locale: &str,
 ) -> Result<String, AllocError> {
-    let mut file = joined(alloc, folder, "/common/collation/")?;
-    file.push_str(locale)?;
-    file.push_str(".xml")?;
-    Ok(file)
+    format!(in alloc; "{folder}/common/collation/{locale}.xml")
 }
 
 /// Whether the file of a locale was read.
@@ -73,7 +52,7 @@ fn add_file<R: Files + AllocGlobal>(
     folder: &str,
     locale: &str,
     files: &mut Vec<LocaleFile>,
-) -> Result<(), ProgramError> {
+) -> Result<(), LanguageError> {
     if has_file(files.as_slice(), locale) {
         return Ok(());
     }
@@ -84,11 +63,7 @@ fn add_file<R: Files + AllocGlobal>(
             files.push(LocaleFile { locale, file })?;
             Ok(())
         }
-        None if locale == "root" => Err(refused(
-            rt.alloc(),
-            path.as_str(),
-            "No such file or directory; Debian's package unicode-cldr-core has it, and --cldr says where it is",
-        )),
+        None if locale == "root" => Err(no_data(rt.alloc(), path.as_str())),
         None => Ok(()),
     }
 }
@@ -99,7 +74,7 @@ pub(crate) fn add_files<R: Files + AllocGlobal>(
     folder: &str,
     locale: &str,
     files: &mut Vec<LocaleFile>,
-) -> Result<(), ProgramError> {
+) -> Result<(), LanguageError> {
     let mut at = Some(locale);
     for _ in 0..=locale.len() + 2 {
         let Some(name) = at else {
@@ -112,10 +87,10 @@ pub(crate) fn add_files<R: Files + AllocGlobal>(
 }
 
 /// The collation that a tag of an import names, where it is one.
-fn imported_name(alloc: Global, tag: &str) -> Result<Option<CollationName>, ProgramError> {
+fn imported_name(alloc: Global, tag: &str) -> Result<Option<CollationName>, LanguageError> {
     match LanguageTag::parse(alloc, tag) {
         Ok(tag) => Ok(Some(CollationName::of_tag(alloc, &tag)?)),
-        Err(TagError::NoMemory) => Err(ProgramError::NoMemory),
+        Err(TagError::NoMemory) => Err(LanguageError::NoMemory),
         Err(_) => Ok(None),
     }
 }
@@ -125,7 +100,7 @@ fn push_imports(
     alloc: Global,
     rules: &str,
     names: &mut Vec<CollationName>,
-) -> Result<(), ProgramError> {
+) -> Result<(), LanguageError> {
     for tag in import_tags(alloc, rules)? {
         if let Some(name) = imported_name(alloc, tag)? {
             names.push(name)?;
@@ -134,37 +109,35 @@ fn push_imports(
     Ok(())
 }
 
-/// The files of the names that a tag asks for, as far as they are there.
-pub(crate) fn files_of_request<R: Files + AllocGlobal>(
+/// Reads the files of the names that a tag asks for, as far as they are there.
+pub(crate) fn add_files_of_request<R: Files + AllocGlobal>(
     rt: &R,
     folder: &str,
     request: &TagRequest,
-) -> Result<Vec<LocaleFile>, ProgramError> {
-    let mut files = Vec::new(rt.alloc());
+    files: &mut Vec<LocaleFile>,
+) -> Result<(), LanguageError> {
     for name in &request.names {
-        add_file(rt, folder, name.as_str(), &mut files)?;
+        add_file(rt, folder, name.as_str(), files)?;
     }
-    Ok(files)
+    Ok(())
 }
 
-/// The files of the names that a tag asks for, and those that the rules of its collation import.
-pub(crate) fn files_of_collation<R: Files + AllocGlobal>(
+/// Reads the files of what a text of rules imports, and of what that imports.
+pub(crate) fn add_files_of_imports<R: Files + AllocGlobal>(
     rt: &R,
     folder: &str,
-    request: &TagRequest,
-) -> Result<Vec<LocaleFile>, ProgramError> {
-    let mut files = files_of_request(rt, folder, request)?;
+    rules: &str,
+    files: &mut Vec<LocaleFile>,
+) -> Result<(), LanguageError> {
     let mut names = Vec::new(rt.alloc());
-    if let Some(found) = request.resolution(files.as_slice()).found {
-        push_imports(rt.alloc(), found.collation.rules.as_str(), &mut names)?;
-    }
+    push_imports(rt.alloc(), rules, &mut names)?;
     for _ in 0..IMPORTS {
         let Some(imported) = names.pop() else {
             break;
         };
-        add_imported(rt, folder, &imported, &mut files, &mut names)?;
+        add_imported(rt, folder, &imported, files, &mut names)?;
     }
-    Ok(files)
+    Ok(())
 }
 
 /// Reads the files of an imported name, and pushes the names that its rules import.
@@ -174,7 +147,7 @@ fn add_imported<R: Files + AllocGlobal>(
     imported: &CollationName,
     files: &mut Vec<LocaleFile>,
     names: &mut Vec<CollationName>,
-) -> Result<(), ProgramError> {
+) -> Result<(), LanguageError> {
     let locale = imported.locale.as_str();
     add_files(rt, folder, locale, files)?;
     match collation_of(files.as_slice(), locale, imported.type_or_standard()) {
