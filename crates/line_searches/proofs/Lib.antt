@@ -1,1 +1,2 @@
 pub mod JoinedMatchLemmas
+pub mod WantedLineLemmas

@@ -1,5 +1,5 @@
 -- How lines that are wanted are printed.
-use Rattle.std.specs.Prelude.{ℕ, ◌+◌, nat_lt, Bool, List, [], ◌∷◌, ◌++◌, if◌then◌else◌, filter, length}
+use Rattle.std.specs.Prelude.{ℕ, ◌+◌, ◌-◌, ◌==◌, nat_lt, min, Bool, List, [], ◌∷◌, ◌++◌, if◌then◌else◌, filter, length}
 use Rattle.std.specs.Fmt.{decimal}
 use Rattle.icu_search_places.specs.LeastMatches.{Span}
 use Rattle.icu_search_places.specs.Searches.{Search}
@@ -45,17 +45,29 @@ shown_if_wanted r number line matches = if is_line_wanted r.wanted matches then 
 
 -- whether a request wants a line
 abbrev pub wants : SearchRequest → List Search → List ℕ → Bool
-wants r s line = is_line_wanted r.wanted (found_in r.boundary s line)
+wants r s line = is_line_wanted r.wanted (found_in r.kind s line)
 
--- the lines that are wanted, as they are printed, where the first has this number
-abbrev pub wanted_from : SearchRequest → List Search → ℕ → List (List ℕ) → List ℕ
-wanted_from r s number [] = []
-wanted_from r s number (line ∷ lines) =
-    shown_if_wanted r number line (found_in r.boundary s line) ++ wanted_from r s (number + 1) lines
+-- a line as it is printed, if it is wanted and so many are, at most, from it on
+abbrev pub shown_next : SearchRequest → List Search → ℕ → ℕ → List ℕ → List ℕ
+shown_next r s left number line = if left == 0 then [] else shown_if_wanted r number line (found_in r.kind s line)
 
--- how many lines are wanted
+-- how many are wanted after it
+abbrev pub wanted_left : SearchRequest → List Search → ℕ → List ℕ → ℕ
+wanted_left r s left line = if wants r s line then left - 1 else left
+
+-- the first lines that are wanted, at most so many, as they are printed, if the first line of all has this number
+abbrev pub wanted_from : SearchRequest → List Search → ℕ → ℕ → List (List ℕ) → List ℕ
+wanted_from r s left number [] = []
+wanted_from r s left number (line ∷ lines) =
+    shown_next r s left number line ++ wanted_from r s (wanted_left r s left line) (number + 1) lines
+
+-- all of them
+abbrev pub wanted_lines : SearchRequest → List Search → List (List ℕ) → List ℕ
+wanted_lines r s lines = wanted_from r s r.at_most 1 lines
+
+-- how many they are
 abbrev pub wanted_count : SearchRequest → List Search → List (List ℕ) → ℕ
-wanted_count r s lines = length (filter (wants r s) lines)
+wanted_count r s lines = min r.at_most (length (filter (wants r s) lines))
 
 -- a number behind what stands before it, with a line feed
 abbrev pub count_text : List ℕ → ℕ → List ℕ

@@ -13,5 +13,5 @@ pub mod wanted_lines;
 pub use input_names::{name_and, prefix_of, shown_name};
 pub use line_matches::{LineMatches, matches_of_line};
 pub use printed_searches::{print_count, print_wanted};
-pub use search_request::{SearchRequest, Shown, Wanted};
+pub use search_request::{MatchKind, SearchRequest, Shown, Wanted};
 pub use wanted_lines::{WantedText, count_wanted, wanted_text};

@@ -6,10 +6,11 @@ ghost use Rattle.icu_search_places.specs.Searches.{found};
 ghost use Rattle.icu_search.specs.SearchedTexts.{offsets_searched, searched_in, text_searched};
 ghost use Rattle.icu_search.specs.Searchers.{search_of};
 ghost use Rattle.icu_search.specs.TextOffsets.{match_in_units};
+ghost use Rattle.line_searches.specs.declared.search_request.MatchKind.TheVariants.{Parts, Line};
 ghost use Rattle.line_searches.specs.LineSearches.{are_some, decoded_line, found_by, found_in, found_more, is_line_wanted};
 
 use crate::joined_matches::joined_matches;
-use crate::search_request::Wanted;
+use crate::search_request::{MatchKind, Wanted};
 use icu_search::{Boundary, Match, SearchedText, Searcher};
 use icu_search_places::indexed_text::utf8_copy;
 use icu_text_encodings::Utf8Text;
@@ -48,54 +49,86 @@ fn all_matches(alloc: Global, text: &SearchedText<'_, '_>) -> Result<Vec<Match>,
     Ok(list)
 }
 
-/// The matches that are found in a text between boundaries of a kind, by its bytes.
-fn matches_of_text(
+/// The parts of a text between boundaries of a kind that match, by its bytes.
+fn matching_parts(
     alloc: Global,
     searcher: &Searcher<'_>,
     boundary: Boundary,
     text: &str,
 ) -> Result<Vec<Match>, AllocError>
     ensures { let t = chars text.now in IfOk result (λ list. list.items
-        ≡ found_by boundary (search_of searcher.now) t text.now) }
+        ≡ found_by (Parts boundary) (search_of searcher.now) t text.now) }
 {
     let searched = searcher.read_by(text, boundary)?;
     let list = all_matches(alloc, &searched)?;
     Ok(list)
 }
 
-/// The matches that are found in a text by some patterns, between boundaries of a kind, by its bytes.
-fn matches_of_patterns(
+/// The whole of a text, if it matches.
+fn matching_line(
     alloc: Global,
-    searchers: &[Searcher<'_>],
-    boundary: Boundary,
+    searcher: &Searcher<'_>,
     text: &str,
 ) -> Result<Vec<Match>, AllocError>
     ensures { let t = chars text.now in IfOk result (λ list. list.items
-        ≡ found_more boundary t text.now [] (map search_of searchers.now)) }
+        ≡ found_by Line (search_of searcher.now) t text.now) }
+{
+    let mut list = Vec::new(alloc);
+    if let Some(whole) = searcher.whole_match(text) {
+        list.push(whole)?;
+    }
+    Ok(list)
+}
+
+/// The matches that are found in a text, by its bytes.
+fn matches_of_text(
+    alloc: Global,
+    searcher: &Searcher<'_>,
+    kind: MatchKind,
+    text: &str,
+) -> Result<Vec<Match>, AllocError>
+    ensures { let t = chars text.now in IfOk result (λ list. list.items
+        ≡ found_by kind (search_of searcher.now) t text.now) }
+{
+    match kind {
+        MatchKind::Parts(boundary) => matching_parts(alloc, searcher, boundary, text),
+        MatchKind::Line => matching_line(alloc, searcher, text),
+    }
+}
+
+/// The matches that are found in a text by some patterns, by its bytes.
+fn matches_of_patterns(
+    alloc: Global,
+    searchers: &[Searcher<'_>],
+    kind: MatchKind,
+    text: &str,
+) -> Result<Vec<Match>, AllocError>
+    ensures { let t = chars text.now in IfOk result (λ list. list.items
+        ≡ found_more kind t text.now [] (map search_of searchers.now)) }
 {
     let mut all = Vec::new(alloc);
     for searcher in searchers {
-        let found = matches_of_text(alloc, searcher, boundary, text)?;
+        let found = matches_of_text(alloc, searcher, kind, text)?;
         all = joined_matches(alloc, all.as_slice(), found.as_slice())?;
     }
     Ok(all)
 }
 
-/// The matches that are found in a line by some patterns, between boundaries of a kind: of those that overlap the one
+/// The matches that are found in a line by some patterns: of those that overlap the one
 /// that begins first, or of those that begin together the longest. A line is bytes in UTF-8 that may be damaged. Fails
 /// only where an allocation does.
 pub fn matches_of_line(
     alloc: Global,
     searchers: &[Searcher<'_>],
-    boundary: Boundary,
+    kind: MatchKind,
     line: &[u8],
 ) -> Result<LineMatches, AllocError>
     ensures decoded { IfOk result (λ m. string_bytes m.decoded ≡ decoded_line line.now) }
     ensures matches { IfOk result (λ m. m.matches.items
-        ≡ found_in boundary (map search_of searchers.now) line.now) }
+        ≡ found_in kind (map search_of searchers.now) line.now) }
 {
     let decoded = decoded_line(alloc, line)?;
-    let matches = matches_of_patterns(alloc, searchers, boundary, decoded.as_str())?;
+    let matches = matches_of_patterns(alloc, searchers, kind, decoded.as_str())?;
     Ok(LineMatches { decoded, matches })
 }
 

@@ -5,7 +5,7 @@ ghost use Rattle.std.specs.Io.KnownBytes.{Appends};
 ghost use Rattle.icu_search.specs.Searchers.{search_of};
 ghost use Rattle.line_sorts.specs.InputLines.{lines_by};
 ghost use Rattle.line_commands.specs.Printed.{StopsPrinting};
-ghost use Rattle.line_searches.specs.WantedLines.{count_text, wanted_count, wanted_from};
+ghost use Rattle.line_searches.specs.WantedLines.{count_text, wanted_count, wanted_lines};
 
 use crate::search_request::SearchRequest;
 use crate::wanted_lines::{count_wanted, wanted_text};
@@ -29,13 +29,13 @@ pub fn print_wanted<W: Write>(
     request: SearchRequest<'_>,
     output: &mut W,
 ) -> Result<bool, ProgramError>
-    ensures ok { let text = wanted_from request.entry (map search_of searchers.now) 1
+    ensures ok { let text = wanted_lines request.entry (map search_of searchers.now)
         (lines_by request.entry.separator input.now) in
         OnOk result (Appends (W.contents output.old) (W.contents output.new) text) }
     ensures some { let count = wanted_count request.entry (map search_of searchers.now)
         (lines_by request.entry.separator input.now) in
         IfOk result (λ b. b ≡ nat_lt 0 count) }
-    ensures stops { let text = wanted_from request.entry (map search_of searchers.now) 1
+    ensures stops { let text = wanted_lines request.entry (map search_of searchers.now)
         (lines_by request.entry.separator input.now) in
         IfErr result (StopsPrinting (λ t. t ≡ text)
         (W.contents output.old) (W.contents output.new)) }

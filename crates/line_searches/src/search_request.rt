@@ -11,6 +11,15 @@ pub enum Wanted {
     WithoutMatch,
 }
 
+/// What of a line may be a match.
+#[derive(Clone, Copy, PartialEq, Eq)]
+pub enum MatchKind {
+    /// A part between boundaries of a kind.
+    Parts(Boundary),
+    /// The whole line.
+    Line,
+}
+
 /// What is printed of a line that is wanted.
 #[derive(Clone, Copy, PartialEq, Eq)]
 pub enum Shown {
@@ -29,8 +38,8 @@ pub enum Shown {
 pub struct SearchRequest<'a> {
     /// Which lines are wanted.
     pub wanted: Wanted,
-    /// Where matches may begin and end.
-    pub boundary: Boundary,
+    /// What of a line may be a match.
+    pub kind: MatchKind,
     /// What is printed of each.
     pub shown: Shown,
     /// What stands before each, as the name of its file.
@@ -39,4 +48,6 @@ pub struct SearchRequest<'a> {
     pub is_numbered: bool,
     /// The byte behind each line.
     pub separator: u8,
+    /// How many lines are wanted of an input at most. No line after them is searched.
+    pub at_most: usize,
 }

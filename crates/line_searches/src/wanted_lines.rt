@@ -5,7 +5,7 @@ ghost use Rattle.icu_search.specs.Searchers.{search_of};
 ghost use Rattle.line_sorts.specs.InputLines.{lines_by};
 ghost use Rattle.line_searches.specs.LineSearches.{decoded_line, found_in};
 ghost use Rattle.line_searches.specs.ShownMatches.{coloured_from};
-ghost use Rattle.line_searches.specs.WantedLines.{printed_line, shown_if_wanted, shown_with, wanted_count, wanted_from, wants};
+ghost use Rattle.line_searches.specs.WantedLines.{printed_line, shown_if_wanted, shown_next, shown_with, wanted_count, wanted_left, wanted_lines, wants};
 
 use crate::line_matches::{is_line_wanted, matches_of_line};
 use crate::search_request::{SearchRequest, Shown};
@@ -76,11 +76,11 @@ fn push_wanted(
 ) -> Result<bool, AllocError>
     ensures text { OnOk result (text.new.items ≡ text.old.items
         ++ shown_if_wanted request.entry number line.now
-        (found_in request.entry.boundary (map search_of searchers.now) line.now)) }
+        (found_in request.entry.kind (map search_of searchers.now) line.now)) }
     ensures wanted { IfOk result (λ b. b
         ≡ wants request.entry (map search_of searchers.now) line.now) }
 {
-    let found = matches_of_line(alloc, searchers, request.boundary, line)?;
+    let found = matches_of_line(alloc, searchers, request.kind, line)?;
     if !is_line_wanted(request.wanted, found.matches.as_slice()) {
         return Ok(false);
     }
@@ -96,7 +96,32 @@ fn push_wanted(
     Ok(true)
 }
 
-/// The lines of an input that are wanted, as they are printed, in their order.
+/// Appends a line as it is printed, if it is wanted and some are left to be wanted, and returns how many are left then.
+fn push_if_left(
+    alloc: Global,
+    searchers: &[Searcher<'_>],
+    text: &mut Vec<u8>,
+    request: SearchRequest<'_>,
+    left: usize,
+    number: usize,
+    line: &[u8],
+) -> Result<usize, AllocError>
+    ensures text { OnOk result (text.new.items ≡ text.old.items
+        ++ shown_next request.entry (map search_of searchers.now) left number line.now) }
+    ensures left { IfOk result (λ n. n
+        ≡ wanted_left request.entry (map search_of searchers.now) left line.now) }
+{
+    if left == 0 {
+        return Ok(0);
+    }
+    if push_wanted(alloc, searchers, text, request, number, line)? {
+        Ok(left - 1)
+    } else {
+        Ok(left)
+    }
+}
+
+/// The first lines of an input that are wanted, at most as many as the request says, as they are printed.
 ///
 /// # Errors
 ///
@@ -107,23 +132,23 @@ pub fn wanted_text(
     bytes: &[u8],
     request: SearchRequest<'_>,
 ) -> Result<WantedText, AllocError>
-    ensures text { IfOk result (λ wanted. wanted.text.items ≡ wanted_from request.entry
-        (map search_of searchers.now) 1 (lines_by request.entry.separator bytes.now)) }
+    ensures text { IfOk result (λ wanted. wanted.text.items ≡ wanted_lines request.entry
+        (map search_of searchers.now) (lines_by request.entry.separator bytes.now)) }
     ensures count { IfOk result (λ wanted. wanted.count ≡ wanted_count request.entry
         (map search_of searchers.now) (lines_by request.entry.separator bytes.now)) }
 {
     let lines = lines_by(alloc, bytes, request.separator)?;
     let mut text = Vec::new(alloc);
     let mut number = 1usize;
-    let mut count = 0usize;
+    let mut left = request.at_most;
     for line in lines.as_slice() {
-        let is_wanted = push_wanted(alloc, searchers, &mut text, request, number, line)?;
+        left = push_if_left(alloc, searchers, &mut text, request, left, number, line)?;
         number += 1;
-        if is_wanted {
-            count += 1;
-        }
     }
-    Ok(WantedText { text, count })
+    Ok(WantedText {
+        text,
+        count: request.at_most - left,
+    })
 }
 
 /// Whether a line is wanted.
@@ -135,11 +160,11 @@ fn wants(
 ) -> Result<bool, AllocError>
     ensures { IfOk result (λ b. b ≡ wants request.entry (map search_of searchers.now) line.now) }
 {
-    let found = matches_of_line(alloc, searchers, request.boundary, line)?;
+    let found = matches_of_line(alloc, searchers, request.kind, line)?;
     Ok(is_line_wanted(request.wanted, found.matches.as_slice()))
 }
 
-/// How many lines of an input are wanted.
+/// How many lines of an input are wanted, at most as many as the request says.
 ///
 /// # Errors
 ///
@@ -156,7 +181,7 @@ pub fn count_wanted(
     let lines = lines_by(alloc, bytes, request.separator)?;
     let mut count = 0usize;
     for line in lines.as_slice() {
-        if wants(alloc, searchers, request, line)? {
+        if count < request.at_most && wants(alloc, searchers, request, line)? {
             count += 1;
         }
     }
