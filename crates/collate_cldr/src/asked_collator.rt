@@ -6,55 +6,82 @@ ghost use Rattle.icu_collator.specs.Collators.{tables_kept};
 
 use crate::reports::say;
 use clap::ArgMatches;
-use cldr_collators::asked_locale::{AskedLocale, asked_word, locale_of_word};
-use cldr_collators::compiled_tables::file_collator;
-use cldr_collators::made_collator::{CollatorRequest, made_collator, placed_locale};
-use cldr_collators::{
-    Chosen, SettingWords, cldr_folder, is_unknown_language, locale_notice, root_file,
-    strength_by_word,
+use cldr_collators::Languages;
+use cldr_collators::compiled_tables::TablesRequest;
+use cldr_languages::{
+    AskedLocale, LanguageError, LanguageOptions, OwnRules, is_unknown_language, locale_notice,
+    locale_of_word,
 };
 use icu_collator::Collator;
-use icu_options::Strength;
 use program_files::ProgramError;
+use program_words::{
+    SettingWords, asked_word, cldr_folder, options_by_words, root_file, rules_of_word,
+    said_of_language,
+};
 use std::io::Write;
 use std::rt::{Env, Files};
 
-/// The strength that an option names, if one does: else two levels where an option says that case doesn't count.
-fn strength_of(matches: &ArgMatches<'_>) -> Option<Strength> {
+/// The word for a strength, if an option has one: else that of two levels if an option says that case doesn't count.
+fn strength_asked<'a>(matches: &ArgMatches<'a>) -> Option<&'a str> {
     match matches.get_str("strength") {
-        Some(word) => strength_by_word(word),
-        None if matches.get_flag("ignore-case") => Some(Strength::Secondary),
-        None => None,
+        None if matches.get_flag("ignore-case") => Some("secondary"),
+        word => word,
     }
 }
 
 /// The settings that options choose.
-fn chosen_by(matches: &ArgMatches<'_>) -> Chosen {
-    Chosen::by_words(SettingWords {
-        numeric: matches.get_flag("numeric"),
+fn options_of(matches: &ArgMatches<'_>) -> LanguageOptions {
+    options_by_words(SettingWords {
+        strength: strength_asked(matches),
+        numeric: matches.get_str("numeric"),
         alternate: matches.get_str("alternate"),
-        case_level: matches.get_flag("case-level"),
+        case_level: matches.get_str("case-level"),
         max_variable: matches.get_str("max-variable"),
         case_first: matches.get_str("case-first"),
     })
 }
 
-/// The collator that options ask for, and the environment where no option names a locale or the data.
+/// The rules of one's own that an option asks for.
+fn own_rules<R: Files + AllocGlobal>(
+    rt: &R,
+    matches: &ArgMatches<'_>,
+) -> Result<Option<OwnRules>, ProgramError> {
+    match matches.get_str("rules") {
+        Some(word) => Ok(Some(rules_of_word(rt, word)?)),
+        None => Ok(None),
+    }
+}
+
+/// The word for a locale that options have, or else the environment; `C` if none has one.
+fn locale_word<R: Env + AllocGlobal>(
+    rt: &R,
+    matches: &ArgMatches<'_>,
+) -> Result<String, ProgramError> {
+    match asked_word(rt, matches.get_str("locale"))? {
+        Some(word) => Ok(word),
+        None => Ok("C".to_string(rt.alloc())?),
+    }
+}
+
+/// The tables that options ask for, and the environment if no option names a locale or the data.
 ///
 /// # Errors
 ///
-/// Fails where an allocation does, or with a line that says what is wrong with the locale, or with a variable.
-pub(crate) fn collator_request<R: Env + AllocGlobal>(
+/// Fails where an allocation does, or with a line that says what is wrong with the locale, rules, or a variable.
+pub(crate) fn tables_request<R: Files + Env + AllocGlobal>(
     rt: &R,
     matches: &ArgMatches<'_>,
-) -> Result<CollatorRequest, ProgramError> {
-    let locale = placed_locale(rt, matches.get_str("locale"), matches.get_str("cldr"))?;
-    let root = root_file(rt, matches.get_str("root"), matches.get_str("cldr"))?;
-    Ok(CollatorRequest {
-        root,
+) -> Result<TablesRequest, ProgramError> {
+    let word = locale_word(rt, matches)?;
+    let locale = match locale_of_word(rt.alloc(), word.as_str()) {
+        Ok(locale) => locale,
+        Err(error) => return Err(said_of_language(rt.alloc(), error)),
+    };
+    Ok(TablesRequest {
+        root: root_file(rt, matches.get_str("root"), matches.get_str("cldr"))?,
+        folder: cldr_folder(rt, matches.get_str("cldr"))?,
         locale,
-        chosen: chosen_by(matches),
-        strength: strength_of(matches),
+        own: own_rules(rt, matches)?,
     })
 }
 
@@ -67,13 +94,18 @@ fn says_inexact<R: Files + Env + AllocGlobal, E: Write>(
     asked: &AskedLocale,
     errors: &mut E,
 ) -> Result<bool, ProgramError> {
+    let is_wrong = command == "compile" && is_unknown_language(asked);
+    if matches.get_flag("quiet") && !is_wrong {
+        return Ok(false);
+    }
     let folder = cldr_folder(rt, matches.get_str("cldr"))?;
-    match locale_notice(rt, folder.as_str(), asked)? {
-        Some(said) => {
+    match locale_notice(rt, folder.as_str(), asked) {
+        Ok(Some(said)) => {
             say(said.as_bytes(), errors);
-            Ok(command == "compile" && is_unknown_language(asked))
+            Ok(is_wrong)
         }
-        None => Ok(false),
+        Ok(None) => Ok(false),
+        Err(error) => Err(said_of_language(rt.alloc(), error)),
     }
 }
 
@@ -88,17 +120,43 @@ pub(crate) fn says_wrong_locale<R: Files + Env + AllocGlobal, E: Write>(
     if command != "compile" && matches.get_str("tables").is_some() {
         return Ok(false);
     }
-    let Some(word) = asked_word(rt, matches.get_str("locale"))? else {
-        return Ok(false);
-    };
+    let word = locale_word(rt, matches)?;
     match locale_of_word(rt.alloc(), word.as_str()) {
         Ok(Some(asked)) => says_inexact(rt, command, matches, &asked, errors),
         Ok(None) => Ok(false),
-        Err(ProgramError::Refused(said)) => {
+        Err(LanguageError::NoMemory) => Err(ProgramError::NoMemory),
+        Err(error) => {
+            let said = error.to_string(rt.alloc())?;
             say(said.as_bytes(), errors);
             Ok(true)
         }
-        Err(error) => Err(error),
+    }
+}
+
+/// Where the collators come from that words ask for: a table file, or a folder of CLDR's data.
+fn languages_by_words<R: Files + Env + AllocGlobal>(
+    rt: &R,
+    matches: &ArgMatches<'_>,
+) -> Result<Languages, ProgramError> {
+    if let Some(file) = matches.get_str("tables") {
+        return match Languages::of_tables(rt, file) {
+            Ok(languages) => Ok(languages),
+            Err(error) => Err(said_of_language(rt.alloc(), error)),
+        };
+    }
+    let root = root_file(rt, matches.get_str("root"), matches.get_str("cldr"))?;
+    let folder = cldr_folder(rt, matches.get_str("cldr"))?;
+    Ok(Languages::in_folder(rt.alloc(), folder.as_str(), root.as_str())?)
+}
+
+/// The word for the language of the collator that words ask for: empty for that of a table file.
+fn language_word<R: Env + AllocGlobal>(
+    rt: &R,
+    matches: &ArgMatches<'_>,
+) -> Result<String, ProgramError> {
+    match matches.get_str("tables") {
+        Some(_) => Ok(String::new(rt.alloc())),
+        None => locale_word(rt, matches),
     }
 }
 
@@ -109,9 +167,16 @@ pub(crate) fn collator_by_words<R: Files + Env + AllocGlobal>(
 ) -> Result<Collator, ProgramError>
     ensures { IfOk result (λ c. IsWellFormedTables (tables_kept c)) }
 {
-    if let Some(file) = matches.get_str("tables") {
-        return file_collator(rt, file, chosen_by(matches), strength_of(matches));
+    let mut languages = languages_by_words(rt, matches)?;
+    let word = language_word(rt, matches)?;
+    let own = own_rules(rt, matches)?;
+    let options = options_of(matches);
+    let found = match &own {
+        Some(rules) => languages.collator_with_rules(rt, word.as_str(), rules, options),
+        None => languages.collator(rt, word.as_str(), options),
+    };
+    match found {
+        Ok(found) => Ok(found.collator),
+        Err(error) => Err(said_of_language(rt.alloc(), error)),
     }
-    let request = collator_request(rt, matches)?;
-    made_collator(rt, &request)
 }

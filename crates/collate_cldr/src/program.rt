@@ -2,14 +2,17 @@
 
 ghost use Rattle.std.specs.Prelude.{◌≤◌, IfOk};
 
-use crate::asked_collator::{collator_by_words, collator_request, says_wrong_locale};
+use crate::asked_collator::{collator_by_words, says_wrong_locale, tables_request};
 use crate::csv_command::{check_csv, sort_csv};
 use crate::line_orders::{check_lines, sort_lines};
 use crate::reports::{DIFFERS, WORDING, report_unless_closed, say};
 use crate::search_command::search;
 use clap::ArgMatches;
-use cldr_collators::compiled_tables::{cldr_version, compiled_tables, said_version};
-use cldr_collators::{cldr_folder, locale_lines, read_file, root_file};
+use clap::error::ErrorKind;
+use cldr_collators::compiled_tables::compiled_tables;
+use cldr_collators::read_file;
+use cldr_languages::data_version::said_version;
+use cldr_languages::{cldr_version, locale_lines};
 use line_commands::csv_sorts::{CsvWords, wrong_csv_words};
 use line_commands::field_sorts::wrong_field_word;
 use line_commands::{print_comparison, print_key, print_keys};
@@ -18,8 +21,8 @@ use program_files::{
     report_failure, text_of_word, write_text,
 };
 use program_words::{
-    CheckWanted, answer_words, character_asked, check_of, files_of, foreign_said, program,
-    separator_of, text_of,
+    CheckWanted, answer_words, character_asked, check_of, cldr_folder, files_of, foreign_said,
+    program, root_file, said_of_language, separator_of, text_of,
 };
 use std::fs::File;
 use std::io::{Read, Write};
@@ -49,34 +52,44 @@ fn print_locales<R: Files + Env + AllocGlobal + Clone + Drop, W: Write>(
     ensures { IfOk result (λ status. status ≤ 3) }
 {
     let folder = cldr_folder(rt, matches.get_str("cldr"))?;
-    let text = locale_lines(rt, folder.as_str())?;
-    print(text.as_str(), output)
+    match locale_lines(rt, folder.as_str()) {
+        Ok(text) => print(text.as_str(), output),
+        Err(error) => Err(said_of_language(rt.alloc(), error)),
+    }
 }
 
 /// The version of CLDR that the data are of, empty where it isn't known, as where another file has the root's.
 fn version_of_data<R: Files + Env + AllocGlobal>(
     rt: &R,
-    matches: &ArgMatches<'_>,
+    root: Option<&str>,
+    cldr: Option<&str>,
 ) -> Result<String, ProgramError> {
-    if matches.get_str("root").is_some() {
+    if root.is_some() {
         return Ok(String::new(rt.alloc()));
     }
-    let folder = cldr_folder(rt, matches.get_str("cldr"))?;
-    cldr_version(rt, folder.as_str())
+    let folder = cldr_folder(rt, cldr)?;
+    match cldr_version(rt, folder.as_str()) {
+        Ok(version) => Ok(version),
+        Err(error) => Err(said_of_language(rt.alloc(), error)),
+    }
 }
 
 /// Prints the versions of the program, of CLDR, and of the root's data.
 fn print_versions<R: Files + Env + AllocGlobal, W: Write>(
     rt: &R,
-    matches: &ArgMatches<'_>,
+    root: Option<&str>,
+    cldr: Option<&str>,
     output: &mut W,
 ) -> Result<u8, ProgramError>
     ensures { IfOk result (λ status. status ≤ 3) }
 {
-    let file = root_file(rt, matches.get_str("root"), matches.get_str("cldr"))?;
-    let root = read_file(rt, file.as_str(), false)?;
-    let unicode = said_version(root.version().unwrap_or(""));
-    let known = version_of_data(rt, matches)?;
+    let file = root_file(rt, root, cldr)?;
+    let data = match read_file(rt, file.as_str(), false) {
+        Ok(data) => data,
+        Err(error) => return Err(said_of_language(rt.alloc(), error)),
+    };
+    let unicode = said_version(data.version().unwrap_or(""));
+    let known = version_of_data(rt, root, cldr)?;
     let cldr = said_version(known.as_str());
     let text = format!(in rt.alloc();
         "collate-cldr {VERSION}\nCLDR {cldr}\nroot collation: Unicode {unicode}, {file}\n"
@@ -94,11 +107,15 @@ fn compile<R: Files<File = File> + RandomSource + Env + AllocGlobal, W: Write, E
     ensures { IfOk result (λ status. status ≤ 3) }
 {
     let file = open_output(rt, text_of(matches, "output"))?;
-    let request = collator_request(rt, matches)?;
-    let cldr = version_of_data(rt, matches)?;
-    let bytes = compiled_tables(rt, &request, cldr.as_str())?;
-    file.write(rt, bytes.as_slice(), output, errors)?;
-    Ok(DONE)
+    let request = tables_request(rt, matches)?;
+    let cldr = version_of_data(rt, matches.get_str("root"), matches.get_str("cldr"))?;
+    match compiled_tables(rt, &request, cldr.as_str()) {
+        Ok(bytes) => {
+            file.write(rt, bytes.as_slice(), output, errors)?;
+            Ok(DONE)
+        }
+        Err(error) => Err(said_of_language(rt.alloc(), error)),
+    }
 }
 
 /// What is said where keys are asked for of records of CSV.
@@ -336,7 +353,12 @@ pub(crate) fn run<
     let matches = match command.try_get_matches_from(words) {
         Ok(matches) => matches,
         Err(error) => {
-            return match answer_words(rt, &error, output, errors) {
+            let answered = if error.kind() == ErrorKind::DisplayVersion {
+                print_versions(rt, None, None, output)
+            } else {
+                answer_words(rt, &error, output, errors)
+            };
+            return match answered {
                 Ok(status) => status,
                 Err(error) => report_unless_closed(error, output.is_closed(), errors),
             };
@@ -344,7 +366,9 @@ pub(crate) fn run<
     };
     let status = match matches.subcommand() {
         Some((name, inner)) => run_command(rt, name, inner, terminals, input, output, errors),
-        None if matches.get_flag("version") => print_versions(rt, &matches, output),
+        None if matches.get_flag("version") => {
+            print_versions(rt, matches.get_str("root"), matches.get_str("cldr"), output)
+        }
         None if matches.get_flag("list-locales") => print_locales(rt, &matches, output),
         None => {
             say(NO_COMMAND.as_bytes(), errors);

@@ -3,17 +3,20 @@
 ghost use Rattle.std.specs.Prelude.{◌≤◌, IfOk};
 
 use crate::asked_collator::collator_by_words;
-use crate::reports::WORDING;
+use crate::reports::{WORDING, say};
 use clap::ArgMatches;
 use icu_collator::Collator;
 use icu_search::{Boundary, Searcher};
 use line_commands::print_text;
 use line_searches::{
-    SearchRequest, Shown, Wanted, count_wanted, name_and, prefix_of, print_count, print_wanted,
-    shown_name,
+    MatchKind, SearchRequest, Shown, Wanted, count_wanted, name_and, prefix_of, print_count,
+    print_wanted, shown_name,
 };
-use program_files::{ProgramError, RunProgress, bytes_of_word, read_input, report_failure};
-use program_words::{patterns_of, searched_files, separator_of};
+use line_sorts::lines_by;
+use program_files::{
+    ProgramError, RunProgress, WRONG_WORDS, bytes_of_word, read_input, read_inputs, report_failure,
+};
+use program_words::{most_lines, pattern_files, patterns_of, searched_files, separator_of};
 use std::alloc::{AllocError, Global};
 use std::io::{Read, Write};
 use std::rt::{Clock, Env, Files};
@@ -161,8 +164,46 @@ fn searchers_of<'c>(
     Ok(searchers)
 }
 
+/// Appends the lines of files as patterns, read.
+fn add_lines_of_files<'c, R: Files + Clock + AllocGlobal, I: Read, E: Write>(
+    rt: &R,
+    collator: &'c Collator,
+    files: &[&str],
+    searchers: &mut Vec<Searcher<'c>>,
+    progress: &mut RunProgress,
+    input: &mut I,
+    errors: &mut E,
+) -> Result<(), ProgramError> {
+    if files.is_empty() {
+        return Ok(());
+    }
+    let text = read_inputs(rt, files, b'\n', input, progress, errors)?;
+    let lines = lines_by(rt.alloc(), text.as_slice(), b'\n')?;
+    for line in lines.as_slice() {
+        searchers.push(Searcher::new_utf8(rt.alloc(), collator, line)?)?;
+    }
+    Ok(())
+}
+
+/// What may be a match, by words: a part between grapheme clusters, if they don't say.
+fn match_kind(matches: &ArgMatches<'_>) -> MatchKind {
+    if matches.get_flag("line-regexp") {
+        MatchKind::Line
+    } else if matches.get_flag("word-regexp") {
+        MatchKind::Parts(Boundary::Words)
+    } else if matches.get_flag("letters") {
+        MatchKind::Parts(Boundary::Letters)
+    } else {
+        MatchKind::Parts(Boundary::Graphemes)
+    }
+}
+
 /// How lines are searched for and printed, by words: in colour where that is asked for, or on a terminal.
-fn request_of<'p>(matches: &ArgMatches<'_>, is_terminal: bool) -> SearchRequest<'p> {
+fn request_of<'p>(
+    matches: &ArgMatches<'_>,
+    is_terminal: bool,
+    at_most: usize,
+) -> SearchRequest<'p> {
     let is_coloured = match matches.get_str("colour") {
         Some("always") => true,
         Some("never") => false,
@@ -174,11 +215,7 @@ fn request_of<'p>(matches: &ArgMatches<'_>, is_terminal: bool) -> SearchRequest<
         } else {
             Wanted::WithMatch
         },
-        boundary: if matches.get_flag("word-regexp") {
-            Boundary::Words
-        } else {
-            Boundary::Letters
-        },
+        kind: match_kind(matches),
         shown: match (matches.get_flag("only-matching"), is_coloured) {
             (false, false) => Shown::Line,
             (false, true) => Shown::ColouredLine,
@@ -188,8 +225,12 @@ fn request_of<'p>(matches: &ArgMatches<'_>, is_terminal: bool) -> SearchRequest<
         prefix: &[],
         is_numbered: matches.get_flag("line-number"),
         separator: separator_of(matches),
+        at_most,
     }
 }
+
+/// What is said of a number of lines that is none.
+const NO_NUMBER: &str = "--max-count takes a number from 0 on";
 
 /// Prints the lines that hold a match of a pattern, and returns the status: 0 where there are some, and else 1; 3 where
 /// an input isn't read, which is named.
@@ -204,16 +245,29 @@ pub(crate) fn search<R: Files + Env + Clock + AllocGlobal, I: Read, W: Write, E:
 ) -> Result<u8, ProgramError>
     ensures { IfOk result (λ status. status ≤ 3) }
 {
+    let Some(at_most) = most_lines(matches) else {
+        say(NO_NUMBER.as_bytes(), errors);
+        return Ok(WRONG_WORDS);
+    };
     let collator = collator_by_words(rt, matches)?;
     let patterns = patterns_of(rt.alloc(), matches)?;
-    let searchers = searchers_of(rt.alloc(), &collator, patterns.as_slice())?;
+    let mut searchers = searchers_of(rt.alloc(), &collator, patterns.as_slice())?;
+    add_lines_of_files(
+        rt,
+        &collator,
+        pattern_files(matches),
+        &mut searchers,
+        progress,
+        input,
+        errors,
+    )?;
     let files = searched_files(rt.alloc(), matches)?;
     let found = search_inputs(
         rt,
         matches,
         searchers.as_slice(),
         files.as_slice(),
-        request_of(matches, is_terminal),
+        request_of(matches, is_terminal, at_most),
         progress,
         input,
         output,

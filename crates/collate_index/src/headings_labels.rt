@@ -2,11 +2,11 @@
 
 use crate::named_collator::named_locale;
 use clap::ArgMatches;
+use cldr_languages::text_files::text_if_there;
 use icu_cldr_files::index_labels::{LabelsError, read_index_labels};
-use program_files::{ProgramError, joined, refused, refused_by, refused_by_system};
+use program_files::{ProgramError, joined, refused, refused_by};
+use program_words::{cldr_folder, said_of_language};
 use std::alloc::{AllocError, Global};
-use std::fs;
-use std::io::{ErrorKind, Read};
 use std::rt::{Env, Files};
 
 /// The labels of a text, which stand between commas.
@@ -18,30 +18,15 @@ fn labels_between_commas(alloc: Global, text: &str) -> Result<Vec<String>, Alloc
     Ok(labels)
 }
 
-/// The text of a file, if the file is there.
-fn text_if_there<R: Files + AllocGlobal>(
-    rt: &R,
-    file: &str,
-) -> Result<Option<String>, ProgramError> {
-    let mut opened = match fs::open(rt, file) {
-        Ok(opened) => opened,
-        Err(e) if e.kind() == ErrorKind::NotFound => return Ok(None),
-        Err(e) => return Err(refused_by_system(rt.alloc(), file, &e)),
-    };
-    let mut text = String::new(rt.alloc());
-    match opened.read_to_string(&mut text) {
-        Ok(_) => Ok(Some(text)),
-        Err(e) => Err(refused_by_system(rt.alloc(), file, &e)),
-    }
-}
-
 /// The labels that the file of a locale says, if it is there and says some.
 fn labels_in<R: Files + AllocGlobal>(
     rt: &R,
     file: &str,
 ) -> Result<Option<Vec<String>>, ProgramError> {
-    let Some(text) = text_if_there(rt, file)? else {
-        return Ok(None);
+    let text = match text_if_there(rt, file) {
+        Ok(Some(text)) => text,
+        Ok(None) => return Ok(None),
+        Err(error) => return Err(said_of_language(rt.alloc(), error)),
     };
     match read_index_labels(rt.alloc(), text.as_str()) {
         Ok(labels) => Ok(labels),
@@ -87,13 +72,14 @@ pub(crate) fn labels_asked<R: Files + Env + AllocGlobal>(
     if let Some(labels) = matches.get_str("labels") {
         return Ok(labels_between_commas(rt.alloc(), labels)?);
     }
-    let Some(locale) = named_locale(rt, matches)? else {
+    let Some(asked) = named_locale(rt, matches)? else {
         return Ok(Vec::new(rt.alloc()));
     };
+    let folder = cldr_folder(rt, matches.get_str("cldr"))?;
     labels_of_locale(
         rt,
-        locale.folder.as_str(),
-        locale.asked.word.as_str(),
-        locale.asked.request.names.as_slice(),
+        folder.as_str(),
+        asked.word.as_str(),
+        asked.request.names.as_slice(),
     )
 }

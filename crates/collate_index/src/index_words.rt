@@ -1,8 +1,13 @@
 //! The words of the program.
 
 use clap::{Arg, Command};
-use program_words::{HANDLINGS, OptionRow, STRENGTHS, Takes, option_of, with_help, with_options};
+use program_words::{
+    HANDLINGS, NOTICES, OptionRow, STRENGTHS, Takes, option_of, with_answers, with_options,
+};
 use std::alloc::{AllocError, Global};
+
+/// The version of the program.
+const VERSION: &str = "0.1";
 
 const ABOUT: &str =
     "Keeps an index of names in a database file of SQLite, in the order of a language, or of CLDR's root collation.";
@@ -30,7 +35,7 @@ unicode-cldr-core installs it. The rules of a locale stand in common/collation o
 Status: 0, 1 (no such name), 2 (wrong words), 3 (data, memory, the database, input or output).";
 
 /// The options of each command, in the order in which help shows them.
-static OPTIONS: [OptionRow; 6] = [
+static OPTIONS: [OptionRow; 7] = [
     OptionRow {
         id: "root",
         letter: None,
@@ -58,8 +63,8 @@ static OPTIONS: [OptionRow; 6] = [
     OptionRow {
         id: "numeric",
         letter: None,
-        takes: Takes::Nothing,
-        help: "Digits count by the value of their number",
+        takes: Takes::Switch,
+        help: "Digits count by the value of their number, or with off one by one",
     },
     OptionRow {
         id: "locale",
@@ -67,6 +72,7 @@ static OPTIONS: [OptionRow; 6] = [
         takes: Takes::Value("LOCALE"),
         help: "The order of a locale, by CLDR's rules, and its labels: sv, zh_Hant, de-u-co-phonebk",
     },
+    NOTICES,
 ];
 
 /// The option for what is kept with a name.
@@ -94,11 +100,12 @@ fn asked<'a>(alloc: Global, id: &'a str) -> Arg<'a> {
 fn command<'a>(alloc: Global, name: &'a str, about: &'a str) -> Result<Command<'a>, AllocError> {
     let command = Command::new(alloc, name)
         .about(about)
+        .version(VERSION)
         .args_override_self(true);
     let command = with_options(alloc, command, OPTIONS.as_slice())?.arg(Arg::new(
         alloc, "FILE",
     ).required(true))?;
-    with_help(alloc, command)
+    with_answers(alloc, command)
 }
 
 /// The command `add`.
@@ -135,8 +142,9 @@ pub(crate) fn index_words<'a>(alloc: Global) -> Result<Command<'a>, AllocError> 
         .no_binary_name(true)
         .bin_name("collate-index")?
         .about(ABOUT)
+        .version(VERSION)
         .after_help(AFTER);
-    with_help(alloc, program)?
+    with_answers(alloc, program)?
         .subcommand(add_command(alloc)?)?
         .subcommand(command(alloc, "remove", "Removes a name")?.arg(asked(alloc, "NAME"))?)?
         .subcommand(command(alloc, "list", "Prints all names in order")?)?

@@ -29,7 +29,7 @@ fn run_words<I: Read, W: Write, E: Write>(
         Err(error) => return answer_words(rt, &error, output, errors),
     };
     match matches.subcommand() {
-        Some((name, inner)) => run_command(rt, name, inner, input, output),
+        Some((name, inner)) => run_command(rt, name, inner, input, output, errors),
         None => {
             write_line(errors, WORDING.prefix, NO_COMMAND.as_bytes());
             Ok(WRONG_WORDS)

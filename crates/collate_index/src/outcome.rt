@@ -6,7 +6,7 @@ ghost use Rattle.icu_index_store.specs.Stores.{printed_collation, store_collatio
 use crate::commands::{add, found, headed, listed, listed_between};
 use crate::headings_labels::labels_asked;
 use crate::name_lines::read_all;
-use crate::named_collator::named_collator;
+use crate::named_collator::{named_collator, say_inexact};
 use crate::refusals::{refused_database, unopened};
 use clap::ArgMatches;
 use icu_index_store::{PrintedCollator, StoredIndex, open, rebuild};
@@ -231,13 +231,15 @@ fn outcome_in(
 }
 
 /// What a command does, by its name and what was matched behind it. The answer is printed once the database is closed.
-pub(crate) fn run_command<I: Read, W: Write>(
+pub(crate) fn run_command<I: Read, W: Write, E: Write>(
     rt: &HostRuntime,
     name: &str,
     matches: &ArgMatches<'_>,
     input: &mut I,
     output: &mut W,
+    errors: &mut E,
 ) -> Result<u8, ProgramError> {
+    say_inexact(rt, matches, errors)?;
     let collator = named_collator(rt, matches)?;
     let given = given_to(rt, name, matches, input)?;
     let done = outcome_in(rt, name, matches, &collator, &given)?;

@@ -1,19 +1,29 @@
-//! The words of the program `collate-cldr`: its commands and options, and what both programs over CLDR's data say of
-//! words that are wrong.
+//! The words of the program `collate-cldr`: its commands and options; and what both programs over CLDR's data make of
+//! words and of the environment, and say of what is wrong.
 #![tactic(auto)]
 
 pub mod answers;
+pub mod data_place;
 pub mod foreign_options;
+pub mod locale_environment;
 pub mod option_rows;
+pub mod option_settings;
 pub mod option_table;
+pub mod rule_words;
+pub mod said_errors;
 pub mod search_options;
 pub mod sort_options;
 pub mod words;
 
 pub use answers::answer_words;
+pub use data_place::{cldr_folder, root_file};
 pub use foreign_options::foreign_said;
-pub use option_rows::{HANDLINGS, STRENGTHS};
-pub use option_table::{OptionRow, Takes, option_of, with_help, with_options};
-pub use search_options::{patterns_of, searched_files};
+pub use locale_environment::asked_word;
+pub use option_rows::{HANDLINGS, NOTICES, STRENGTHS};
+pub use option_settings::{SettingWords, options_by_words};
+pub use option_table::{OptionRow, Takes, option_of, with_answers, with_help, with_options};
+pub use rule_words::rules_of_word;
+pub use said_errors::said_of_language;
+pub use search_options::{most_lines, pattern_files, patterns_of, searched_files};
 pub use sort_options::{CheckWanted, character_asked, check_of, separator_of, sort_request_of};
 pub use words::{files_of, program, text_of};

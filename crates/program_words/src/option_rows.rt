@@ -39,13 +39,29 @@ pub(crate) static DATA: [OptionRow; 2] = [
     },
 ];
 
-/// That for a language.
-pub(crate) static LOCALES: [OptionRow; 1] = [OptionRow {
-    id: "locale",
-    letter: Some('l'),
-    takes: Takes::Value("TAG"),
-    help: "The language, a type and settings, as in sv, de-u-co-phonebk or en-u-kn-ks-level1",
-}];
+/// Those for a language.
+pub(crate) static LOCALES: [OptionRow; 2] = [
+    OptionRow {
+        id: "locale",
+        letter: Some('l'),
+        takes: Takes::Value("TAG"),
+        help: "The language, a type and settings, as in sv, de-u-co-phonebk or en-u-kn-ks-level1",
+    },
+    OptionRow {
+        id: "rules",
+        letter: None,
+        takes: Takes::Value("RULES"),
+        help: "Rules of one's own, after those of the language: a file, or rules, which begin with & or [",
+    },
+];
+
+/// That for what is said of a language.
+pub const NOTICES: OptionRow = OptionRow {
+    id: "quiet",
+    letter: Some('q'),
+    takes: Takes::Nothing,
+    help: "Says nothing where a language's order isn't just what its tag asks for",
+};
 
 /// Those for settings of the order.
 pub(crate) static SETTINGS: [OptionRow; 6] = [
@@ -76,14 +92,14 @@ pub(crate) static SETTINGS: [OptionRow; 6] = [
     OptionRow {
         id: "case-level",
         letter: None,
-        takes: Takes::Nothing,
-        help: "Case counts on a level of its own",
+        takes: Takes::Switch,
+        help: "Case counts on a level of its own, or with off it doesn't",
     },
     OptionRow {
         id: "numeric",
         letter: Some('V'),
-        takes: Takes::Nothing,
-        help: "Digits count by the value of their number",
+        takes: Takes::Switch,
+        help: "Digits count by the value of their number, or with off one by one",
     },
 ];
 
@@ -198,7 +214,7 @@ pub(crate) static QUIET: [OptionRow; 1] = [OptionRow {
 }];
 
 /// Those of the command `search`.
-pub(crate) static SEARCHES: [OptionRow; 14] = [
+pub(crate) static SEARCHES: [OptionRow; 18] = [
     OptionRow {
         id: "zero-terminated",
         letter: Some('z'),
@@ -210,6 +226,18 @@ pub(crate) static SEARCHES: [OptionRow; 14] = [
         letter: Some('e'),
         takes: Takes::AnyValues("PATTERN"),
         help: "Searches for this text, in place of the first word; further ones too",
+    },
+    OptionRow {
+        id: "file",
+        letter: Some('f'),
+        takes: Takes::Values("FILE"),
+        help: "Searches for each line of this file, in place of the first word; further ones too",
+    },
+    OptionRow {
+        id: "max-count",
+        letter: Some('m'),
+        takes: Takes::Value("NUM"),
+        help: "Ends each file after so many such lines",
     },
     OptionRow {
         id: "ignore-case",
@@ -282,6 +310,18 @@ pub(crate) static SEARCHES: [OptionRow; 14] = [
         letter: Some('w'),
         takes: Takes::Nothing,
         help: "A match begins and ends at boundaries of words",
+    },
+    OptionRow {
+        id: "line-regexp",
+        letter: Some('x'),
+        takes: Takes::Nothing,
+        help: "A match is a whole line",
+    },
+    OptionRow {
+        id: "letters",
+        letter: None,
+        takes: Takes::Nothing,
+        help: "A match may begin and end within what is one character to a reader, between its letters",
     },
 ];
 

@@ -8,6 +8,8 @@ use std::alloc::{AllocError, Global};
 pub enum Takes {
     /// It stands alone.
     Nothing,
+    /// It stands alone, or with `=on` or `=off`.
+    Switch,
     /// A value.
     Value(&'static str),
     /// A value that may begin with a hyphen.
@@ -33,6 +35,9 @@ pub struct OptionRow {
     pub help: &'static str,
 }
 
+/// The words for whether something is so.
+const SWITCHES: &[&str] = &["on", "off"];
+
 /// The option of a row.
 pub fn option_of<'a>(alloc: Global, row: OptionRow) -> Arg<'a> {
     let plain = Arg::new(alloc, row.id).long(row.id).help(row.help);
@@ -42,6 +47,12 @@ pub fn option_of<'a>(alloc: Global, row: OptionRow) -> Arg<'a> {
     };
     match row.takes {
         Takes::Nothing => arg.action(ArgAction::SetTrue),
+        Takes::Switch => arg
+            .value_name("WHETHER")
+            .value_parser(SWITCHES)
+            .num_args(0..=1)
+            .require_equals(true)
+            .default_missing_value("on"),
         Takes::Value(name) => arg.value_name(name),
         Takes::AnyValue(name) => arg.value_name(name).allow_hyphen_values(true),
         Takes::OneOf(name, values) => arg.value_name(name).value_parser(values),
@@ -64,6 +75,19 @@ pub fn with_help<'a>(alloc: Global, command: Command<'a>) -> Result<Command<'a>,
         .action(ArgAction::Help)
         .help("Prints this");
     command.disable_help_flag(true).arg(help)
+}
+
+/// A command with the options `--help` and `--version`, which may stand alone.
+///
+/// # Errors
+///
+/// Fails only where an allocation does.
+pub fn with_answers<'a>(alloc: Global, command: Command<'a>) -> Result<Command<'a>, AllocError> {
+    let version = Arg::new(alloc, "version")
+        .long("version")
+        .action(ArgAction::Version)
+        .help("Prints the version");
+    with_help(alloc, command)?.arg(version)
 }
 
 /// A command with the options of rows.

@@ -2,9 +2,9 @@
 
 use crate::foreign_options::with_foreign;
 use crate::option_rows::{
-    CHECKS, DATA, LOCALES, ORDERS, QUESTIONS, QUIET, SEARCHES, SEPARATORS, SETTINGS, SORTS,
+    CHECKS, DATA, LOCALES, NOTICES, ORDERS, QUESTIONS, QUIET, SEARCHES, SEPARATORS, SETTINGS, SORTS,
 };
-use crate::option_table::{OptionRow, Takes, option_of, with_help, with_options};
+use crate::option_table::{OptionRow, Takes, option_of, with_answers, with_help, with_options};
 use clap::{Arg, ArgAction, ArgMatches, Command};
 use std::alloc::{AllocError, Global};
 
@@ -74,7 +74,8 @@ fn command<'a>(alloc: Global, name: &'a str, about: &'a str) -> Result<Command<'
     let tables = option_of(alloc, TABLES)
         .conflicts_with("root")?
         .conflicts_with("cldr")?
-        .conflicts_with("locale")?;
+        .conflicts_with("locale")?
+        .conflicts_with("rules")?;
     let command = with_options(alloc, command, DATA.as_slice())?.arg(tables)?;
     let command = with_options(alloc, command, LOCALES.as_slice())?;
     with_options(alloc, command, SETTINGS.as_slice())
@@ -87,11 +88,11 @@ fn text_command<'a>(
     about: &'a str,
     texts: &[&'a str],
 ) -> Result<Command<'a>, AllocError> {
-    let mut command = command(alloc, name, about)?;
+    let mut command = command(alloc, name, about)?.arg(option_of(alloc, NOTICES))?;
     for text in texts {
         command = command.arg(Arg::new(alloc, *text).required(true))?;
     }
-    with_help(alloc, command)
+    with_answers(alloc, command)
 }
 
 /// The files that lines are read from.
@@ -119,8 +120,10 @@ fn sort_command<'a>(alloc: Global) -> Result<Command<'a>, AllocError> {
         .num_args(0..=1)
         .require_equals(true)
         .default_missing_value("diagnose-first");
-    let command = with_options(alloc, command, SORTS.as_slice())?.arg(check)?;
-    with_help(alloc, with_options(alloc, command, CHECKS.as_slice())?)
+    let command = with_options(alloc, command, SORTS.as_slice())?
+        .arg(check)?
+        .arg(option_of(alloc, NOTICES))?;
+    with_answers(alloc, with_options(alloc, command, CHECKS.as_slice())?)
 }
 
 /// The command `check`.
@@ -131,13 +134,14 @@ fn check_command<'a>(alloc: Global) -> Result<Command<'a>, AllocError> {
         "Whether lines are in order: status 1 and the first that isn't, if one isn't",
     )?;
     let command = with_options(alloc, with_foreign(alloc, command)?, ORDERS.as_slice())?;
-    with_help(alloc, with_options(alloc, command, QUIET.as_slice())?)
+    with_answers(alloc, with_options(alloc, command, QUIET.as_slice())?)
 }
 
 /// The command `search`.
 fn search_command<'a>(alloc: Global) -> Result<Command<'a>, AllocError> {
     let pattern = Arg::new(alloc, "PATTERN")
         .required_unless_present("regexp")?
+        .required_unless_present("file")?
         .help("What is searched for: a text, and no regular expression");
     let command = command(
         alloc,
@@ -148,13 +152,14 @@ fn search_command<'a>(alloc: Global) -> Result<Command<'a>, AllocError> {
     .arg(files(alloc))?;
     let colour = option_of(alloc, COLOUR).visible_alias("color")?;
     let command = with_options(alloc, command, SEARCHES.as_slice())?.arg(colour)?;
-    with_help(alloc, command)
+    with_answers(alloc, command)
 }
 
 /// The command `keys`.
 fn keys_command<'a>(alloc: Global) -> Result<Command<'a>, AllocError> {
     let about = "Prints each line behind its sort key in hexadecimal digits and a tab";
-    with_help(alloc, line_command(alloc, "keys", about)?)
+    let command = line_command(alloc, "keys", about)?.arg(option_of(alloc, NOTICES))?;
+    with_answers(alloc, command)
 }
 
 /// The command `compile`.
@@ -165,10 +170,10 @@ fn compile_command<'a>(alloc: Global) -> Result<Command<'a>, AllocError> {
         )
         .args_override_self(true);
     let command = with_options(alloc, command, DATA.as_slice())?;
-    let command = with_options(alloc, command, LOCALES.as_slice())?.arg(option_of(
-        alloc, OUT,
-    ).required(true))?;
-    with_help(alloc, command)
+    let command = with_options(alloc, command, LOCALES.as_slice())?
+        .arg(option_of(alloc, OUT).required(true))?
+        .arg(option_of(alloc, NOTICES))?;
+    with_answers(alloc, command)
 }
 
 /// A text that is required.

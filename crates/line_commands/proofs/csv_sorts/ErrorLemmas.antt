@@ -25,6 +25,7 @@ fields_explained fields columns i (csv_errors.Lacks index column) below is =
 fields_explained fields columns i csv_errors.ReadFailed below is = absurd is
 fields_explained fields columns i (csv_errors.Open index) below is = absurd is
 fields_explained fields columns i (csv_errors.Unnamed word) below is = absurd is
+fields_explained fields columns i (csv_errors.Ambiguous word) below is = absurd is
 fields_explained fields columns i csv_errors.WriteFailed below is = absurd is
 
 -- fields that weren't read
@@ -56,6 +57,7 @@ keys_explained r records i other (csv_errors.Lacks index column) below is =
     }
 keys_explained r records i other (csv_errors.Open index) below is = absurd is
 keys_explained r records i other (csv_errors.Unnamed word) below is = absurd is
+keys_explained r records i other (csv_errors.Ambiguous word) below is = absurd is
 keys_explained r records i other csv_errors.WriteFailed below is = absurd is
 
 -- the first record
@@ -93,6 +95,7 @@ open_explained delimiter text records csv_errors.NoMemory has is = absurd is
 open_explained delimiter text records csv_errors.ReadFailed has is = absurd is
 open_explained delimiter text records (csv_errors.Lacks index column) has is = absurd is
 open_explained delimiter text records (csv_errors.Unnamed word) has is = absurd is
+open_explained delimiter text records (csv_errors.Ambiguous word) has is = absurd is
 open_explained delimiter text records csv_errors.WriteFailed has is = absurd is
 
 -- records of a text without a mark that aren't closed
@@ -102,6 +105,7 @@ csv_open r text csv_errors.NoMemory is = tt
 csv_open r text csv_errors.ReadFailed is = absurd is
 csv_open r text (csv_errors.Lacks index column) is = absurd is
 csv_open r text (csv_errors.Unnamed word) is = absurd is
+csv_open r text (csv_errors.Ambiguous word) is = absurd is
 csv_open r text csv_errors.WriteFailed is = absurd is
 
 -- records without keys
@@ -113,6 +117,7 @@ csv_lacks r text records body csv_errors.NoMemory has behind is = tt
 csv_lacks r text records body csv_errors.ReadFailed has behind is = tt
 csv_lacks r text records body (csv_errors.Open index) has behind is = absurd is
 csv_lacks r text records body (csv_errors.Unnamed word) has behind is = absurd is
+csv_lacks r text records body (csv_errors.Ambiguous word) has behind is = absurd is
 csv_lacks r text records body csv_errors.WriteFailed has behind is = absurd is
 
 -- a call that looks for a record, where some have no key

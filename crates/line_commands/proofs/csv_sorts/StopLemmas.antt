@@ -14,6 +14,7 @@ kept_unwritten r text is_text old new csv_errors.NoMemory keeps is = keeps
 kept_unwritten r text is_text old new (csv_errors.Lacks index column) keeps is = keeps
 kept_unwritten r text is_text old new (csv_errors.Open index) keeps is = keeps
 kept_unwritten r text is_text old new (csv_errors.Unnamed word) keeps is = keeps
+kept_unwritten r text is_text old new (csv_errors.Ambiguous word) keeps is = keeps
 kept_unwritten r text is_text old new csv_errors.ReadFailed keeps is = keeps
 kept_unwritten r text is_text old new csv_errors.WriteFailed keeps is = absurd is
 

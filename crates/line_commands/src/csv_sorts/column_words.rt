@@ -13,8 +13,18 @@ fn column_of_number(word: &str) -> Option<usize> {
     }
 }
 
+/// Whether a column after this one has a name, too.
+fn is_named_after(header: &ByteRecord, name: &[u8], column: usize) -> bool {
+    for other in column.saturating_add(1)..header.len() {
+        if header.get(other) == Some(name) {
+            return true;
+        }
+    }
+    false
+}
+
 /// The header of a text: its first record, if that is one.
-fn header_fields(
+pub(crate) fn header_fields(
     alloc: Global,
     delimiter: u8,
     has_header: bool,
@@ -29,11 +39,26 @@ fn header_fields(
     }
 }
 
+/// The column that a word names, from 0 on. The word has an index among others.
+fn column_of_word(header: &ByteRecord, word: &str, index: usize) -> Result<usize, CsvError> {
+    let name = word.as_bytes();
+    match column_named(header, name) {
+        Some(column) if is_named_after(header, name, column) => {
+            Err(CsvError::Ambiguous { word: index })
+        }
+        Some(column) => Ok(column),
+        None => match column_of_number(word) {
+            Some(column) => Ok(column),
+            None => Err(CsvError::Unnamed { word: index }),
+        },
+    }
+}
+
 /// The columns that words name, from 0 on: by a name of the header, or else by a number from 1 on.
 ///
 /// # Errors
 ///
-/// Fails where an allocation does, or where a word names no column.
+/// Fails where an allocation does, where a word names no column, or where several columns have its name.
 pub fn columns_of_words(
     alloc: Global,
     delimiter: u8,
@@ -44,10 +69,7 @@ pub fn columns_of_words(
     let header = header_fields(alloc, delimiter, has_header, text)?;
     let mut columns = Vec::new(alloc);
     for (i, word) in words.iter().enumerate() {
-        match column_named(&header, word.as_bytes()).or(column_of_number(word)) {
-            Some(column) => columns.push(column)?,
-            None => return Err(CsvError::Unnamed { word: i }),
-        }
+        columns.push(column_of_word(&header, word, i)?)?;
     }
     Ok(columns)
 }

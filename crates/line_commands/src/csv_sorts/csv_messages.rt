@@ -1,8 +1,10 @@
 //! What is said of records that can't be sorted.
 
+use crate::csv_sorts::column_words::header_fields;
 use crate::csv_sorts::csv_request::CsvError;
+use csv::ByteRecord;
 use line_sorts::csv_records::line_of_record;
-use program_files::ProgramError;
+use program_files::{ProgramError, printed_name};
 use std::alloc::{AllocError, Global};
 
 /// The error that says of a line of a source what is wrong there.
@@ -28,9 +30,35 @@ fn lack_said(
     line_said(alloc, source, line, what.as_str())
 }
 
-/// What is said of a word that names no column.
-fn unnamed_said(alloc: Global, source: &str, word: &str) -> Result<ProgramError, AllocError> {
-    let what = format!(in alloc; "no column '{word}'")?;
+/// The names of a header, as messages show them.
+fn names_said(alloc: Global, header: &ByteRecord) -> Result<String, AllocError> {
+    let mut text = String::new(alloc);
+    for column in 0..header.len() {
+        let field = str::from_utf8(header.get(column).unwrap_or_default());
+        let name = printed_name(alloc, field.unwrap_or("\u{FFFD}"))?;
+        text.push_str(if column == 0 { "" } else { ", " })?;
+        text.push_str(name.as_str())?;
+    }
+    Ok(text)
+}
+
+/// What is said of a word that names no column, with the names that there are.
+fn unnamed_said(
+    alloc: Global,
+    source: &str,
+    word: &str,
+    header: &ByteRecord,
+) -> Result<ProgramError, AllocError> {
+    let word = printed_name(alloc, word)?;
+    let names = names_said(alloc, header)?;
+    let what = format!(in alloc; "no column '{word}'; the columns are: {names}")?;
+    line_said(alloc, source, 1, what.as_str())
+}
+
+/// What is said of a word that names several columns.
+fn ambiguous_said(alloc: Global, source: &str, word: &str) -> Result<ProgramError, AllocError> {
+    let word = printed_name(alloc, word)?;
+    let what = format!(in alloc; "several columns are '{word}': name one by its number")?;
     line_said(alloc, source, 1, what.as_str())
 }
 
@@ -56,7 +84,16 @@ fn error_said(
             line_said(alloc, source, line, "a quote isn't closed")
         }
         CsvError::Unnamed { word } => {
-            unnamed_said(alloc, source, words.get(word).copied().unwrap_or(""))
+            let word = words.get(word).copied().unwrap_or("");
+            match header_fields(alloc, delimiter, true, text) {
+                Ok(header) => unnamed_said(alloc, source, word, &header),
+                Err(CsvError::NoMemory) => Ok(ProgramError::NoMemory),
+                Err(CsvError::ReadFailed | CsvError::WriteFailed) => Ok(ProgramError::ReadFailed),
+                Err(_) => unnamed_said(alloc, source, word, &ByteRecord::new(alloc)),
+            }
+        }
+        CsvError::Ambiguous { word } => {
+            ambiguous_said(alloc, source, words.get(word).copied().unwrap_or(""))
         }
     }
 }

@@ -48,6 +48,12 @@ pub enum CsvError {
         /// The index of the word that names it.
         word: usize,
     },
+    /// Several columns of the header have this name.
+    #[error("several columns have the name of the word at index {word}")]
+    Ambiguous {
+        /// The index of the word that names them.
+        word: usize,
+    },
     /// A read failed, as `csv` says of one of the bytes of a record.
     #[error("read failed")]
     ReadFailed,
