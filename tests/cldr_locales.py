@@ -94,6 +94,19 @@ SIGNED = [
     (["-l", "da-u-ks-level1"], "A a", "="),
     (["-l", "da-u-ks-level1", "--strength=3"], "A a", "<"),
     (["-l", "sv-u-kn"], "10 9", ">"),
+    # The same by CLDR's aliases of types that a tag can have.
+    (["-l", "sv-u-kn-yes"], "10 9", ">"),
+    (["-l", "da-u-ks-primary"], "A a", "="),
+    (["-l", "da-u-kf-false-ks-tertiary"], "A a", ">"),
+    (["-l", "fr-u-kb-yes"], "àa aà", "<"),
+    (["-l", "fr-u-kk-yes"], "àa aà", ">"),
+    # Settings that are turned off by options.
+    (["-l", "sv-u-kn", "--numeric=off"], "10 9", "<"),
+    (["-l", "sv-u-kn", "--numeric=off", "--numeric"], "10 9", ">"),
+    (["-l", "sv", "--numeric=on"], "10 9", ">"),
+    (["-l", "sv", "-V"], "10 9", ">"),
+    (["-l", "sv-u-kc-ks-level1", "--case-level=off"], "A a", "="),
+    (["-l", "sv-u-kc-ks-level1"], "A a", ">"),
     # Rules that put scripts in another order, of which the small file of the root has no groups.
     (["-l", "hr"], "c č", "<"),
     (["-l", "hr"], "č d", "<"),
@@ -127,11 +140,11 @@ WRITTEN = [
 ]
 # What is said of a tag whose order isn't exactly what it asks for, and what is done all the same: two texts and the sign.
 NO_TYPE = "no collation of the type"
-LISTS = "; --list-locales says which there are"
+OF_SWEDISH = "; there are reformed search standard"
 NOTICES = {
-    "sv-u-co-phonebk": f"{NO_TYPE} phonebk{LISTS}",
-    "sv-u-co-searchjl": f"{NO_TYPE} searchjl{LISTS}",
-    "zh-u-co-private-pinyin": f"{NO_TYPE} private-pinyin{LISTS}",
+    "sv-u-co-phonebk": f"{NO_TYPE} phonebk{OF_SWEDISH}",
+    "sv-u-co-searchjl": f"{NO_TYPE} searchjl{OF_SWEDISH}",
+    "zh-u-co-private-pinyin": f"{NO_TYPE} private-pinyin; there are pinyin stroke unihan",
     "de-phonebk": "phonebk is a type; write de-u-co-phonebk",
     "es-trad": "trad is a type; write es-u-co-trad",
     "xx": "no language of CLDR",
@@ -142,6 +155,43 @@ NOTICES = {
 }
 NOTICED = [("de-phonebk", "ä ad", "<"), ("es-trad", "a b", "<"), ("xx", "å z", "<"), ("dk", "å z", "<"), ("cz", "å z", "<"), ("jp", "å z", "<"),
            ("swedish", "å z", "<"), ("zh-u-co-private-pinyin", "a b", "<")]
+# Rules of one's own after those of a language, or over the root: words, rules as a word, two texts and the sign.
+OWN_RULES = [
+    ([], "&z<å", "å z", ">"),
+    ([], "&z<å", "b å", "<"),
+    (["-l", "und"], "&z<å", "å z", ">"),
+    (["-l", "sv"], "&a<z", "z b", "<"),
+    (["-l", "sv"], "&a<z", "z å", "<"),
+    (["-l", "sv"], "&z<ä<å", "å ä", ">"),
+    (["-l", "sv"], "[caseFirst upper]", "a A", ">"),
+    (["-l", "sv-u-kf-false"], "[caseFirst upper]", "a A", "<"),
+    (["-l", "da"], "[caseFirst off]", "A a", ">"),
+    (["-l", "fr-CA-u-kb-false"], "&a<b", "àa aà", ">"),
+    ([], "[import sv]&a<z", "å ä", "<"),
+    ([], "[import sv]&a<z", "z b", "<"),
+    ([], "[import da-u-co-standard]", "å z", ">"),
+    ([], "@", "àa aà", "<"),
+    # Those of Chinese stay, with their ideographs by radicals.
+    (["-l", "zh-u-co-unihan"], "&z<a", "一 㐀", "<"),
+    (["-l", "zh-u-co-unihan"], "&z<a", "a z", ">"),
+]
+# Files of rules: their bytes, two texts and the sign.
+RULE_FILES = [
+    (b"&z<\xc3\xa5\n", "å z", ">"),
+    (b"\xef\xbb\xbf&z<\xc3\xa5\n", "å z", ">"),
+    (b"# one\r\n&z\r\n<\xc3\xa5\r\n", "å z", ">"),
+    (b"# one\r&z<\xc3\xa5", "å z", ">"),
+    (b"", "å z", "<"),
+]
+# Rules of one's own that are refused: words, rules, and what is said of them, behind the name.
+WRONG_RULES = [
+    ([], b"&a<z<", "line 1, column 6: expected a string after the relation's sign"),
+    (["-l", "sv"], b"# one\n\n&a<z\n  &b <", "line 4, column 7: expected a string after the relation's sign"),
+    (["-l", "sv"], b"< b", "line 1, column 1: "),
+    ([], b"&a<\xc3\xa9\r\n&b<\xe9", "line 2: expected UTF-8"),
+    ([], b"&a<b\r\n[import xx-u-co-none]", "line 2, column 1: expected a tag of rules"),
+    (["-l", "sv"], b"&[before 2]a < b", "line 1, column "),
+]
 # What is said of a file or of rules, behind the folder.
 COLLATION = "/common/collation/"
 # A file of a language's rules, and a relation of each private character of a plane.
@@ -163,7 +213,7 @@ COLLATIONS = """\
 PLANE = "&a<*\U000F0000-\U000FFFFD"
 REFUSED = [
     ("ta", COLLATION + "ta.xml, collation standard: [import xx-u-co-none]: expected a tag of rules\n"),
-    ("ta-u-co-circle", COLLATION + "ta.xml, collation circle: [import ta-u-co-circle]: expected imports that end\n"),
+    ("ta-u-co-circle", COLLATION + "ta.xml, collation circle: [import ta-u-co-circle]: expected imports nested at most 8 deep, which don't lead back to their own rules\n"),
     ("ta-u-co-wrong", COLLATION + "ta.xml, collation wrong: &c <: expected a string after the relation's sign\n"),
     ("te", COLLATION + "te.xml, collation standard: [import ta-u-co-wrong]: expected a string after the relation's sign\n"),
     ("te-u-co-unsaid", COLLATION + "te.xml, collation unsaid: &[before 2]a < b: expected a relation as strong as [before] says\n"),
@@ -184,8 +234,15 @@ RADICALS = [
 ]
 # Groups that are put in no order.
 NO_ORDERS = [
-    ("sv-u-kr-xxxx", "locale sv-u-kr-xxxx: kr: expected groups that can be put in this order, each once\n"),
-    ("und-u-kr-digit-digit", "locale und-u-kr-digit-digit: kr: expected groups that can be put in this order, each once\n"),
+    ("sv-u-kr-xxxx", "locale sv-u-kr-xxxx: kr: expected the code of a group or a script\n"),
+    ("und-u-kr-digit-digit", "locale und-u-kr-digit-digit: kr: expected a group only once\n"),
+]
+# Tags with words that CLDR has as aliases and that are too long for a tag, and what is said of them (status 2).
+LONG_ALIASES = [
+    ("sv-u-ks-secondary", "secondary is written level2 in a tag"),
+    ("sv-u-ka-non-ignorable", "ignorable is written noignore in a tag"),
+    ("de-u-co-phonebook", "phonebook is written phonebk in a tag"),
+    ("sv-u-kn-no", "`no` is no type, since types have three letters at least; write false"),
 ]
 # Variables of the environment, words, two texts and the sign.
 ENVIRONMENTS = [
@@ -237,6 +294,66 @@ def wrong_signs(program):
         ran = run_in(program, ["compare", "--cldr", FOLDER, *words, "--", *texts.split(" ")], variables)
         if ran.came_to() != (SIGNS[sign], f"{sign}\n".encode(), said_of(words[1]) if words else b""):
             found.append(f"{variables} {words} {texts}: {ran}; wanted: {sign}")
+    for command in ("sort", "compare", "search", "compile"):
+        ran = run_in(program, [command, "--version"], {"CLDR_DIR": FOLDER})
+        if ran.status or not ran.output.startswith(b"collate-cldr 0.1\nCLDR 41\n"):
+            found.append(f"{command} --version: {ran}")
+    return found
+
+
+def wrong_own_rules(program, room):
+    """What is wrong with rules of one's own, as a word and in a file, which are there beside those of a language."""
+    path, found = f"{room}/own.rules", []
+    for words, rules, texts, sign in OWN_RULES:
+        with open(path, "w", encoding="utf-8") as it:
+            it.write(rules)
+        for word in (rules, path):
+            ran = run_in(program, ["compare", "--cldr", FOLDER, *words, "--rules", word, "--", *texts.split(" ")])
+            if ran.came_to() != (SIGNS[sign], f"{sign}\n".encode(), b""):
+                found.append(f"{words} --rules {word} {texts}: {ran}; wanted: {sign}")
+    for rules, texts, sign in RULE_FILES:
+        with open(path, "wb") as it:
+            it.write(rules)
+        ran = run_in(program, ["compare", "--cldr", FOLDER, "--rules", path, "--", *texts.split(" ")])
+        if ran.came_to() != (SIGNS[sign], f"{sign}\n".encode(), b""):
+            found.append(f"rules {rules!r} {texts}: {ran}; wanted: {sign}")
+    for words, rules, said in WRONG_RULES:
+        with open(path, "wb") as it:
+            it.write(rules)
+        ran = run_in(program, ["compare", "--cldr", FOLDER, *words, "--rules", path, "a", "b"])
+        if ran.status != 3 or ran.output or not ran.faults.decode().startswith(f"collate-cldr: {path}: {said}"):
+            found.append(f"{words} rules {rules!r}: {ran}; wanted: {said}")
+    with open(path, "w", encoding="utf-8") as it:
+        it.write("&z<å")
+    tables = f"{room}/own.tables"
+    ran = run_in(program, ["compile", "--cldr", FOLDER, "-l", "sv", "--rules", "&a<z", "-o", tables])
+    ran = run_in(program, ["compare", "--tables", tables, "z", "b"]) if ran.status == 0 else ran
+    if ran.came_to() != (1, b"<\n", b""):
+        found.append(f"compile --rules: {ran}")
+    for words, status, said in [
+        (["--tables", tables, "--rules", path], 2, b"'--rules"),
+        (["--cldr", FOLDER, "--rules", f"{room}/none"], 3, b"none: No such file or directory\n"),
+        (["--cldr", f"{room}/none", "--root", f"{FOLDER}/common/uca/FractionalUCA.txt", "--rules", "[import sv]"], 3,
+         b"root.xml: No such file or directory;"),
+        (["--cldr", f"{room}/none", "--root", f"{FOLDER}/common/uca/FractionalUCA.txt", "--rules", "&z<a"], 1, b""),
+    ]:
+        ran = run_in(program, ["compare", *words, "a", "b"])
+        if ran.status != status or said not in ran.faults:
+            found.append(f"{words}: {ran}; wanted: {status} {said}")
+    return found
+
+
+def wrong_said(program):
+    """What is wrong with what is said of tags: nothing with --quiet, and what to write for aliases that are too long."""
+    found = []
+    for tag, _, _ in NOTICED:
+        ran = run_in(program, ["compare", "--cldr", FOLDER, "-l", tag, "--quiet", "a", "a"])
+        if ran.came_to() != (0, b"=\n", b""):
+            found.append(f"{tag} --quiet: {ran}")
+    for tag, said in LONG_ALIASES:
+        ran = run_in(program, ["compare", "--cldr", FOLDER, "-l", tag, "a", "a"])
+        if ran.status != 2 or not ran.faults.decode().endswith(f": {said}\n"):
+            found.append(f"{tag}: {ran}; wanted: {said}")
     return found
 
 
@@ -254,6 +371,31 @@ def wrong_radicals(program, folder):
             found.append(f"{lines!r}: {ran}; wanted: {said!r}")
     with open(path, "w", encoding="utf-8") as it:
         it.write(whole)
+    return found
+
+
+def wrong_texts(program, room):
+    """Which files aren't read as they are: with a byte order mark and other line ends, and which damaged one isn't named with its line."""
+    folder, found = os.path.join(room, "texts"), []
+    shutil.copytree(FOLDER, folder)
+    for name, ends in ((f"{folder}/common/uca/FractionalUCA.txt", b"\r\n"), (f"{folder}{COLLATION}sv.xml", b"\r"),
+                       (f"{folder}{COLLATION}root.xml", b"\r\n")):
+        with open(name, "rb") as it:
+            text = it.read()
+        with open(name, "wb") as it:
+            it.write(b"\xef\xbb\xbf" + text.replace(b"\n", ends))
+    for tag, texts, sign in (("sv", "å z", ">"), ("sv-u-co-search", "wa vb", "<"), ("und", "å z", "<")):
+        ran = run_in(program, ["compare", "--cldr", folder, "-l", tag, "--", *texts.split(" ")])
+        if ran.came_to() != (SIGNS[sign], f"{sign}\n".encode(), b""):
+            found.append(f"{tag} {texts}: {ran}; wanted: {sign}")
+    path = f"{folder}{COLLATION}da.xml"
+    with open(path, "rb") as it:
+        lines = it.read().split(b"\n")
+    with open(path, "wb") as it:
+        it.write(b"\r\n".join([lines[0], lines[1] + b"\xff", *lines[2:]]))
+    ran = run_in(program, ["compare", "--cldr", folder, "-l", "da", "a", "b"])
+    if ran.came_to() != (3, b"", f"collate-cldr: {path}: line 2: expected UTF-8\n".encode()):
+        found.append(f"damaged UTF-8: {ran}")
     return found
 
 
@@ -305,5 +447,9 @@ def check_locales(report, room, program):
                len(SIGNED) + 2 * len(WRITTEN) + len(NOTICED) + len(ENVIRONMENTS))
     refusals = len(REFUSED) + len(NO_ORDERS) + len(RADICALS) + 1
     report.say("collate-cldr: rules and files that are refused", wrong_refusals(program, room), refusals)
+    report.say("collate-cldr: rules of one's own", wrong_own_rules(program, room),
+               2 * len(OWN_RULES) + len(RULE_FILES) + len(WRONG_RULES) + 5)
+    report.say("collate-cldr: what is said of tags", wrong_said(program), len(NOTICED) + len(LONG_ALIASES))
+    report.say("collate-cldr: files in other forms of text", wrong_texts(program, room), 4)
     report.say("collate-cldr: locales that are listed", wrong_lists(program), 1)
     report.say("collate-cldr: lines by languages", wrong_sorts(program), 3)

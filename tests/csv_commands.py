@@ -54,9 +54,11 @@ WRONG_WORDS = [
 ]
 # Further words, an input that is refused, and what is said.
 REFUSED = [
-    (["--header", "--column", "c"], "a,b\n", "line 1: no column 'c'"),
-    (["--header", "--column", "0"], "a,b\n", "line 1: no column '0'"),
-    (["--header", "--column", "c"], "", "line 1: no column 'c'"),
+    (["--header", "--column", "c"], "a,b\n", "line 1: no column 'c'; the columns are: a, b"),
+    (["--header", "--column", "0"], "a,b\n", "line 1: no column '0'; the columns are: a, b"),
+    (["--header", "--column", "c"], "", "line 1: no column 'c'; the columns are: "),
+    (["--header", "--column", "c"], '"\x1b\n",b\n', "line 1: no column 'c'; the columns are: \\u{1b}\\n, b"),
+    (["--header", "--column", "b", "--column", "a"], "a,b,a\n", "line 1: several columns are 'a': name one by its number"),
     (["--column", "2"], 'a,b\n\n"c\nd",e\nf\n', "line 5: no column 2"),
     (["--header", "--column", "3"], "a,b\n1,2\n", "line 2: no column 3"),
     (["--column", "1"], 'a\n"b\n', "line 2: a quote isn't closed"),

@@ -98,6 +98,11 @@ def write_labels(folder):
 # ---- what a run does
 
 
+def unknown(tag):
+    """What is said of a tag whose language CLDR doesn't list."""
+    return f"collate-index: locale {tag}: no language of CLDR\n"
+
+
 def wrong_answers(program, room):
     """Runs in turn over one index, with what each has to say."""
     index = Index(program, room)
@@ -117,12 +122,13 @@ def wrong_answers(program, room):
         (("find", ""), "", 0, LISTED, ""),
         (("headings", "--labels", "A,M"), "", 0, HEADED, ""),
         (("headings", "--labels", "Z,B"), "", 0, HEADED_FROM_B, ""),
-        ((*labels, "xx"), "", 0, HEADED_BY_LOCALE, ""),
-        ((*labels, "xx_YY"), "", 0, HEADED_BY_LOCALE, ""),
+        ((*labels, "xx"), "", 0, HEADED_BY_LOCALE, unknown("xx")),
+        ((*labels, "xx", "--quiet"), "", 0, HEADED_BY_LOCALE, ""),
+        ((*labels, "xx_YY"), "", 0, HEADED_BY_LOCALE, unknown("xx-YY")),
         ((*labels, "yy"), "", 3, "",
-         "collate-index: yy: no labels; the folder of CLDR's data has none for this locale\n"),
-        ((*labels, "zz"), "", 3, "", f"collate-index: {data}/common/main/zz.xml: expected characters for an index in brackets, "
-         "as [A B {CH}]\n"),
+         f"{unknown('yy')}collate-index: yy: no labels; the folder of CLDR's data has none for this locale\n"),
+        ((*labels, "zz"), "", 3, "", f"{unknown('zz')}collate-index: {data}/common/main/zz.xml: expected characters for an index "
+         "in brackets, as [A B {CH}]\n"),
         (("between", "aB", "Mu"), "", 0, BETWEEN, ""),
         (("between", "z", "a"), "", 0, "", ""),
         (("remove", "mU"), "", 1, "", ""),
@@ -197,6 +203,23 @@ REFUSED_LOCALES = [
     (("list", "-l", "te-u-co-unsaid"), f"collate-index: {CLDR}/common/collation/te.xml, collation unsaid: &[before 2]a < b: "),
     (("list", "--root", os.path.join(CLDR, "none.txt")), f"collate-index: {CLDR}/none.txt: No such file or directory; "),
 ]
+# What is said of a locale whose order isn't just what is asked for, and with which words nothing is.
+NOTICED = [
+    ("xx", unknown("xx")),
+    ("sv-u-co-phonebk", "collate-index: locale sv-u-co-phonebk: no collation of the type phonebk; there are reformed search standard\n"),
+]
+
+
+def wrong_notices(program, room):
+    """What isn't said of a locale, or is said with --quiet."""
+    faults, file = [], os.path.join(room, "noticed.db")
+    for tag, said in NOTICED:
+        for words, wanted in ((["-l", tag], said), (["-l", tag, "--quiet"], "")):
+            done = subprocess.run([program, "rebuild" if os.path.exists(file) else "add", "--cldr", CLDR, file, *words],
+                                  input=b"", capture_output=True, check=False)
+            if done.returncode or done.stderr.decode() != wanted:
+                faults += [f"{words}: status {done.returncode}, {done.stderr.decode()!r}"]
+    return faults, 2 * len(NOTICED)
 
 
 def wrong_locales(program, room):
@@ -261,6 +284,7 @@ def check_collate_index(report, room, program, shim, in_all_ways=False):
     report.say("collate-index: answers", *wrong_answers(program, made(room, "answers")))
     report.say("collate-index: refusals", *wrong_refusals(program, made(room, "refusals")))
     report.say("collate-index: orders of locales", *wrong_locales(program, made(room, "locales")))
+    report.say("collate-index: what is said of locales", *wrong_notices(program, made(room, "notices")))
     index = filled(program, os.path.join(room, "filled"), shim)
     for what, run, wanted in [
         ("added", (("add",), MORE), (LISTED, LISTED_WITH_MORE)),

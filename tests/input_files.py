@@ -56,7 +56,7 @@ def marks(folder):
 
 # Words that are no options, and the option that is named.
 NO_OPTIONS = [
-    (over("search", "-v", "-x"), "-x"),
+    (over("search", "-v", "-y"), "-y"),
     (over("search", "--strenght", "1", "resume"), "--strength"),
     (over("sort", "--revers"), "--reverse"),
     (over("compare", "-1", "a"), "-1"),

@@ -98,6 +98,18 @@ SEARCHES = [
     (["3", "-q"], "a", LINES, 0, ""),
     (["3", "-q"], "c", LINES, 1, ""),
     (["1", "--color=always"], "a", "bA\n", 0, f"b{ON}A{OFF}\n"),
+    (["1", "-x"], "ab", "ab\nAB\nabc\ná\u0301b\n", 0, "ab\nAB\ná\u0301b\n"),
+    (["3", "-x"], "ab", "ab\nAB\nabab\n\n", 0, "ab\n"),
+    (["3", "-vx"], "ab", "ab\n\nabab\n", 0, "\nabab\n"),
+    (["3", "-xo"], "ab", "ab\nabab\n", 0, "ab\n"),
+    (["3", "-x"], "", "a\n\n", 0, "\n"),
+    (["1", "-m1"], "a", LINES, 0, "á\n"),
+    (["1", "-nm", "2"], "a", LINES, 0, "2:á\n3:bA\n"),
+    (["1", "-vm1"], "a", "a\nb\na\nb\n", 0, "b\n"),
+    (["1", "-cm2"], "a", LINES, 0, "2\n"),
+    (["1", "-om1"], "a", "aA\na\n", 0, "a\nA\n"),
+    (["1", "-m0"], "a", LINES, 1, ""),
+    (["1", "--max-count=9"], "a", LINES, 0, "á\nbA\na b\nab\n"),
 ]
 # Further words, the input, and the status and the output that are wanted: at the strength 3, where no other is said.
 PATTERNS = [
@@ -167,6 +179,13 @@ def wrong_missing(program, letters, one, two):
         (["-e", "a", one], 0, b"a\n", b""),
         (["-e", "a", "-e", "b", one, two], 0, f"{one}:a\n{one}:b\n{two}:b\n".encode(), b""),
         (["b", "/", two], 3, f"{two}:b\n".encode(), b"collate-cldr: /: Is a directory\n"),
+        (["-f", two, one], 0, b"b\n", b""),
+        (["-f", one, "-h", one, two], 0, b"a\nb\nb\n", b""),
+        (["-f", two, "-e", "a", one], 0, b"a\nb\n", b""),
+        (["-f", "/dev/null", one], 1, b"", b""),
+        (["-f", "absent", one], 3, b"", said),
+        (["-m1", "b", one, two], 0, f"{one}:b\n{two}:b\n".encode(), b""),
+        (["-m", "x", "b", one], 2, b"", b"collate-cldr: --max-count takes a number from 0 on\n"),
     ]
     for words, *wanted in rows:
         ran = run(program, over(letters, "search", "3", *words))

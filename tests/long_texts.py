@@ -1,8 +1,8 @@
 """Long texts, whose comparisons and keys are timed: calls on a text that is four times as long may take at most twice as long as
 four times as many calls on the text.
 
-Both have as many characters to read, so their times are alike where time is in proportion to the text, and reading the questions and
-making a collator are a small part of either. The least of several times counts.
+Both have as many characters to read, in the questions too: each call is a question of its own. So their times are alike if time is in
+proportion to the text. Making a collator is a small part of either. The least of several times counts.
 """
 from hostile_tables import Builder, Reordering
 from timing import ATTEMPTS, Slowed, Times, lasting_faults
@@ -34,13 +34,13 @@ class LongTexts:
         left, right = ("c " + " ".join(repeated(*part) for part in parts) for parts in self.texts(size))
         identical, primary = self.settings
         _, length = self.wanted(size)
-        asked = [f"make {identical}", f"times {times:X}", f"compare {left} , {right}", f"make {primary}"]
-        return [*self.made, *asked, f"slice {length:X} {left}"]
+        compared, written = [f"compare {left} , {right}"] * times, [f"slice {length:X} {left}"] * times
+        return [*self.made, f"make {identical}", *compared, f"make {primary}", *written]
 
     def is_right(self, size, answers):
-        *made, order, primary, key = answers
         wanted, length = self.wanted(size)
-        return {*made, primary} == {"ok"} and order == wanted and key.startswith(f"ok {length:X} :")
+        key = f"ok {length:X} :"
+        return {key if it.startswith(key) else it for it in answers} == {"ok", wanted, key}
 
 
 class LongElements:

@@ -32,6 +32,7 @@ from reads import check_reads
 from refusals import check_refusals, driver_is_right, other_answers_missed
 from rows import check_rows
 from settings_pairs import check_settings
+from slow_searches import check_slow_searches
 from sweeps import REQUESTS, TESTS, Run, built, faults_of, losses_missed, run, run_on_streams, says_refusals, sweep, wrapped, wrong_over
 from timed_files import check_files
 from vendored import check_vendor
@@ -343,6 +344,7 @@ def check_all(report, room):
     report.also("pages", check_examples)
     report.also("collate", check_collate, room, shim)
     report.also("collate-cldr", check_collate_cldr, room, shim)
+    report.also("searches that are made to be slow", check_slow_searches, room, built("collate_cldr"))
     report.also("collate-index", check_collate_index, room, built("collate_index"), compiled(room, "stop", "-shared", "-fPIC"))
     report.also("sort_names", check_sort_names, shim)
     report.also("calls", check_calls)

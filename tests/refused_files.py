@@ -15,7 +15,7 @@ DOCUMENTS = [
     ("<a><!-- b", 1, 8, "the file ends within an element, a tag, a comment or a section"),
     ("<a b='1", 1, 6, "the file ends within an element, a tag, a comment or a section"),
     ("<a>\x07</a>", 1, 4, "expected no control character"),
-    ("<a>\r\n</a>", 1, 4, "expected no control character"),
+    ("<a>\r\n\x07</a>", 2, 1, "expected no control character"),
     ("<?xml version='1.1'?><a/>", 1, 1, "expected the declaration of XML 1.0 in UTF-8"),
     ("<?xml version='1.0' encoding='latin1'?><a/>", 1, 1, "expected the declaration of XML 1.0 in UTF-8"),
     ("<a><?php ?></a>", 1, 4, "expected no processing instruction"),

@@ -156,7 +156,7 @@ def wrong_versions(program, room):
     folder, found = os.path.join(room, "unversioned"), []
     shutil.copytree(FOLDER, folder)
     file, out = f"{folder}/common/dtd/ldml.dtd", f"{folder}/out"
-    for text, status, said in [(b"41", 0, b""), (b"\xff", 3, f"collate-cldr: {file}: stream did not contain valid UTF-8\n".encode()), (None, 0, b"")]:
+    for text, status, said in [(b"41", 0, b""), (b"\xff", 3, f"collate-cldr: {file}: line 1: expected UTF-8\n".encode()), (None, 0, b"")]:
         os.remove(file)
         if text is not None:
             with open(file, "wb") as it:
