@@ -94,7 +94,7 @@ SIGNED = [
     (["-l", "da-u-ks-level1"], "A a", "="),
     (["-l", "da-u-ks-level1", "--strength=3"], "A a", "<"),
     (["-l", "sv-u-kn"], "10 9", ">"),
-    # The same by CLDR's aliases of types that a tag can have.
+    # Settings of tags by CLDR's aliases of their types, if a tag can have them.
     (["-l", "sv-u-kn-yes"], "10 9", ">"),
     (["-l", "da-u-ks-primary"], "A a", "="),
     (["-l", "da-u-kf-false-ks-tertiary"], "A a", ">"),
