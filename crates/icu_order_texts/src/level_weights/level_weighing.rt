@@ -7,7 +7,7 @@ use icu_order_levels::forms::KeyForm;
 use icu_table_provider::CollationReordering;
 
 /// How a level weighs elements.
-#[derive(Clone, Copy)]
+#[derive(Clone, Copy, Debug)]
 pub struct LevelWeighing<'t> {
     /// Which level.
     pub level: OrderLevel,
@@ -28,7 +28,7 @@ impl<'t> LevelWeighing<'t> {
     ghost use Rattle.icu_order_texts.specs.weighting.VariableWeightings.{handled_after};
 
     /// How variable elements are handled, before the first element.
-    pub(crate) fn handles(&self) -> VariableWeighting
+    pub fn handles(&self) -> VariableWeighting
         ensures { (es : List Element) → handled_after result es
             ≡ handled self.now.handling self.now.last_variable false es }
     {

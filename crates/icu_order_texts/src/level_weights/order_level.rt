@@ -1,7 +1,7 @@
 //! The levels of a collation.
 
 /// A level of a collation, in their order (UTS #10, "Multi-Level Comparison"; UTS #35 part 5, "Case Parameters").
-#[derive(Clone, Copy, PartialEq, Eq)]
+#[derive(Clone, Copy, Debug, PartialEq, Eq)]
 pub enum OrderLevel {
     /// Base letters.
     Primary,

@@ -148,7 +148,7 @@ impl<'t> LevelWeighing<'t> {
     }
 
     /// The weight that the level has for the next of some elements, if it has one.
-    pub(crate) fn next_weight(
+    pub fn next_weight(
         &self,
         handles: &mut VariableWeighting,
         element: CollationElement,
