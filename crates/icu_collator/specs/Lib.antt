@@ -20,6 +20,7 @@ pub use Rattle.icu_key_writers.specs.Sinks
 pub use Rattle.icu_key_writers.specs.KeyWrites
 pub mod Collators
 pub mod HandledRests
+pub mod LevelWeighings
 pub mod NameOrders
 pub mod inner
 pub mod sort

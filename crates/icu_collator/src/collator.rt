@@ -16,6 +16,7 @@ ghost use Rattle.icu_table_provider.specs.SpecialPrimaries.{is_compressible};
 ghost use Rattle.icu_key_texts.specs.Compressions.{table_compression};
 ghost use Rattle.icu_order_texts.specs.Forms.{compression_of, form_by, last_variable_by};
 ghost use Rattle.icu_order_texts.specs.TextOrder.{reading_by, handled_elements, handled_by};
+ghost use Rattle.icu_order_texts.specs.level_weights.Weighings.{weighing_of};
 ghost use Rattle.icu_order_texts.specs.weighting.CheckedCollations.{collation_of};
 ghost use Rattle.icu_order_levels.specs.CommonBeginnings.{ReadsForward};
 ghost use Rattle.icu_element_facts.specs.KeptFacts.{AreFirstFacts};
@@ -35,6 +36,7 @@ use icu_options::{
     merged_options,
 };
 use icu_order_levels::forms::{KeyForm, SecondaryForm};
+use icu_order_texts::level_weights::{LevelWeighing, OrderLevel};
 use icu_order_texts::weighting::{key_form, last_variable};
 use icu_table_check::{checked_owned, checked_set};
 use icu_table_entries::{CollationElement, DataError, DataErrorKind, DataTable};
@@ -280,6 +282,7 @@ pub struct CollatorBorrowed<'a> {
 impl<'a> CollatorBorrowed<'a> {
     ghost use Rattle.icu_collator.specs.Collators.{collation_borrowed, settings_borrowed, tables_borrowed};
     ghost use Rattle.icu_collator.specs.HandledRests.{handled_to_come, plain_to_come, steady_to_come};
+    ghost use Rattle.icu_collator.specs.LevelWeighings.{weighing_by};
     ghost use Rattle.icu_collator.specs.inner.KeyElements.{handled_for_key, plain_for_key};
 
     /// The settings that the collator works by.
@@ -355,6 +358,19 @@ impl<'a> CollatorBorrowed<'a> {
         ensures { result ≡ last_variable_by (collation_borrowed self.now) }
     {
         self.last_variable
+    }
+
+    /// How a level weighs elements.
+    pub fn level_weighing(&self, level: OrderLevel) -> LevelWeighing<'a>
+        ensures { weighing_of result ≡ weighing_by (collation_borrowed self.now) level }
+    {
+        LevelWeighing {
+            level,
+            form: self.form,
+            reordering: self.tables.reordering(),
+            handling: self.settings.alternate_handling(),
+            last_variable: self.last_variable,
+        }
     }
 
     /// How primary weights are written in keys.

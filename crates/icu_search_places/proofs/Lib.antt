@@ -14,3 +14,4 @@ pub mod SelectionLemmas
 pub mod DecompositionTails
 pub mod LeaderSplits
 pub mod EquivalentTextLemmas
+pub mod LevelWalkLemmas

@@ -12,3 +12,4 @@ pub mod SpansLeft
 pub mod inner
 pub mod place_reader
 pub mod indexed_text
+pub mod LevelWalks

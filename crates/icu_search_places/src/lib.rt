@@ -10,6 +10,7 @@ mod char_span;
 mod found_spans;
 pub mod indexed_text;
 pub mod laws;
+pub mod level_walks;
 mod match_ends;
 pub mod place_reader;
 

@@ -5,9 +5,8 @@ use Rattle.icu_options.specs.Settings.{Settings}
 use Rattle.icu_options.specs.declared.settings.Strength.{Strength}
 use Rattle.icu_options.specs.declared.settings.Strength.TheVariants as strengths
 use Rattle.icu_order_texts.specs.weighting.Collations.{Collation}
-use Rattle.icu_order_texts.specs.weighting.Forms.{form_by, last_variable_by}
 use Rattle.icu_order_texts.specs.TextOrder.{reading_by, text_order}
-use Rattle.icu_order_texts.specs.level_weights.Weighings.{Weighing}
+use Rattle.icu_collator.specs.LevelWeighings.{weighing_by}
 use Rattle.text_reasons.specs.DecidingParts.{deciding_part}
 use Rattle.icu_order_texts.specs.declared.level_weights.order_level.OrderLevel.{OrderLevel}
 use Rattle.icu_order_texts.specs.declared.level_weights.order_level.OrderLevel.TheVariants.{Primary, Secondary, Case, Tertiary, Quaternary, Identical}
@@ -103,16 +102,6 @@ first_differing c t u (l ∷ ls) = if differ_by c t u l then Some l else first_d
 -- the level that decides the order of two texts, if they differ
 abbrev pub deciding_level : Collation → List ℕ → List ℕ → Option OrderLevel
 deciding_level c t u = first_differing c t u all_levels
-
--- how a level of a collation weighs elements
-abbrev pub weighing_by : Collation → OrderLevel → Weighing
-weighing_by c l = record {
-  level = l;
-  form = form_by c;
-  reordering = c.tables.reordering;
-  handling = c.settings.alternate_handling;
-  last_variable = last_variable_by c;
-}
 
 -- the characters of a text that decide at a level, beside another text
 abbrev pub deciding_part_by : Collation → OrderLevel → List ℕ → List ℕ → List ℕ
