@@ -17,7 +17,7 @@ use Rattle.icu_search_places.proofs.LeastLemmas.{ShortestOf, ShortestOf-shortest
 use Rattle.icu_search_places.proofs.SearchPieceLemmas.{place_before}
 use Rattle.icu_search.specs.inner.BarrenParts.{IsBarren, IsBarrenWithin, GoesOnAtCut, NoneBegins, NoneFrom, Repeats}
 use Rattle.icu_search.specs.inner.CountedChars.{CountsAlone}
-use Rattle.icu_search.specs.inner.PartOutcomes.{equals_pattern}
+use Rattle.icu_search.specs.inner.EqualParts.{equals_pattern}
 use Rattle.icu_search.specs.inner.SearchCuts.{BeginsPieceAt, EndsPieceAt}
 use Rattle.icu_search.proofs.CountedWalks.{CountedTo, left_counted, total_is, weight_count}
 use Rattle.icu_search.proofs.LongerPartLemmas.{lists_grow, too_few, too_many, unlike_count}

@@ -20,7 +20,7 @@ use Rattle.icu_search_places.specs.SearchPlaces.{is_place}
 use Rattle.icu_search_places.specs.Searches.{Search, is_match}
 use Rattle.icu_search.specs.inner.CountedChars.{CountsAlone}
 use Rattle.icu_search.specs.inner.FirstWeights.{counted_primaries}
-use Rattle.icu_search.specs.inner.PartOutcomes.{ends_match, equals_pattern}
+use Rattle.icu_search.specs.inner.EqualParts.{ends_match, equals_pattern}
 use Rattle.icu_search.specs.inner.SearchCuts.{CutsAt, EndsPieceAt}
 use Rattle.icu_search.proofs.FirstWeightLemmas.{primaries_counted, counted-append, nothing}
 use Rattle.icu_search.proofs.LongerPartLemmas.{too_many, unlike_count}

@@ -1,5 +1,6 @@
 pub mod ShortestLemmas
 pub mod LongerPartLemmas
+pub mod PartLevelLemmas
 pub mod PartWalks
 pub mod OverlappingLemmas
 pub mod AllowedLemmas

@@ -11,12 +11,14 @@ use Rattle.unicode_normalization.specs.Forms.{nfd}
 use Rattle.icu_order_levels.specs.Keys.{LevelLists, primaries_order}
 use Rattle.icu_order_levels.proofs.Order.{tied_lists}
 use Rattle.icu_order_levels.specs.CommonBeginnings.{HasFront}
-use Rattle.icu_element_reading.specs.TextElements.{Reading}
+use Rattle.icu_table_entries.specs.Elements.{Element}
+use Rattle.icu_element_reading.specs.TextElements.{Reading, elements_after, elements_of}
+use Rattle.icu_element_reading.specs.boundaries.LeftContexts.{context_left}
 use Rattle.icu_order_texts.specs.weighting.Collations.{Collation}
 use Rattle.icu_order_texts.specs.weighting.Forms.{compression_of}
 use Rattle.icu_order_texts.specs.TextOrder.{reading_by, lists_by, text_order}
 use Rattle.icu_search_places.specs.SearchPlaces.{is_place, is_place_before}
-use Rattle.icu_search_places.proofs.SearchPartLemmas.{lists_begin, part_has_places}
+use Rattle.icu_search_places.proofs.SearchPartLemmas.{lists_begin, part_has_places, read_as_in_whole}
 
 -- orders in turn are equal only if the first one is
 pub first_tied : (o next : Ordering) → ordering_then o next ≡ Equal → o ≡ Equal
@@ -32,11 +34,14 @@ inner_place reading text k after before here =
     let inner = is_place_before reading text (drop k text) in
     sym (ap (λ b. b || k == length text || inner) (ne_eqb k 0 not_first) ∙ ap (λ b. false || b || inner) (ne_eqb k (length text) not_last)) ∙ here
 
--- the lists of a longer part begin with those of a shorter one, both up to places
-pub lists_grow : (c : Collation) (text : List ℕ) (i j : ℕ) → 0 < i → i < j → j ≤ length text → is_place (reading_by c) text i ≡ true → is_place (reading_by c) text j ≡ true
-    → (rest : LevelLists) × HasFront (lists_by c (nfd (take i text))) (lists_by c (nfd (take j text))) rest
-lists_grow c text i j some rises within first last =
-    let reading = reading_by c in
+-- A longer part is a shorter one, and more after a place of it.
+record PartGrows (reading : Reading) (text : List ℕ) (i j : ℕ) : Type 0 where
+  pub back : List ℕ
+  pub part : take j text ≡ take i text ++ back
+  pub place : is_place_before reading (take i text ++ back) back ≡ true
+
+part_grows : (reading : Reading) (text : List ℕ) (i j : ℕ) → 0 < i → i < j → j ≤ length text → is_place reading text i ≡ true → is_place reading text j ≡ true → PartGrows reading text i j
+part_grows reading text i j some rises within first last =
     let front = take i text in
     let n = j - (i + 1) in
     let d = get_or text i 0 in
@@ -64,8 +69,26 @@ lists_grow c text i j some rises within first last =
           let all : d ∷ mid ++ back ≡ d ∷ mid = ap (λ (l : List ℕ). d ∷ mid ++ l) none ∙ append-nil (d ∷ mid) in
           subst (λ (l : List ℕ). is_place_before reading (front ++ l) l ≡ true) all there
     ] in
-    let grown = lists_begin c front (d ∷ mid) alone in
-    (grown.0, subst (λ (t : List ℕ). HasFront (lists_by c (nfd front)) (lists_by c (nfd t)) grown.0) (sym part) grown.1)
+    record { back = d ∷ mid; part = part; place = alone }
+
+-- the lists of a longer part begin with those of a shorter one, both up to places
+pub lists_grow : (c : Collation) (text : List ℕ) (i j : ℕ) → 0 < i → i < j → j ≤ length text → is_place (reading_by c) text i ≡ true → is_place (reading_by c) text j ≡ true
+    → (rest : LevelLists) × HasFront (lists_by c (nfd (take i text))) (lists_by c (nfd (take j text))) rest
+lists_grow c text i j some rises within first last =
+    let front = take i text in
+    let g = part_grows (reading_by c) text i j some rises within first last in
+    let grown = lists_begin c front g.back g.place in
+    (grown.0, subst (λ (t : List ℕ). HasFront (lists_by c (nfd front)) (lists_by c (nfd t)) grown.0) (sym g.part) grown.1)
+
+-- and so do its elements
+pub elements_grow : (reading : Reading) (text : List ℕ) (i j : ℕ) → 0 < i → i < j → j ≤ length text → is_place reading text i ≡ true → is_place reading text j ≡ true
+    → (more : List Element) × (elements_of reading (nfd (take j text)) ≡ elements_of reading (nfd (take i text)) ++ more)
+elements_grow reading text i j some rises within first last =
+    let front = take i text in
+    let g = part_grows reading text i j some rises within first last in (
+      elements_after reading (context_left reading [] (nfd front)) (nfd g.back),
+      ap (λ (t : List ℕ). elements_of reading (nfd t)) g.part ∙ read_as_in_whole reading front g.back g.place,
+    )
 
 -- ---- parts with another number of primary weights than the pattern
 

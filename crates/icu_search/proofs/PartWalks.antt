@@ -1,11 +1,12 @@
 -- A walk along a text from a place of it: what it has passed, and what the part behind it tells.
-use Rattle.std.proofs.Common.{◌≡◌, ℕ, ◌+◌, ◌-◌, ◌<◌, ◌≤◌, Bool, true, false, ◌&&◌, nat_le, List, [], ◌∷◌, ◌++◌, Option, Some, None, length, take, drop, refl, sym, ap, ◌∙◌, arith, inl, inr, append_assoc, length-append}
+use Rattle.std.proofs.Common.{◌≡◌, ℕ, ◌+◌, ◌-◌, ◌<◌, ◌≤◌, Bool, true, false, ◌&&◌, nat_le, List, [], ◌∷◌, ◌++◌, Option, Some, None, length, take, drop, refl, sym, ap, ◌∙◌, subst, arith, inl, inr, append_assoc, length-append}
 use Rattle.std.specs.Prelude.{slice_range}
 use Rattle.std.specs.Option.{option_map}
 use Rattle.std.proofs.lemmas.Bool.{cases_Bool, cases_lt, and_from, and_parts, le-leb}
 use Rattle.std.proofs.lemmas.List.{length-drop, take_at, append-nil}
 use Rattle.std.proofs.Math.Bool.{and-false}
 use Rattle.unicode_normalization.specs.Forms.{nfd}
+use Rattle.icu_table_entries.specs.Elements.{Element}
 use Rattle.icu_element_reading.specs.TextElements.{Reading, elements_of}
 use Rattle.icu_order_texts.specs.weighting.Collations.{Collation}
 use Rattle.icu_order_texts.specs.TextOrder.{reading_by}
@@ -14,9 +15,12 @@ use Rattle.icu_search_places.specs.SearchPlaces.{is_place}
 use Rattle.icu_search_places.specs.Searches.{Search, is_match}
 use Rattle.icu_search_places.specs.declared.place_reader.place_reader.PlaceReader.{PlaceReader}
 use Rattle.icu_search_places.specs.place_reader.PlaceReaders.{HasPassed, PassesChar, chars_left, elements_read, places_reading}
-use Rattle.icu_search.specs.inner.PartOutcomes.{equals_pattern, ends_match, HasMorePrimaries}
+use Rattle.icu_search.specs.inner.EqualParts.{equals_pattern, ends_match}
 use Rattle.icu_search.proofs.ShortestLemmas.{NoneTo, none_found, one_found, none_more, none_at_start}
-use Rattle.icu_search.proofs.LongerPartLemmas.{too_many}
+use Rattle.icu_search.specs.inner.PartLevels.{HasGone, RulesOut}
+use Rattle.icu_search.specs.inner.PartOutcomes.{AreItsLevels}
+use Rattle.icu_search.specs.declared.pattern_levels.PartLevels.{PartLevels}
+use Rattle.icu_search.proofs.LongerPartLemmas.{lists_grow, elements_grow}
 
 -- ---- the test of a match
 
@@ -103,6 +107,21 @@ module _ (s : Search) (text : List ℕ) (start : ℕ) where
 
   -- ---- the walk
 
+  -- the elements of each part that ends behind an offset begin with these
+  abbrev GrowFrom : ℕ → List Element → Type 0
+  GrowFrom stop es =
+      (t : ℕ) → stop < t → t ≤ length text → is_place (reading_by c) rest (t - start) ≡ true
+      → (more : List Element) × (elements_of (reading_by c) (nfd (slice_range text start t)) ≡ es ++ more)
+
+  -- the levels have gone along elements with which those of each longer part begin
+  pub record WalkedAlong (v : PartLevels) (stop : ℕ) : Type 0 where
+    pub elements : List Element
+    pub gone : HasGone s v elements
+    pub grow : GrowFrom stop elements
+
+  pub along_begins : (v : PartLevels) (stop : ℕ) → HasGone s v [] → WalkedAlong v stop
+  along_begins v stop gone = record { elements = []; gone = gone; grow = λ t after before there. (elements_of (reading_by c) (nfd (slice_range text start t)), refl) }
+
   module _ {I : Type 0} (steps : I → Option ℕ → I → Type 0) where
     -- it has come to an offset, and none of those up to there ends a match
     pub record WalkedTo (r : PlaceReader I) (stop : ℕ) : Type 0 where
@@ -174,28 +193,59 @@ module _ (s : Search) (text : List ℕ) (start : ℕ) where
       part_elements is =
           p.elements is ∙ ap (λ (r : Reading). elements_of r (nfd passed_now)) reads ∙ ap (λ (l : List ℕ). elements_of (reading_by c) (nfd l)) (sym part_is)
 
-      no_longer : here ≡ true → HasMorePrimaries s (slice_range text start (stop + 1)) → (t : ℕ) → stop + 1 < t → t ≤ length text → matches start t ≡ false
-      no_longer is many t after before =
+      no_longer : here ≡ true → RulesOut s (slice_range text start (stop + 1)) → (t : ℕ) → stop + 1 < t → t ≤ length text → matches start t ≡ false
+      no_longer is none t after before =
           let i = (stop + 1) - start in
           let j = t - start in
           let rises : i < j = omega (arith, after, w.stop_is) in
           let some : 0 < i = omega (arith, w.stop_is) in
           let room : j ≤ length rest = omega (arith, before, length-drop start text) in
           elim (cases_Bool (is_place (reading_by c) rest j)) [
-            | inl there ↦ not_ended t (ap (λ b. s.allowed t && b) (too_many c rest pattern i j some rises room (sym place_is ∙ is) there many) ∙ and-false (s.allowed t))
+            | inl there ↦
+                let grown = lists_grow c rest i j some rises room (sym place_is ∙ is) there in
+                not_ended t (ap (λ b. s.allowed t && b) (none (take j rest) grown.0 grown.1) ∙ and-false (s.allowed t))
             | inr not ↦ no_place t not
           ]
 
-      pub walk_too_long : here ≡ true → ends_match s (slice_range text start (stop + 1)) (stop + 1) ≡ false
-          → (elements_read new ≡ elements_of (reading_by c) (nfd (slice_range text start (stop + 1))) → HasMorePrimaries s (slice_range text start (stop + 1)))
+      pub walk_stops : here ≡ true → RulesOut s (slice_range text start (stop + 1)) × (ends_match s (slice_range text start (stop + 1)) (stop + 1) ≡ false)
           → option_map (span start) None ≡ shortest_from matches start start (length text - start)
-      walk_too_long is not more =
-          let so_far : NoneTo matches start (stop + 1) = none_more matches start stop w.none (not_here (λ _. not)) in
+      walk_stops is told =
+          let so_far : NoneTo matches start (stop + 1) = none_more matches start stop w.none (not_here (λ _. told.1)) in
           let after : start ≤ length text = omega (arith, within, w.stop_is) in
           sym (none_found matches start (length text) after (λ t from to. elim (cases_lt (stop + 1) t) as (λ _. matches start t ≡ false) [
-            | inl behind ↦ no_longer is (more (part_elements is)) t behind to
+            | inl behind ↦ no_longer is told.0 t behind to
             | inr before ↦ so_far t from before
           ]))
+
+      -- ---- the weights of the part
+
+      abbrev part : List ℕ
+      part = slice_range text start (stop + 1)
+
+      -- the elements of a longer part begin with those of this one
+      grows : here ≡ true → GrowFrom (stop + 1) (elements_of (reading_by c) (nfd part))
+      grows is t after before there =
+          elements_grow (reading_by c) rest ((stop + 1) - start) (t - start) (omega (arith, w.stop_is)) (omega (arith, after, w.stop_is)) (omega (arith, before, length-drop start text)) (sym place_is ∙ is) there
+
+      module _ (v : PartLevels) (u : PartLevels) (elements : List Element) (along : WalkedAlong v stop) (read : elements ≡ elements_read new)
+          (on : (es more : List Element) → HasGone s v es → here ≡ true → elements ≡ es ++ more → HasGone s u elements)
+          (stays : (es : List Element) → HasGone s v es → here ≡ false → HasGone s u es) where
+        gone_here : here ≡ true → HasGone s u (elements_of (reading_by c) (nfd part))
+        gone_here is =
+            let whole : elements ≡ elements_of (reading_by c) (nfd part) = read ∙ part_elements is in
+            let more = along.grow (stop + 1) (omega arith) within (sym place_is ∙ is) in
+            subst (HasGone s u) whole (on along.elements more.0 along.gone is (whole ∙ more.1))
+
+        -- the levels have gone along the elements of the part
+        pub its_levels : here ≡ true → AreItsLevels s part here u
+        its_levels is = record { place = is; gone = gone_here is }
+
+        pub walks_along : WalkedAlong u (stop + 1)
+        walks_along =
+            elim (cases_Bool here) [
+              | inl is ↦ record { elements = elements_of (reading_by c) (nfd part); gone = gone_here is; grow = grows is }
+              | inr not ↦ record { elements = along.elements; gone = stays along.elements along.gone not; grow = λ t after. along.grow t (omega (arith, after)) }
+            ]
 
     -- no character is left
     pub walk_ends : (r : PlaceReader I) (stop : ℕ) → WalkedTo r stop → start ≤ length text → chars_left r ≡ [] → option_map (span start) None ≡ shortest_from matches start start (length text - start)

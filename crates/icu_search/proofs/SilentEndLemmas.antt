@@ -19,7 +19,7 @@ use Rattle.icu_search_places.specs.SearchPlaces.{is_place}
 use Rattle.icu_search_places.specs.Searches.{Search, is_match}
 use Rattle.icu_search.specs.inner.AsciiMarks.{GivesNothing}
 use Rattle.icu_search.specs.inner.CountedChars.{AddsNothing}
-use Rattle.icu_search.specs.inner.PartOutcomes.{ends_match, equals_pattern}
+use Rattle.icu_search.specs.inner.EqualParts.{ends_match, equals_pattern}
 use Rattle.icu_search.proofs.CountedWalks.{first, longer, part}
 use Rattle.icu_search.proofs.PartWalks.{matches_there}
 use Rattle.icu_search.proofs.SilentElementLemmas.{left_behind, none_leave, silent_gives_none, same_below_order, same_lists_last}

@@ -22,7 +22,7 @@ use Rattle.icu_search_places.specs.Searches.{Search, is_match}
 use Rattle.icu_search.specs.inner.SilentStarts.{begins_with_primary, gives_none, IsSilentBefore, EndsAtTertiaries}
 use Rattle.icu_search.specs.inner.SilentTexts.{StartsSilently}
 use Rattle.icu_search.specs.inner.SearchCuts.{CutsAt}
-use Rattle.icu_search.specs.inner.PartOutcomes.{equals_pattern}
+use Rattle.icu_search.specs.inner.EqualParts.{equals_pattern}
 use Rattle.icu_search_places.proofs.SearchPartLemmas.{read_as_in_whole}
 use Rattle.icu_search_places.proofs.SearchPieceLemmas.{place_before, place_behind}
 use Rattle.icu_search.proofs.LongerPartLemmas.{inner_place}

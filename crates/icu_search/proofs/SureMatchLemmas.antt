@@ -8,7 +8,7 @@ use Rattle.icu_order_texts.specs.TextOrder.{reading_by}
 use Rattle.icu_search_places.specs.LeastMatches.{span, HoldsNoOther}
 use Rattle.icu_search_places.specs.Searches.{Search, is_match}
 use Rattle.icu_search.specs.inner.CountedChars.{CountsAlone}
-use Rattle.icu_search.specs.inner.PartOutcomes.{equals_pattern}
+use Rattle.icu_search.specs.inner.EqualParts.{equals_pattern}
 use Rattle.icu_search.specs.inner.SearchCuts.{EndsPieceAt}
 use Rattle.icu_search.proofs.CountedWalks.{no_weights, one_more_counted, weight_count}
 use Rattle.icu_search.proofs.LongerPartLemmas.{unlike_count}

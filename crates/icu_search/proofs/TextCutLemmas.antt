@@ -15,7 +15,7 @@ use Rattle.icu_search_places.specs.SearchPlaces.{is_place, is_place_before}
 use Rattle.icu_search_places.specs.Searches.{Search, is_match}
 use Rattle.icu_search_places.proofs.LeastLemmas.{ShortestOf, ShortestOf-shortest_from}
 use Rattle.icu_search_places.proofs.SearchPieceLemmas.{place_behind, place_before}
-use Rattle.icu_search.specs.inner.PartOutcomes.{equals_pattern}
+use Rattle.icu_search.specs.inner.EqualParts.{equals_pattern}
 use Rattle.icu_search.specs.inner.SearchCuts.{CutsAt, BeginsPieceAt, EndsPieceAt, IsPieceFrom}
 use Rattle.icu_search.proofs.LongerPartLemmas.{lists_grow}
 use Rattle.icu_search.proofs.PartWalks.{no_place, not_ended, empty_matches_not}

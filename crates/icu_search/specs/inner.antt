@@ -1,4 +1,6 @@
 -- Words of private contracts and proofs only: no public contract names them.
+pub mod EqualParts
+pub mod PartLevels
 pub mod PartOutcomes
 pub mod OnePrimaries
 pub mod FirstWeights

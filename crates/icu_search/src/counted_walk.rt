@@ -13,7 +13,7 @@ use std::alloc::AllocError;
 impl<'s, 'c> SearchedText<'s, 'c> {
     ghost use Rattle.icu_search.specs.SearchedTexts.{char_len_in, matches_in, searched_in, text_searched};
     ghost use Rattle.icu_search.specs.inner.CountedChars.{AddsNothing, CountsAlone};
-    ghost use Rattle.icu_search.specs.inner.PartOutcomes.{ends_match};
+    ghost use Rattle.icu_search.specs.inner.EqualParts.{ends_match};
 
     /// How many primary weights a character has by itself, if the text ends behind it or may be cut there. `None` says
     /// nothing.

@@ -4,7 +4,7 @@ ghost use Rattle.std.specs.Prelude.{◌≡◌, ◌+◌, ◌<◌, ◌≤◌, ℕ,
 ghost use Rattle.icu_search_places.specs.KnownParts.{SaysBarren};
 ghost use Rattle.icu_search_places.specs.LeastMatches.{EndsLaterMatch, TellsLeastStop};
 ghost use Rattle.icu_search.specs.inner.BarrenParts.{is_barren_in};
-ghost use Rattle.icu_search.specs.inner.PartOutcomes.{equals_pattern};
+ghost use Rattle.icu_search.specs.inner.EqualParts.{equals_pattern};
 
 use crate::searched_text::SearchedText;
 use icu_search_places::BarrenPart;
@@ -14,7 +14,7 @@ use std::alloc::AllocError;
 const FEW: usize = 3;
 
 /// So many characters at most are looked at together, whether they give nothing.
-const MOST_SILENT: usize = 32;
+const MOST_SILENT: usize = 1024;
 
 impl<'s, 'c> SearchedText<'s, 'c> {
     ghost use Rattle.icu_search.specs.SearchedTexts.{char_len_in, matches_in, searched_in};
@@ -38,23 +38,53 @@ impl<'s, 'c> SearchedText<'s, 'c> {
     }
 
     /// Up to where the characters from an offset on are looked at together: to where the text may be cut, if that is
-    /// near.
-    fn near_cut(&self, start: usize) -> usize
+    /// near, before a character that has a primary weight first where that is asked for.
+    fn near_cut(&self, start: usize, leads: bool) -> usize
         requires { start < char_len_in self.now }
         ensures behind { start < result }
         ensures within { result ≤ char_len_in self.now }
     {
         let count = self.text.char_count();
         for cut in start + 1..count {
-            if self.cuts_at(cut) || cut - start >= MOST_SILENT {
+            let is_cut = self.cuts_at(cut) && (!leads || self.leads_at(cut));
+            if is_cut || cut - start >= MOST_SILENT {
                 return cut;
             }
         }
         start + 1
     }
 
+    /// Whether a character has a primary weight first, by itself. False says nothing.
+    fn leads_at(&self, at: usize) -> bool {
+        match self.text.characters().get(at) {
+            Some(c) => self.searcher.leads(*c),
+            None => false,
+        }
+    }
+
     /// Whether each match behind an offset that begins there ends where one does that begins later, since the
-    /// characters there, up to where the text may be cut, give nothing that counts. False says nothing.
+    /// characters there, up to another offset, give nothing that counts. False says nothing.
+    fn is_silent_to(&self, start: usize, cut: usize) -> bool
+        requires some { equals_pattern (searched_in self.now) [] ≡ false }
+        requires behind { start < cut }
+        requires within { cut ≤ char_len_in self.now }
+        ensures { IsTrue result → (stop : ℕ) → start < stop → matches_in self.now start stop ≡ true
+            → EndsLaterMatch (matches_in self.now) start stop }
+    {
+        if !self.cuts_at(cut) {
+            return false;
+        }
+        let text = self.text.characters();
+        let (first, rest) = text[start..].split_at(cut - start);
+        if !self.searcher.passes_silent(first, rest) {
+            return false;
+        }
+        self.is_allowed(cut)
+    }
+
+    /// Whether each match behind an offset that begins there ends where one does that begins later, since the
+    /// characters there give nothing that counts: those up to where the text may be cut, or up to where it may be cut
+    /// before a primary weight. False says nothing.
     fn begins_silently(&self, start: usize) -> bool
         requires some { equals_pattern (searched_in self.now) [] ≡ false }
         ensures { IsTrue result → (stop : ℕ) → start < stop → matches_in self.now start stop ≡ true
@@ -67,15 +97,14 @@ impl<'s, 'c> SearchedText<'s, 'c> {
         if !self.searcher.gives_nothing(text[start]) {
             return false;
         }
-        let cut = self.near_cut(start);
-        if !self.cuts_at(cut) {
+        let near = self.near_cut(start, false);
+        if self.is_silent_to(start, near) {
+            return true;
+        }
+        if !self.searcher.is_shifted(&text[start..near]) {
             return false;
         }
-        let (first, rest) = text[start..].split_at(cut - start);
-        if !self.searcher.passes_silent(first, rest) {
-            return false;
-        }
-        self.is_allowed(cut)
+        self.is_silent_to(start, self.near_cut(start, true))
     }
 
     /// Whether no least match begins at an offset and ends at `last` or before, as the characters tell with which what

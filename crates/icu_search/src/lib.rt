@@ -20,6 +20,7 @@ mod part_match;
 mod part_outcome;
 mod part_walk;
 mod passed_starts;
+mod pattern_levels;
 mod pattern_weights;
 mod search_calls;
 mod searched_text;

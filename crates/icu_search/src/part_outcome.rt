@@ -7,5 +7,5 @@ pub(crate) enum PartOutcome {
     /// It isn't one, and a longer one may be.
     GoesOn,
     /// It isn't one, and no longer one is.
-    TooLong,
+    Ends,
 }

@@ -8,14 +8,16 @@ ghost use Rattle.icu_search_places.specs.place_reader.PlaceReaders.{CanPass, Has
 ghost use Rattle.icu_order_texts.specs.TextOrder.{reading_by};
 
 use crate::part_outcome::PartOutcome;
+use crate::pattern_levels::PartLevels;
 use crate::searched_text::SearchedText;
-use icu_element_reading::CollationElement;
+use icu_search_places::level_walks::LevelFit;
 use icu_search_places::place_reader::PlaceReader;
 use std::alloc::AllocError;
 
 impl<'s, 'c> SearchedText<'s, 'c> {
     ghost use Rattle.icu_search.specs.SearchedTexts.{char_len_in, matches_in, searched_in, text_searched};
-    ghost use Rattle.icu_search.specs.inner.PartOutcomes.{TellsOfPart, equals_pattern};
+    ghost use Rattle.icu_search.specs.inner.EqualParts.{equals_pattern};
+    ghost use Rattle.icu_search.specs.inner.PartOutcomes.{TellsOfPart};
 
     /// Whether the part between two offsets is equal to the pattern.
     pub(crate) fn part_equals(&self, start: usize, stop: usize) -> Result<bool, AllocError>
@@ -28,30 +30,30 @@ impl<'s, 'c> SearchedText<'s, 'c> {
         Ok(self.searcher.equals(part.as_str()))
     }
 
-    /// What is told of the part between two offsets, whose elements are these if a place is at its end.
+    /// What is told of the part between two offsets, if a place is at its end, and the levels have gone along its
+    /// elements.
     fn outcome(
         &self,
         here: bool,
         start: usize,
         stop: usize,
-        elements: &[CollationElement],
+        levels: &PartLevels<'_, '_>,
     ) -> Result<PartOutcome, AllocError>
         requires ordered { start ≤ stop }
         requires within { stop ≤ char_len_in self.now }
         ensures { IfOk result (λ told. TellsOfPart (searched_in self.now)
-            (slice_range (text_searched self.now) start stop) stop here elements.now told) }
+            (slice_range (text_searched self.now) start stop) stop here levels.now told) }
     {
         if !here {
             return Ok(PartOutcome::GoesOn);
         }
-        if self.searcher.is_too_short(elements) {
-            return Ok(PartOutcome::GoesOn);
+        match levels.fit() {
+            LevelFit::Unlike => return Ok(PartOutcome::Ends),
+            LevelFit::Fewer => return Ok(PartOutcome::GoesOn),
+            LevelFit::Same => {}
         }
         if self.is_allowed(stop) && self.part_equals(start, stop)? {
             return Ok(PartOutcome::Matches);
-        }
-        if self.searcher.is_too_long(elements) {
-            return Ok(PartOutcome::TooLong);
         }
         Ok(PartOutcome::GoesOn)
     }
@@ -75,12 +77,14 @@ impl<'s, 'c> SearchedText<'s, 'c> {
             ≡ shortest_from (matches_in self.now) start start (char_len_in self.now - start)) }
     {
         let mut stop = start;
+        let mut levels = self.searcher.levels();
         'places: while let Some(here) = places.next()? {
             stop += 1;
-            let told = self.outcome(here, start, stop, places.elements())?;
+            levels.advance(here, places.elements());
+            let told = self.outcome(here, start, stop, &levels)?;
             match told {
                 PartOutcome::Matches => return Ok(Some(stop)),
-                PartOutcome::TooLong => return Ok(None),
+                PartOutcome::Ends => return Ok(None),
                 PartOutcome::GoesOn => {}
             }
         }

@@ -2,7 +2,7 @@
 
 ghost use Rattle.std.specs.Prelude.{◌≡◌, ◌<◌, ◌≤◌, ℕ, [], false, None, IsTrue};
 ghost use Rattle.icu_search_places.specs.LeastMatches.{TellsLeastStop};
-ghost use Rattle.icu_search.specs.inner.PartOutcomes.{equals_pattern};
+ghost use Rattle.icu_search.specs.inner.EqualParts.{equals_pattern};
 
 use crate::searched_text::SearchedText;
 

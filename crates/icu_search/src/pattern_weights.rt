@@ -27,7 +27,7 @@ fn counts(last: u32, primary: u32) -> bool
 }
 
 /// How many primary weights of these elements count, where the last variable one is this.
-pub(crate) fn counted(elements: &[CollationElement], last: u32) -> usize
+fn counted(elements: &[CollationElement], last: u32) -> usize
     ensures { result ≡ length (counted_primaries last elements.now) }
 {
     let mut count = 0;

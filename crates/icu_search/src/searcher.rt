@@ -6,17 +6,17 @@ ghost use Rattle.std.specs.Ordering.{is_eq};
 ghost use Rattle.icu_text_encodings.specs.DecodedTexts.{latin1_text, utf16_text, utf8_text};
 ghost use Rattle.icu_collator.specs.Collators.{collation_borrowed, collation_kept};
 ghost use Rattle.icu_element_reading.specs.Reading.{reading_of};
-ghost use Rattle.icu_element_reading.specs.TextElements.{elements_of};
 ghost use Rattle.icu_order_texts.specs.TextOrder.{reading_by, lists_by, text_order};
 ghost use Rattle.icu_order_texts.specs.Forms.{form_by, last_variable_by};
-ghost use Rattle.icu_search_places.specs.Searches.{found};
+ghost use Rattle.icu_search_places.specs.Searches.{Search, found};
 ghost use Rattle.unicode_normalization.specs.Forms.{nfd};
 ghost use Rattle.icu_search_places.specs.PieceLaws.{BeginsPieces};
 ghost use Rattle.icu_search.specs.inner.SilentStarts.{EndsAtTertiaries};
 ghost use Rattle.icu_search.specs.inner.SilentTexts.{StartsSilently};
 ghost use Rattle.icu_search.specs.inner.AsciiMarks.{BeginsCut, CountChars, GivesNothing, LeadsWithPrimary, MarkCuts, MarkLeading, MarkOthers, MarkSilent, OpensSilently};
+ghost use Rattle.icu_search.specs.inner.PartLevels.{AreLevelsOf, HasGone};
 ghost use Rattle.icu_search.specs.inner.FirstWeights.{AreApart, BeginsOtherwise, BeginsWith};
-ghost use Rattle.icu_search.specs.inner.PartOutcomes.{equals_pattern};
+ghost use Rattle.icu_search.specs.inner.EqualParts.{equals_pattern};
 
 use crate::apart_leads::apart_leads;
 use crate::ascii_marks::{
@@ -24,12 +24,15 @@ use crate::ascii_marks::{
     silent_marks,
 };
 use crate::first_weights::{KnownVariables, rules_out};
+use crate::pattern_levels::{PartLevels, PatternLevels};
 use crate::pattern_weights::{
-    counted, first_primaries, first_sure, known_count, reading_of_collator, weight_count,
+    first_primaries, first_sure, known_count, reading_of_collator, weight_count,
 };
-use crate::silent_starts::{ends_at_tertiaries, is_silent_alone, starts_silently};
+use crate::silent_starts::{
+    ends_at_tertiaries, first_element, is_shifted, is_silent_alone, starts_silently,
+};
 use icu_collator::{Collator, CollatorBorrowed};
-use icu_element_reading::{CollationElement, TextReading};
+use icu_element_reading::TextReading;
 use icu_search_places::indexed_text::utf8_copy;
 use icu_text_encodings::{Latin1Text, Utf8Text, Utf16Text};
 use std::alloc::{AllocError, Global};
@@ -46,6 +49,8 @@ pub struct Searcher<'c> {
     count: usize,
     /// The empty text is equal to the pattern.
     equals_empty: bool,
+    /// Its weights, level by level.
+    levels: PatternLevels<'c>,
     /// The primary weights with which it begins.
     first: Vec<u32>,
     /// Marks of lead bytes that are kept apart.
@@ -71,6 +76,8 @@ pub struct Searcher<'c> {
     ghost sure_is: { ForSome sure (λ p. last_variable_by (collation_borrowed collator) < p) },
     ghost count_is: { count ≡ length (lists_by (collation_borrowed collator)
         (nfd (chars (string_bytes pattern)))).primaries },
+    ghost levels_are: { AreLevelsOf (collation_borrowed collator)
+        (chars (string_bytes pattern)) levels },
     ghost equals_empty_is: { equals_empty ≡ is_eq (text_order (collation_borrowed collator) []
         (chars (string_bytes pattern))) },
 }
@@ -159,6 +166,7 @@ impl<'c> Searcher<'c> {
     {
         let borrowed = collator.as_borrowed();
         let count = weight_count(&borrowed, pattern.as_str())?;
+        let levels = PatternLevels::new(alloc, &borrowed, pattern.as_str())?;
         let sure = first_sure(&borrowed);
         let equals_empty = is_empty_text(&borrowed, pattern.as_str());
         let known = KnownVariables {
@@ -179,6 +187,7 @@ impl<'c> Searcher<'c> {
             sure,
             count,
             equals_empty,
+            levels,
             first,
             apart,
             cuts,
@@ -363,6 +372,22 @@ impl<'c> Searcher<'c> {
         ends_at_tertiaries(&self.collator) && starts_silently(&self.collator, first, rest)
     }
 
+    /// Whether a text has a variable element, and gives nothing below the quaternary level. False says nothing.
+    pub(crate) fn is_shifted(&self, text: &[char]) -> bool {
+        is_shifted(&self.collator, text)
+    }
+
+    /// Whether a character has a primary weight first, by itself. False says nothing.
+    pub(crate) fn leads(&self, c: char) -> bool {
+        if (c as u32) < 0x80 {
+            return has_mark(&self.leading, c);
+        }
+        match first_element(&self.collator, &[c]) {
+            Some(element) => element.primary() != 0,
+            None => false,
+        }
+    }
+
     /// How many primary weights a character has by itself, if facts tell. `None` says nothing.
     #[inline(always)]
     pub(crate) fn count_of(&self, c: char) -> Option<usize>
@@ -384,23 +409,11 @@ impl<'c> Searcher<'c> {
         self.count
     }
 
-    /// Whether a part of a text with these elements has fewer primary weights than the pattern.
-    pub(crate) fn is_too_short(&self, elements: &[CollationElement]) -> bool
-        ensures { let s = search_of self.now in (text : List ℕ)
-            → elements.now ≡ elements_of (reading_by s.collation) (nfd text)
-            → result ≡ true → length (lists_by s.collation (nfd text)).primaries
-            < length (lists_by s.collation (nfd s.pattern)).primaries }
+    /// A walk along the elements of a part, whose weights are held against the pattern's.
+    pub(crate) fn levels(&self) -> PartLevels<'_, 'c>
+        ensures { let own = search_of self.entry.now in (s : Search) → s.collation ≡ own.collation
+            → s.pattern ≡ own.pattern → HasGone s result [] }
     {
-        counted(elements, self.collator.last_variable()) < self.count
-    }
-
-    /// Whether a part of a text with these elements has more primary weights than the pattern.
-    pub(crate) fn is_too_long(&self, elements: &[CollationElement]) -> bool
-        ensures { let s = search_of self.now in (text : List ℕ)
-            → elements.now ≡ elements_of (reading_by s.collation) (nfd text)
-            → result ≡ true → length (lists_by s.collation (nfd s.pattern)).primaries
-            < length (lists_by s.collation (nfd text)).primaries }
-    {
-        counted(elements, self.collator.last_variable()) > self.count
+        self.levels.walk()
     }
 }

@@ -100,7 +100,7 @@ pub(crate) fn is_silent_alone(collator: &CollatorBorrowed<'_>, c: char) -> bool
 }
 
 /// So many elements of a text are looked at, whether they give nothing.
-const MOST: usize = 64;
+const MOST: usize = 2048;
 
 /// Whether an element that isn't variable gives nothing below the quaternary level, where a variable one came last or
 /// none did.
@@ -144,6 +144,14 @@ fn gives_none(collator: &CollatorBorrowed<'_>, text: &[char]) -> Option<bool>
         after = now;
     }
     None
+}
+
+/// Whether a text has a variable element, and gives nothing below the quaternary level. False says nothing.
+pub(crate) fn is_shifted(collator: &CollatorBorrowed<'_>, text: &[char]) -> bool {
+    match gives_none(collator, text) {
+        Some(varies) => varies,
+        None => false,
+    }
 }
 
 /// Whether a text gives nothing below the quaternary level before another one. False says nothing.

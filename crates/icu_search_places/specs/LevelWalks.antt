@@ -17,26 +17,26 @@ abbrev pub weights_at : PatternLevel → List ℕ
 weights_at level = level.weights.items
 
 -- the level of a walk
-abbrev pub level_of : LevelWalk → PatternLevel
-level_of walk = walk.level.now
+abbrev pub walked_level : LevelWalk → PatternLevel
+walked_level walk = walk.level.now
 
 -- the weights of a part aren't a beginning of the pattern's
-abbrev pub BeginsNot : List ℕ → List ℕ → Type 0
-BeginsNot part pattern = (more : List ℕ) → part ++ more ≡ pattern → ⊥
+abbrev pub StartsUnlike : List ℕ → List ℕ → Type 0
+StartsUnlike part pattern = (more : List ℕ) → part ++ more ≡ pattern → ⊥
 
 -- How the weights of a part stand to a pattern's
 abbrev pub Fits : List ℕ → List ℕ → LevelFit → Type 0
-Fits part pattern Unlike = BeginsNot part pattern
+Fits part pattern Unlike = StartsUnlike part pattern
 Fits part pattern Fewer = part ≡ pattern → ⊥
 Fits part pattern Same = part ≡ pattern
 
 -- so many of the pattern's weights are those of the part, or these aren't a beginning of the pattern's
-abbrev pub Meets : List ℕ → List ℕ → Option ℕ → Type 0
-Meets part pattern (Some n) = (n ≤ length pattern) × (take n pattern ≡ part)
-Meets part pattern None = BeginsNot part pattern
+abbrev pub MeetsWeights : List ℕ → List ℕ → Option ℕ → Type 0
+MeetsWeights part pattern (Some n) = (n ≤ length pattern) × (take n pattern ≡ part)
+MeetsWeights part pattern None = StartsUnlike part pattern
 
 -- A walk has gone along these elements of a part: further elements have the weights that it has for them after these.
-pub record HasWalked (walk : LevelWalk) (es : List Element) : Type 0 where
-  pub further : (xs : List Element) → element_weights (weighing_at (level_of walk)) (es ++ xs)
-      ≡ element_weights (weighing_at (level_of walk)) es ++ handled_weights (weighing_at (level_of walk)) (handled_after walk.handles xs)
-  pub met : Meets (element_weights (weighing_at (level_of walk)) es) (weights_at (level_of walk)) walk.met
+pub record HasGoneAlong (walk : LevelWalk) (es : List Element) : Type 0 where
+  pub further : (xs : List Element) → element_weights (weighing_at (walked_level walk)) (es ++ xs)
+      ≡ element_weights (weighing_at (walked_level walk)) es ++ handled_weights (weighing_at (walked_level walk)) (handled_after walk.handles xs)
+  pub met : MeetsWeights (element_weights (weighing_at (walked_level walk)) es) (weights_at (walked_level walk)) walk.met

@@ -3,7 +3,7 @@
 ghost use Rattle.std.specs.Prelude.{◌≡◌, ◌∷◌, ◌++◌, ℕ, List, [], IfOk};
 ghost use Rattle.icu_table_entries.specs.Elements.{Element};
 ghost use Rattle.icu_order_texts.specs.level_weights.Weighings.{element_weights, weighing_of};
-ghost use Rattle.icu_search_places.specs.LevelWalks.{Meets};
+ghost use Rattle.icu_search_places.specs.LevelWalks.{MeetsWeights};
 
 use icu_order_texts::level_weights::{LevelWeighing, element_weights};
 use icu_order_texts::weighting::VariableWeighting;
@@ -57,8 +57,8 @@ pub struct LevelWalk<'p, 't> {
 
 /// How many weights are those of a pattern, with one more.
 fn met_with(weights: &[u64], met: Option<usize>, weight: u64) -> Option<usize>
-    ensures { (part : List ℕ) → Meets part weights.now met
-        → Meets (part ++ weight ∷ []) weights.now result }
+    ensures { (part : List ℕ) → MeetsWeights part weights.now met
+        → MeetsWeights (part ++ weight ∷ []) weights.now result }
 {
     let met = met?;
     if met < weights.len() && weights[met] == weight {
@@ -69,12 +69,12 @@ fn met_with(weights: &[u64], met: Option<usize>, weight: u64) -> Option<usize>
 }
 
 impl<'p, 't> LevelWalk<'p, 't> {
-    ghost use Rattle.icu_search_places.specs.LevelWalks.{Fits, HasWalked, level_of, weighing_at, weights_at};
+    ghost use Rattle.icu_search_places.specs.LevelWalks.{Fits, HasGoneAlong, walked_level, weighing_at, weights_at};
 
     /// Before the first element.
     pub fn new(level: &'p PatternLevel<'t>) -> LevelWalk<'p, 't>
-        ensures begun { HasWalked result [] }
-        ensures level { level_of result ≡ level.entry.now }
+        ensures begun { HasGoneAlong result [] }
+        ensures level { walked_level result ≡ level.entry.now }
     {
         let handles = level.weighing.handles();
         LevelWalk {
@@ -86,9 +86,9 @@ impl<'p, 't> LevelWalk<'p, 't> {
 
     /// Goes along an element.
     fn pass(&mut self, element: CollationElement)
-        ensures walked { (es : List Element) → HasWalked self.old es
-            → HasWalked self.new (es ++ element ∷ []) }
-        ensures level { level_of self.new ≡ level_of self.old }
+        ensures walked { (es : List Element) → HasGoneAlong self.old es
+            → HasGoneAlong self.new (es ++ element ∷ []) }
+        ensures level { walked_level self.new ≡ walked_level self.old }
     {
         let level = self.level;
         match level.weighing.next_weight(&mut self.handles, element) {
@@ -99,9 +99,9 @@ impl<'p, 't> LevelWalk<'p, 't> {
 
     /// Goes along more elements of the part.
     pub fn walk(&mut self, more: &[CollationElement])
-        ensures walked { (es : List Element) → HasWalked self.old es
-            → HasWalked self.new (es ++ more.now) }
-        ensures level { level_of self.new ≡ level_of self.old }
+        ensures walked { (es : List Element) → HasGoneAlong self.old es
+            → HasGoneAlong self.new (es ++ more.now) }
+        ensures level { walked_level self.new ≡ walked_level self.old }
     {
         for element in more {
             self.pass(*element);
@@ -110,7 +110,8 @@ impl<'p, 't> LevelWalk<'p, 't> {
 
     /// How the weights of the part stand to the pattern's.
     pub fn fit(&self) -> LevelFit
-        ensures { let level = level_of self.now in (es : List Element) → HasWalked self.now es
+        ensures { let level = walked_level self.now in (es : List Element)
+            → HasGoneAlong self.now es
             → Fits (element_weights (weighing_at level) es) (weights_at level) result }
     {
         match self.met {

@@ -7,7 +7,7 @@ use Rattle.icu_search_places.specs.Searches.{Search, is_match}
 use Rattle.icu_order_texts.specs.TextOrder.{reading_by}
 use Rattle.icu_search.specs.SearchedTexts.{searched_in, text_searched}
 use Rattle.icu_search.specs.declared.searched_text.SearchedText.{SearchedText}
-use Rattle.icu_search.specs.inner.PartOutcomes.{equals_pattern}
+use Rattle.icu_search.specs.inner.EqualParts.{equals_pattern}
 
 -- a text has no characters, or begins with one before which texts may be cut
 abbrev pub GoesOnAtCut : Search → List ℕ → Type 0

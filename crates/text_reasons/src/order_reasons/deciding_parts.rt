@@ -2,14 +2,12 @@
 
 ghost use Rattle.std.specs.Prelude.{◌≡◌, IfOk, chars};
 ghost use Rattle.icu_collator.specs.Collators.{collation_kept};
-ghost use Rattle.icu_order_texts.specs.level_weights.Weighings.{weighing_of};
-ghost use Rattle.text_reasons.specs.order_reasons.OrderLevels.{deciding_part_by, weighing_by};
+ghost use Rattle.text_reasons.specs.order_reasons.OrderLevels.{deciding_part_by};
 
 use crate::deciding_part;
 use crate::order_reasons::explained_levels::{characters, reading_of_collator};
 use icu_collator::Collator;
-use icu_order_texts::level_weights::{LevelWeighing, OrderLevel};
-use icu_order_texts::weighting::form::{key_form, last_variable};
+use icu_order_texts::level_weights::OrderLevel;
 use std::alloc::{AllocError, Global};
 
 /// The characters of two texts that decide.
@@ -19,21 +17,6 @@ pub(crate) struct DecidingParts {
     pub(crate) one: Vec<char>,
     /// Those of the other.
     pub(crate) other: Vec<char>,
-}
-
-/// How a level of a collator weighs elements.
-fn weighing<'c>(collator: &'c Collator, level: OrderLevel) -> LevelWeighing<'c>
-    ensures { weighing_of result ≡ weighing_by (collation_kept collator.entry.now) level }
-{
-    let tables = collator.checked_tables();
-    let settings = collator.settings();
-    LevelWeighing {
-        level,
-        form: key_form(tables, settings),
-        reordering: tables.reordering(),
-        handling: settings.alternate_handling(),
-        last_variable: last_variable(tables, settings),
-    }
 }
 
 /// The characters of two texts that decide their order at a level (`deciding_part`).
@@ -51,7 +34,7 @@ pub(crate) fn deciding_parts(
 {
     let borrowed = collator.as_borrowed();
     let reading = reading_of_collator(&borrowed);
-    let weighing = weighing(collator, level);
+    let weighing = borrowed.level_weighing(level);
     let first = characters(alloc, one)?;
     let second = characters(alloc, other)?;
     Ok(DecidingParts {

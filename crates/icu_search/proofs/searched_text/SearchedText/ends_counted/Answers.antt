@@ -1,7 +1,7 @@
 use Rattle.std.proofs.Common.{◌≡◌, ◌+◌, ◌&&◌, false, sym, ap, subst, ◌∙◌, arith}
 use Rattle.std.specs.Prelude.{slice_range}
 use Rattle.icu_search.specs.SearchedTexts.{searched_in, text_searched}
-use Rattle.icu_search.specs.inner.PartOutcomes.{ends_match, equals_pattern}
+use Rattle.icu_search.specs.inner.EqualParts.{ends_match, equals_pattern}
 use Rattle.icu_search.proofs.CountedWalks.{ends_otherwise}
 use Rattle.icu_search.proofs.SilentEndLemmas.{still_unlike}
 use Rattle.icu_search.proofs.searched_text.SearchedText.ends_counted.Goals as goal

@@ -2,7 +2,7 @@ use Rattle.std.proofs.Common.{◌≡◌, ◌-◌, ◌<◌, length, refl, ap, ◌
 use Rattle.std.proofs.lemmas.List.{length-drop}
 use Rattle.icu_search_places.specs.place_reader.PlaceReaders.{chars_left}
 use Rattle.icu_search.specs.SearchedTexts.{searched_in, text_searched}
-use Rattle.icu_search.proofs.PartWalks.{walk_begins, walk_on, walk_matches, walk_too_long, walk_ends, part_elements}
+use Rattle.icu_search.proofs.PartWalks.{along_begins, its_levels, walk_begins, walk_on, walk_matches, walk_stops, walk_ends, walks_along}
 use Rattle.icu_search.proofs.searched_text.SearchedText.walk.Goals as goal
 
 pub places-init : goal.places-init
@@ -16,6 +16,7 @@ places-init g c =
       within = omega (arith, left, c.requires.within);
       reading = c.requires.reading;
       walked = λ h not. walk_begins s text c.args.start g.I.Iterator.next_gives c.args.places h c.requires.left not;
+      along = λ h not. along_begins s text c.args.start c.levels-levels.result c.args.start (c.levels-levels.ensures s refl refl);
     }
 
 pub returns-in-Matches : goal.returns-in-Matches
@@ -27,14 +28,16 @@ returns-in-Matches g c = λ h first allowed not.
     walk_matches s (text_searched c.args.self.now) c.args.start g.I.Iterator.next_gives c.places.places c.next.new.self c.places.stop c.in-Some.here w c.places.invariant.reading passed
     first allowed told.0 told.1
 
-pub returns-in-TooLong : goal.returns-in-TooLong
-returns-in-TooLong g c = λ h first allowed not.
+pub returns-in-Ends : goal.returns-in-Ends
+returns-in-Ends g c = λ h first allowed not.
     let s = searched_in c.args.self.now in
+    let text = text_searched c.args.self.now in
     let w = c.places.invariant.walked h not in
     let passed = rw c.in-Some.is at (c.in_ok-here.ensures.step w.front w.passed) in
-    let told = rw c.in-TooLong.is at c.in_ok-told.ensures in
-    walk_too_long s (text_searched c.args.self.now) c.args.start g.I.Iterator.next_gives c.places.places c.next.new.self c.places.stop c.in-Some.here w c.places.invariant.reading passed
-    told.0 told.1 (λ e. told.2 (told.0, c.elements.ensures ∙ e))
+    let told = rw c.in-Ends.is at c.in_ok-told.ensures in
+    let at = its_levels s text c.args.start g.I.Iterator.next_gives c.places.places c.next.new.self c.places.stop c.in-Some.here w c.places.invariant.reading passed
+    c.places.levels c.advance.new.self c.elements.result.now (c.places.invariant.along h not) c.elements.ensures (c.advance.ensures.here s) (c.advance.ensures.other s) told.0 in
+    walk_stops s text c.args.start g.I.Iterator.next_gives c.places.places c.next.new.self c.places.stop c.in-Some.here w c.places.invariant.reading passed told.0 (told.1 at)
 
 pub places-preserved : goal.places-preserved
 places-preserved g c =
@@ -49,7 +52,13 @@ places-preserved g c =
           let w = c.places.invariant.walked h not in
           let passed = rw c.in-Some.is at (c.in_ok-here.ensures.step w.front w.passed) in
           walk_on s (text_searched c.args.self.now) c.args.start g.I.Iterator.next_gives c.places.places c.next.new.self c.places.stop c.in-Some.here w c.places.invariant.reading passed
-          (λ is. (rw c.in-GoesOn.is at c.in_ok-told.ensures) (is, c.elements.ensures ∙ part_elements s (text_searched c.args.self.now) c.args.start g.I.Iterator.next_gives c.places.places c.next.new.self c.places.stop c.in-Some.here w c.places.invariant.reading passed is));
+          (λ is. (rw c.in-GoesOn.is at c.in_ok-told.ensures) (its_levels s (text_searched c.args.self.now) c.args.start g.I.Iterator.next_gives c.places.places c.next.new.self c.places.stop c.in-Some.here w
+          c.places.invariant.reading passed c.places.levels c.advance.new.self c.elements.result.now (c.places.invariant.along h not) c.elements.ensures (c.advance.ensures.here s) (c.advance.ensures.other s) is));
+      along = λ h not.
+          let w = c.places.invariant.walked h not in
+          let passed = rw c.in-Some.is at (c.in_ok-here.ensures.step w.front w.passed) in
+          walks_along s (text_searched c.args.self.now) c.args.start g.I.Iterator.next_gives c.places.places c.next.new.self c.places.stop c.in-Some.here w c.places.invariant.reading passed
+          c.places.levels c.advance.new.self c.elements.result.now (c.places.invariant.along h not) c.elements.ensures (c.advance.ensures.here s) (c.advance.ensures.other s);
     }
 
 pub returns : goal.returns
