@@ -47,7 +47,7 @@ greater_from n u e f = grind (arith, nat_tests)
 
 -- ---- among siblings
 
-among_or : (n : ℕ) (w : SymbolicWeight) (xs : List SymbolicWeight) → IsAmongWeights w (with_rooted n xs)
+pub among_or : (n : ℕ) (w : SymbolicWeight) (xs : List SymbolicWeight) → IsAmongWeights w (with_rooted n xs)
     → (Rooted n ≡ w) ⊎ IsAmongWeights w xs
 unfolding with_rooted
 among_or n w [] (inl e) = inl e
@@ -151,14 +151,14 @@ unfolding with_weights
 weights_ascend tree above [] t = t
 weights_ascend tree above (x ∷ ws) t = weights_ascend (with_weight tree above x) (above ++ x ∷ []) ws (weight_ascends tree above x t)
 
-is_put : (tree : WeightTree) (above : List SymbolicWeight) (w : SymbolicWeight) → IsPut w (with_weight tree above w above)
+pub is_put : (tree : WeightTree) (above : List SymbolicWeight) (w : SymbolicWeight) → IsPut w (with_weight tree above w above)
 is_put tree above (Rooted n) = subst (IsAmongWeights (Rooted n)) (sym (with_rooted_siblings tree above n)) (rooted_is_among n (tree above))
 is_put tree above (Tailored k) = tt
 
 abbrev IsPutAt : WeightTree → ℕ → List SymbolicWeight → Type 0
 IsPutAt tree level ws = IsPut (weight_at_level level ws) (with_weights tree [] (take level ws) (above_level level ws))
 
-level_is_put : (tree : WeightTree) (level : ℕ) (e : SymbolicElement) → 1 ≤ level → level ≤ 4 → IsWhole e → IsPutAt tree level e.weights
+pub level_is_put : (tree : WeightTree) (level : ℕ) (e : SymbolicElement) → 1 ≤ level → level ≤ 4 → IsWhole e → IsPutAt tree level e.weights
 unfolding with_weights
 level_is_put tree zero e p q w = absurd (omega arith)
 level_is_put tree (suc zero) e p q w = subst (IsPutAt tree 1) (sym w.weights) (is_put tree [] w.primary)
@@ -234,7 +234,7 @@ state_ascends root state [] w t = t
 state_ascends root state (rule ∷ rules) w t =
     state_ascends root (rule_step root state rule) rules (rule_whole root state rule w) (rule_ascends root state rule w t)
 
-stands_less : (xs : List SymbolicWeight) (v w : ℕ) → Ascends xs → IsOrderedBefore (Rooted v) (Rooted w) xs → v < w
+pub stands_less : (xs : List SymbolicWeight) (v w : ℕ) → Ascends xs → IsOrderedBefore (Rooted v) (Rooted w) xs → v < w
 stands_less [] v w s b = absurd b
 stands_less (Tailored k ∷ xs) v w s (inl e) = absurd (not_rooted k v e.0)
 stands_less (Tailored k ∷ xs) v w s (inr b) = stands_less xs v w s b

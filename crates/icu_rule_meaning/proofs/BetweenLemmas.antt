@@ -162,7 +162,7 @@ rule_keeps root state (relation strength prefix string extension) = λ other k w
 rule_keeps root state (suppression ranges) = λ other k w c. c
 rule_keeps root state (setting said) = λ other k w c. c
 
-state_keeps : (root : Root) (state : TailoringState) (rules : List Rule)
+pub state_keeps : (root : Root) (state : TailoringState) (rules : List Rule)
     → KeepsClose state.tree (state_after root state rules).tree
 state_keeps root state [] = λ other k w c. c
 state_keeps root state (rule ∷ rules) = λ other k w c.
@@ -173,7 +173,7 @@ state_keeps root state (rule ∷ rules) = λ other k w c.
 abbrev IsCloseIn : WeightTree → ℕ → List SymbolicWeight → ℕ → Type 0
 IsCloseIn tree level ws k = IsCloseBehind k (weight_at_level level ws) (tree (above_level level ws))
 
-difference_is_close : (level : ℕ) (state : TailoringState)
+pub difference_is_close : (level : ℕ) (state : TailoringState)
     → IsCloseIn (difference_step level state).tree level (last_element (counting_at level state.elements)).weights state.made
 unfolding difference_step
 difference_is_close level state =
@@ -216,7 +216,7 @@ rooted_is_among n (Rooted u ∷ xs) =
     (λ _. either (IsAmongWeights (Rooted n)) (nat_lt n u) (Rooted n ∷ Rooted u ∷ xs) (Rooted u ∷ with_rooted n xs)
     (λ _. inl refl) (λ _. inr (rooted_is_among n xs)))
 
-close_is_among : (k : ℕ) (w : SymbolicWeight) (xs : List SymbolicWeight) → IsCloseBehind k w xs → IsAmongWeights w xs
+pub close_is_among : (k : ℕ) (w : SymbolicWeight) (xs : List SymbolicWeight) → IsCloseBehind k w xs → IsAmongWeights w xs
 close_is_among k w [] c = absurd c
 close_is_among k w (x ∷ xs) (inl e) = inl e.0
 close_is_among k w (x ∷ xs) (inr c) = inr (close_is_among k w xs c)

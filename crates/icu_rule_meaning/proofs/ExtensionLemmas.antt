@@ -25,12 +25,12 @@ use Rattle.icu_rule_meaning.proofs.WholeElements.{AreWhole, ignorable_is_whole, 
 use Rattle.icu_rule_meaning.proofs.RelationLemmas.{nonzero, zero_more, is_zero, not_zero, first_stays, counting_numbers, new_element, last_at, new_is_greater, difference_less, cases_weights, numbers_by, mapping_elements, state_after-append}
 
 -- two lists are the same up to the last number of each, which is less in the first
-record PartAtEnd (xs ys : List ℕ) (v w : ℕ) : Type 0 where
+pub record PartAtEnd (xs ys : List ℕ) (v w : ℕ) : Type 0 where
   front : List ℕ
   left : xs ≡ front ++ v ∷ []
   right : ys ≡ front ++ w ∷ []
 
-parts_more : (x : ℕ) (xs ys : List ℕ) (v w : ℕ) → PartAtEnd (nonzero xs) (nonzero ys) v w
+pub parts_more : (x : ℕ) (xs ys : List ℕ) (v w : ℕ) → PartAtEnd (nonzero xs) (nonzero ys) v w
     → PartAtEnd (nonzero (x ∷ xs)) (nonzero (x ∷ ys)) v w
 parts_more x xs ys v w p = elim (cases_Bool (x == 0)) [
   | inl e ↦ record {
@@ -45,10 +45,10 @@ parts_more x xs ys v w p = elim (cases_Bool (x == 0)) [
   }
 ]
 
-nonzero_test : (x : ℕ) → x ≢ 0 → (x == 0) ≡ false
+pub nonzero_test : (x : ℕ) → x ≢ 0 → (x == 0) ≡ false
 nonzero_test x other = elim (cases_Bool (x == 0)) [ inl e ↦ absurd (other (is_zero x e)) | inr e ↦ e ]
 
-last_parts : (numbering : Numbering) (level : ℕ) (es : List SymbolicElement) (new : SymbolicElement)
+pub last_parts : (numbering : Numbering) (level : ℕ) (es : List SymbolicElement) (new : SymbolicElement)
     → numbering (take level ignorable.weights) ≡ 0
     → numbering (take level (last_element es).weights) ≢ 0
     → numbering (take level (last_element es).weights) < numbering (take level new.weights)
@@ -66,7 +66,7 @@ last_parts numbering level (e ∷ f ∷ es) new z other l =
     (numbering (take level (last_element (f ∷ es)).weights)) (numbering (take level new.weights))
     (last_parts numbering level (f ∷ es) new z other l)
 
-parted_less : (xs ys put_behind : List ℕ) (v w : ℕ) → v < w → PartAtEnd xs ys v w → list_order (xs ++ put_behind) (ys ++ put_behind) ≡ Less
+pub parted_less : (xs ys put_behind : List ℕ) (v w : ℕ) → v < w → PartAtEnd xs ys v w → list_order (xs ++ put_behind) (ys ++ put_behind) ≡ Less
 parted_less xs ys put_behind v w l p =
     ap (λ zs. list_order (zs ++ put_behind) (ys ++ put_behind)) p.left
     ∙ ap (λ zs. list_order ((p.front ++ v ∷ []) ++ put_behind) (zs ++ put_behind)) p.right
@@ -75,21 +75,21 @@ parted_less xs ys put_behind v w l p =
     ∙ same_front p.front (v ∷ put_behind) (w ∷ put_behind)
     ∙ less_head v w put_behind put_behind l
 
-weights_append : (es fs : List SymbolicElement) → weights_in (es ++ fs) ≡ weights_in es ++ weights_in fs
+pub weights_append : (es fs : List SymbolicElement) → weights_in (es ++ fs) ≡ weights_in es ++ weights_in fs
 weights_append es fs = map-append (λ (e : SymbolicElement). e.weights) es fs
 
-numbers_append : (numbering : Numbering) (level : ℕ) (all more : List (List SymbolicWeight))
+pub numbers_append : (numbering : Numbering) (level : ℕ) (all more : List (List SymbolicWeight))
     → numbers_by numbering level (all ++ more) ≡ numbers_by numbering level all ++ numbers_by numbering level more
 numbers_append numbering level all more =
     ap nonzero (map-append (λ ws. numbering (take level ws)) all more)
     ∙ filter-append (λ w. not (w == 0)) (map (λ ws. numbering (take level ws)) all) (map (λ ws. numbering (take level ws)) more)
 
-level_append : (numbering : Numbering) (level : ℕ) (es fs : List SymbolicElement)
+pub level_append : (numbering : Numbering) (level : ℕ) (es fs : List SymbolicElement)
     → level_numbers numbering level (es ++ fs) ≡ level_numbers numbering level es ++ level_numbers numbering level fs
 level_append numbering level es fs =
     ap (numbers_by numbering level) (weights_append es fs) ∙ numbers_append numbering level (weights_in es) (weights_in fs)
 
-extended_less : (tree : WeightTree) (numbering : Numbering) → NumbersTree tree numbering → (n : ℕ) → 1 ≤ n → n ≤ 4
+pub extended_less : (tree : WeightTree) (numbering : Numbering) → NumbersTree tree numbering → (n : ℕ) → 1 ≤ n → n ≤ 4
     → (state : TailoringState) (fs put_behind : List SymbolicElement) → AreWhole state.elements
     → KeepsOrder (difference_step n state).tree tree → numbering (take n (last_at n state).weights) ≢ 0
     → weights_in fs ≡ weights_in (difference_step n state).elements

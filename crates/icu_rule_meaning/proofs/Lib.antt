@@ -4,9 +4,10 @@ mod WorkedDifferences
 mod WorkedTailorings
 pub mod KeptRootLemmas
 pub mod TreeLemmas
-mod WholeElements
-mod WholeStates
-mod RelationLemmas
-mod BetweenLemmas
-mod ExtensionLemmas
-mod AscendingLemmas
+pub mod EachElementLemmas
+pub mod WholeElements
+pub mod WholeStates
+pub mod RelationLemmas
+pub mod BetweenLemmas
+pub mod ExtensionLemmas
+pub mod AscendingLemmas

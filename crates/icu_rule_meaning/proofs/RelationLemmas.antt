@@ -28,7 +28,7 @@ use Rattle.icu_rule_meaning.proofs.WholeElements.{AreWhole, ignorable_is_whole, 
 abbrev pub nonzero : List ℕ → List ℕ
 nonzero = filter (λ w. not (w == 0))
 
-one_more : (x : ℕ) (xs ys : List ℕ) → nonzero xs ≡ nonzero ys → nonzero (x ∷ xs) ≡ nonzero (x ∷ ys)
+pub one_more : (x : ℕ) (xs ys : List ℕ) → nonzero xs ≡ nonzero ys → nonzero (x ∷ xs) ≡ nonzero (x ∷ ys)
 one_more x xs ys e = ap (λ zs. cond (not (x == 0)) (x ∷ zs) zs) e
 
 pub zero_more : (x : ℕ) (xs : List ℕ) → x ≡ 0 → nonzero (x ∷ xs) ≡ nonzero xs
@@ -43,19 +43,19 @@ not_zero x y h = grind (arith, nat_tests)
 pub first_stays : (x : ℕ) (xs : List ℕ) → (x == 0) ≡ false → nonzero (x ∷ xs) ≡ x ∷ nonzero xs
 first_stays x xs e = ap (λ b. cond (not b) (x ∷ nonzero xs) (nonzero xs)) e
 
-moved : (xs vs ys ws : List ℕ) → xs ≡ vs → ys ≡ ws → list_order vs ws ≡ Less → list_order xs ys ≡ Less
+pub moved : (xs vs ys ws : List ℕ) → xs ≡ vs → ys ≡ ws → list_order vs ws ≡ Less → list_order xs ys ≡ Less
 moved xs vs ys ws e f l = ap (λ z. list_order z ys) e ∙ ap (λ z. list_order vs z) f ∙ l
 
-none_less : (y : ℕ) → (y == 0) ≡ false → list_order [] (nonzero (y ∷ [])) ≡ Less
+pub none_less : (y : ℕ) → (y == 0) ≡ false → list_order [] (nonzero (y ∷ [])) ≡ Less
 none_less y e = ap (λ z. list_order [] z) (first_stays y [] e)
 
-one_less : (x y : ℕ) → x < y → list_order (nonzero (x ∷ [])) (nonzero (y ∷ [])) ≡ Less
+pub one_less : (x y : ℕ) → x < y → list_order (nonzero (x ∷ [])) (nonzero (y ∷ [])) ≡ Less
 one_less x y h = elim (cases_Bool (x == 0)) [
   | inl e ↦ moved (nonzero (x ∷ [])) [] (nonzero (y ∷ [])) (y ∷ []) (zero_more x [] (is_zero x e)) (first_stays y [] (not_zero x y h)) refl
   | inr e ↦ moved (nonzero (x ∷ [])) (x ∷ []) (nonzero (y ∷ [])) (y ∷ []) (first_stays x [] e) (first_stays y [] (not_zero x y h)) (less_head x y [] [] h)
 ]
 
-less_more : (x : ℕ) (xs ys : List ℕ) → list_order (nonzero xs) (nonzero ys) ≡ Less
+pub less_more : (x : ℕ) (xs ys : List ℕ) → list_order (nonzero xs) (nonzero ys) ≡ Less
     → list_order (nonzero (x ∷ xs)) (nonzero (x ∷ ys)) ≡ Less
 less_more x xs ys l = elim (cases_Bool (x == 0)) [
   | inl e ↦ moved (nonzero (x ∷ xs)) (nonzero xs) (nonzero (x ∷ ys)) (nonzero ys) (zero_more x xs (is_zero x e)) (zero_more x ys (is_zero x e)) l
@@ -64,13 +64,13 @@ less_more x xs ys l = elim (cases_Bool (x == 0)) [
 
 -- ---- elements that are weaker than a level have no number there
 
-abbrev numbers_in : Numbering → ℕ → List SymbolicElement → List ℕ
+abbrev pub numbers_in : Numbering → ℕ → List SymbolicElement → List ℕ
 numbers_in numbering level es = map (λ ws. numbering (take level ws)) (weights_in es)
 
-weaker : (s n : ℕ) → nat_le s n ≡ false → n < s
+pub weaker : (s n : ℕ) → nat_le s n ≡ false → n < s
 weaker s n e = grind (arith, nat_tests)
 
-kept_numbers : (numbering : Numbering) (n level : ℕ) (e : SymbolicElement) (rest : List SymbolicElement)
+pub kept_numbers : (numbering : Numbering) (n level : ℕ) (e : SymbolicElement) (rest : List SymbolicElement)
     → (n < e.strength → numbering (take level e.weights) ≡ 0)
     → level_numbers numbering level (elim rest as (λ _. List SymbolicElement) [ [] ↦ if nat_le e.strength n then e ∷ [] else [] | f ∷ fs ↦ e ∷ f ∷ fs ])
     ≡ level_numbers numbering level (e ∷ rest)
@@ -92,7 +92,7 @@ counting_numbers tree numbering g n level p q r (e ∷ es) (w, ws) =
 
 -- ---- another last element
 
-last_same : (numbering : Numbering) (level : ℕ) (es : List SymbolicElement) (new : SymbolicElement)
+pub last_same : (numbering : Numbering) (level : ℕ) (es : List SymbolicElement) (new : SymbolicElement)
     → numbering (take level ignorable.weights) ≡ 0
     → numbering (take level new.weights) ≡ numbering (take level (last_element es).weights)
     → level_numbers numbering level es ≡ level_numbers numbering level (with_last_element es new)
@@ -102,7 +102,7 @@ last_same numbering level (e ∷ f ∷ es) new z same =
     one_more (numbering (take level e.weights)) (numbers_in numbering level (f ∷ es))
     (numbers_in numbering level (with_last_element (f ∷ es) new)) (last_same numbering level (f ∷ es) new z same)
 
-last_less : (numbering : Numbering) (level : ℕ) (es : List SymbolicElement) (new : SymbolicElement)
+pub last_less : (numbering : Numbering) (level : ℕ) (es : List SymbolicElement) (new : SymbolicElement)
     → numbering (take level (last_element es).weights) < numbering (take level new.weights)
     → level_order numbering level es (with_last_element es new) ≡ Less
 last_less numbering level [] new l =
@@ -116,7 +116,7 @@ last_less numbering level (e ∷ f ∷ es) new l =
 
 -- ---- a difference
 
-new_stands : (tree : WeightTree) (level : ℕ) (ws : List SymbolicWeight) (new : SymbolicWeight)
+pub new_stands : (tree : WeightTree) (level : ℕ) (ws : List SymbolicWeight) (new : SymbolicWeight)
     → IsOrderedBefore (weight_at_level level ws) new (with_new_weight tree level ws new (above_level level ws))
 new_stands tree level ws new =
     let above = above_level level ws in
@@ -187,7 +187,7 @@ cases_weights (c ∷ cases) (e ∷ es) =
 abbrev pub numbers_by : Numbering → ℕ → List (List SymbolicWeight) → List ℕ
 numbers_by numbering level all = nonzero (map (λ ws. numbering (take level ws)) all)
 
-less_by_weights : (numbering : Numbering) (n : ℕ) (es fs gs : List SymbolicElement) → weights_in gs ≡ weights_in fs
+pub less_by_weights : (numbering : Numbering) (n : ℕ) (es fs gs : List SymbolicElement) → weights_in gs ≡ weights_in fs
     → AreLessAt numbering n es fs → AreLessAt numbering n es gs
 less_by_weights numbering n es fs gs e l = record {
   same = λ level a b. l.same level a b ∙ ap (numbers_by numbering level) (sym e);

@@ -44,7 +44,7 @@ are_themselves (w ∷ ws) = rw (is_itself w, are_themselves ws) refl
 
 -- ---- among siblings
 
-among_rooted : (n : ℕ) (w : SymbolicWeight) (xs : List SymbolicWeight) → IsAmongWeights w xs → IsAmongWeights w (with_rooted n xs)
+pub among_rooted : (n : ℕ) (w : SymbolicWeight) (xs : List SymbolicWeight) → IsAmongWeights w xs → IsAmongWeights w (with_rooted n xs)
 unfolding with_rooted
 among_rooted n w [] a = absurd a
 among_rooted n w (Tailored k ∷ xs) (inl e) = inl e
@@ -55,7 +55,7 @@ among_rooted n w (Rooted u ∷ xs) a =
     either (IsAmongWeights w) (n == u) (Rooted u ∷ xs) later (λ _. a)
     (λ _. either (IsAmongWeights w) (nat_lt n u) (Rooted n ∷ Rooted u ∷ xs) (Rooted u ∷ with_rooted n xs) (λ _. inr a) (λ _. further))
 
-keeps_rooted : (n : ℕ) (v w : SymbolicWeight) (xs : List SymbolicWeight) → IsOrderedBefore v w xs
+pub keeps_rooted : (n : ℕ) (v w : SymbolicWeight) (xs : List SymbolicWeight) → IsOrderedBefore v w xs
     → IsOrderedBefore v w (with_rooted n xs)
 unfolding with_rooted
 keeps_rooted n v w [] s = absurd s
@@ -70,7 +70,7 @@ keeps_rooted n v w (Rooted u ∷ xs) s =
     either (IsOrderedBefore v w) (n == u) (Rooted u ∷ xs) later (λ _. s)
     (λ _. either (IsOrderedBefore v w) (nat_lt n u) (Rooted n ∷ Rooted u ∷ xs) (Rooted u ∷ with_rooted n xs) (λ _. inr s) (λ _. further))
 
-among_behind : (x new w : SymbolicWeight) (xs : List SymbolicWeight) → IsAmongWeights w xs → IsAmongWeights w (with_behind x new xs)
+pub among_behind : (x new w : SymbolicWeight) (xs : List SymbolicWeight) → IsAmongWeights w xs → IsAmongWeights w (with_behind x new xs)
 unfolding with_behind
 among_behind x new w [] a = absurd a
 among_behind x new w (u ∷ xs) a =
@@ -78,7 +78,7 @@ among_behind x new w (u ∷ xs) a =
     let further : IsAmongWeights w (u ∷ with_behind x new xs) = elim a [ inl e ↦ inl e | inr b ↦ inr (among_behind x new w xs b) ] in
     either (IsAmongWeights w) (is_same_weight u x) (u ∷ new ∷ xs) (u ∷ with_behind x new xs) (λ _. close) (λ _. further)
 
-keeps_behind : (x new v w : SymbolicWeight) (xs : List SymbolicWeight) → IsOrderedBefore v w xs
+pub keeps_behind : (x new v w : SymbolicWeight) (xs : List SymbolicWeight) → IsOrderedBefore v w xs
     → IsOrderedBefore v w (with_behind x new xs)
 unfolding with_behind
 keeps_behind x new v w [] s = absurd s
@@ -100,26 +100,26 @@ stands_behind w new (u ∷ xs) =
 
 -- ---- in the tree
 
-siblings_keep : (tree : WeightTree) (above siblings : List SymbolicWeight)
+pub siblings_keep : (tree : WeightTree) (above siblings : List SymbolicWeight)
     → ((v w : SymbolicWeight) → IsOrderedBefore v w (tree above) → IsOrderedBefore v w siblings)
     → KeepsOrder tree (with_siblings tree above siblings)
 siblings_keep tree above siblings keeps other v w s =
     either (IsOrderedBefore v w) (are_same_weights other above) siblings (tree other)
     (λ e. keeps v w (subst (λ o. IsOrderedBefore v w (tree o)) (same_weights_are other above e) s)) (λ _. s)
 
-weight_keeps : (tree : WeightTree) (above : List SymbolicWeight) (w : SymbolicWeight)
+pub weight_keeps : (tree : WeightTree) (above : List SymbolicWeight) (w : SymbolicWeight)
     → KeepsOrder tree (with_weight tree above w)
 weight_keeps tree above (Rooted n) =
     siblings_keep tree above (with_rooted n (tree above)) (λ v w. keeps_rooted n v w (tree above))
 weight_keeps tree above (Tailored k) = λ other v w s. s
 
-weights_keep : (tree : WeightTree) (above ws : List SymbolicWeight) → KeepsOrder tree (with_weights tree above ws)
+pub weights_keep : (tree : WeightTree) (above ws : List SymbolicWeight) → KeepsOrder tree (with_weights tree above ws)
 unfolding with_weights
 weights_keep tree above [] = λ other v w s. s
 weights_keep tree above (x ∷ ws) = λ other v w s.
     weights_keep (with_weight tree above x) (above ++ x ∷ []) ws other v w (weight_keeps tree above x other v w s)
 
-new_weight_keeps : (tree : WeightTree) (level : ℕ) (ws : List SymbolicWeight) (new : SymbolicWeight)
+pub new_weight_keeps : (tree : WeightTree) (level : ℕ) (ws : List SymbolicWeight) (new : SymbolicWeight)
     → KeepsOrder tree (with_new_weight tree level ws new)
 new_weight_keeps tree level ws new = λ other v w s.
     let above = above_level level ws in
@@ -128,31 +128,31 @@ new_weight_keeps tree level ws new = λ other v w s.
     (λ a b. keeps_behind (weight_at_level level ws) new a b (placed above)) other v w
     (weights_keep tree [] (take level ws) other v w s)
 
-lesser_keeps : (root : Root) (tree : WeightTree) (above : List SymbolicWeight) (w : SymbolicWeight)
+pub lesser_keeps : (root : Root) (tree : WeightTree) (above : List SymbolicWeight) (w : SymbolicWeight)
     → KeepsOrder tree (with_lesser root tree above w)
 lesser_keeps root tree above (Rooted n) = weight_keeps tree above (Rooted (lesser_weight root above n))
 lesser_keeps root tree above (Tailored k) = λ other v w s. s
 
-before_keeps : (root : Root) (level : ℕ) (state : TailoringState) → KeepsOrder state.tree (before_step root level state).tree
+pub before_keeps : (root : Root) (level : ℕ) (state : TailoringState) → KeepsOrder state.tree (before_step root level state).tree
 unfolding before_step
 before_keeps root level state = λ other v w s.
     let e = last_element (counting_at level state.elements) in
     lesser_keeps root (with_weights state.tree [] (take level e.weights)) (above_level level e.weights)
     (weight_at_level level e.weights) other v w (weights_keep state.tree [] (take level e.weights) other v w s)
 
-reset_keeps : (root : Root) (before : Option Strength) (place : ResetPlace) (state : TailoringState)
+pub reset_keeps : (root : Root) (before : Option Strength) (place : ResetPlace) (state : TailoringState)
     → KeepsOrder state.tree (reset_step root before place state).tree
 unfolding reset_step
 reset_keeps root None place state = λ other v w s. s
 reset_keeps root (Some strength) place state =
     before_keeps root (before_level strength) (record state { elements = place_elements root state place })
 
-difference_keeps : (level : ℕ) (state : TailoringState) → KeepsOrder state.tree (difference_step level state).tree
+pub difference_keeps : (level : ℕ) (state : TailoringState) → KeepsOrder state.tree (difference_step level state).tree
 unfolding difference_step
 difference_keeps level state =
     new_weight_keeps state.tree level (last_element (counting_at level state.elements)).weights (Tailored state.made)
 
-strength_keeps : (strength : Strength) (state : TailoringState) → KeepsOrder state.tree (strength_step strength state).tree
+pub strength_keeps : (strength : Strength) (state : TailoringState) → KeepsOrder state.tree (strength_step strength state).tree
 strength_keeps Primary state = difference_keeps 1 state
 strength_keeps Secondary state = difference_keeps 2 state
 strength_keeps Tertiary state = difference_keeps 3 state
@@ -164,7 +164,7 @@ pub mapping_tree : (prefix string : List ℕ) (es : List SymbolicElement) (state
 mapping_tree prefix [] es state = refl
 mapping_tree prefix (c ∷ suffix) es state = refl
 
-rule_keeps : (root : Root) (state : TailoringState) (rule : Rule) → KeepsOrder state.tree (rule_step root state rule).tree
+pub rule_keeps : (root : Root) (state : TailoringState) (rule : Rule) → KeepsOrder state.tree (rule_step root state rule).tree
 unfolding relation_step suppression_step
 rule_keeps root state (reset before place) = reset_keeps root before place state
 rule_keeps root state (relation strength prefix string extension) = λ other v w s.

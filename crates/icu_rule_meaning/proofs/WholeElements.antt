@@ -63,7 +63,7 @@ with_last_whole (e ∷ f ∷ es) new (v, vs) w = (v, with_last_whole (f ∷ es) 
 
 -- ---- an element with a new weight
 
-less_right : (k n s : ℕ) → k < min n s → k < s
+pub less_right : (k n s : ℕ) → k < min n s → k < s
 less_right k n s h = let b = min-le_right n s in omega (arith, h, b)
 
 not_left : (k n s : ℕ) → n ≤ k → k < min n s → ⊥
@@ -118,7 +118,7 @@ new_whole (suc (suc (suc (suc zero)))) e x p q w = record {
 }
 new_whole (suc (suc (suc (suc (suc n))))) e x p q w = absurd (omega arith)
 
-of_weights : (f g : List SymbolicWeight → ℕ) (ws vs : List SymbolicWeight) → ws ≡ vs → f vs ≡ g vs → f ws ≡ g ws
+pub of_weights : (f g : List SymbolicWeight → ℕ) (ws vs : List SymbolicWeight) → ws ≡ vs → f vs ≡ g vs → f ws ≡ g ws
 of_weights f g ws vs e same = ap f e ∙ same ∙ sym (ap g e)
 
 -- the new element is the same on the levels before

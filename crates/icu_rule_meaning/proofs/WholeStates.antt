@@ -1,13 +1,12 @@
 -- All elements that rules come to have four weights, of which those before the first level that counts are 0.
-use Rattle.std.proofs.Common.{◌≡◌, ℕ, ◌+◌, ◌<◌, ◌≤◌, Bool, true, false, not, ◌==◌, nat_eq, nat_lt, ◌&&◌, List, [], ◌∷◌, ◌++◌, length, map, filter, drop, Option, Some, None, if◌then◌else◌, refl, ap, arith, bytes_eq}
+use Rattle.std.proofs.Common.{◌≡◌, ℕ, ◌+◌, ◌<◌, ◌≤◌, Bool, true, false, ◌==◌, List, [], ◌∷◌, ◌++◌, map, filter, drop, Option, Some, None, if◌then◌else◌, refl, ap, arith}
 use Rattle.std.proofs.lemmas.Bool.{eqb-true}
-use Rattle.std.specs.List.{AllByRecursion, list_any, starts_with}
+use Rattle.std.specs.List.{AllByRecursion, list_any}
 use Rattle.icu_options.specs.declared.settings.Strength.{Strength}
 use Rattle.icu_options.specs.declared.settings.Strength.TheVariants.{Primary, Secondary, Tertiary, Quaternary, Identical}
 use Rattle.icu_rule_parser.specs.declared.statement.LogicalPosition.{LogicalPosition}
 use Rattle.icu_rule_parser.specs.declared.statement.LogicalPosition.TheVariants as positions
 use Rattle.unicode_normalization.specs.Forms.{nfd}
-use Rattle.unicode_normalization.specs.Order.{is_starter}
 use Rattle.icu_table_entries.specs.Elements.{Element}
 use Rattle.icu_rule_meaning.specs.Rules.{ResetPlace, at_string, at_position, Rule, reset, relation, suppression, setting, have_character}
 use Rattle.icu_rule_meaning.specs.declared.symbolic.SymbolicWeight.{SymbolicWeight}
@@ -16,11 +15,12 @@ use Rattle.icu_rule_meaning.specs.declared.symbolic.SymbolicElement.{SymbolicEle
 use Rattle.icu_rule_meaning.specs.SymbolicElements.{has_tailored_weight, to_all_levels, element_with, first_level, tertiary_of, quaternary_of, of_root}
 use Rattle.icu_rule_meaning.specs.WeightTrees.{WeightTree}
 use Rattle.icu_rule_meaning.specs.TailoredRoots.{RootMapping, Root, first_above}
-use Rattle.icu_rule_meaning.specs.TailoredMappings.{SymbolicMapping, SymbolicMappings, SymbolicMatch, stands_after_prefix, has_no_context, begin_suffix, beginnings, mappings_behind, longer_mapping, longest_suffix, mapping_with, is_blocked_by, joined_marks, match_by, symbolic_match, context_behind, symbolic_along, symbolic_elements}
+use Rattle.icu_rule_meaning.specs.TailoredMappings.{SymbolicMapping, SymbolicMappings, has_no_context, symbolic_elements}
 use Rattle.icu_rule_meaning.specs.TailoredCases.{counts_first_at, with_case_bits, upper_case_bits, with_cases}
 use Rattle.icu_rule_meaning.specs.RootPositions.{tailored_behind, first_of_primary, with_last, last_of, first_of_group, position_element}
 use Rattle.icu_rule_meaning.specs.Steps.{TailoringState, first_state, counting_at, last_element, place_elements, before_level, before_step, reset_step, difference_step, strength_step, case_step, mapping_step, relation_step, suppression_step, rule_step, state_after, tailoring_of}
 use Rattle.icu_rule_meaning.proofs.TreeLemmas.{either}
+use Rattle.icu_rule_meaning.proofs.EachElementLemmas.{HaveEach, each_append, have_filter, symbolic_each}
 use Rattle.icu_rule_meaning.proofs.WholeElements.{IsWhole, AreWhole, counting_whole, last_whole, with_last_whole, new_whole}
 
 -- ---- elements of the root
@@ -64,106 +64,21 @@ root_all_whole (e ∷ es) = (root_whole e, root_all_whole es)
 
 -- ---- elements of a text
 
-abbrev HaveWhole : List SymbolicMapping → Type 0
-HaveWhole = AllByRecursion (λ (m : SymbolicMapping). AreWhole m.elements)
-
-abbrev HasWhole : Option SymbolicMapping → Type 0
-HasWhole None = Unit {0}
-HasWhole (Some m) = AreWhole m.elements
+abbrev pub HaveWhole : List SymbolicMapping → Type 0
+HaveWhole = HaveEach IsWhole
 
 root_mappings_whole : (ms : List RootMapping)
     → HaveWhole (map (λ (m : RootMapping). record { prefix = m.prefix; suffix = m.suffix; elements = map of_root m.elements }) ms)
 root_mappings_whole [] = tt
 root_mappings_whole (m ∷ ms) = (root_all_whole m.elements, root_mappings_whole ms)
 
-whole_append : (es fs : List SymbolicElement) → AreWhole es → AreWhole fs → AreWhole (es ++ fs)
-whole_append [] fs p q = q
-whole_append (e ∷ es) fs (p, ps) q = (p, whole_append es fs ps q)
+all_known : (text : List ℕ) → AllByRecursion (λ c. Unit {0}) text
+all_known [] = tt
+all_known (c ∷ text) = (tt, all_known text)
 
-have_append : (ms ns : List SymbolicMapping) → HaveWhole ms → HaveWhole ns → HaveWhole (ms ++ ns)
-have_append [] ns p q = q
-have_append (m ∷ ms) ns (p, ps) q = (p, have_append ms ns ps q)
-
-have_filter : (test : SymbolicMapping → Bool) (ms : List SymbolicMapping) → HaveWhole ms → HaveWhole (filter test ms)
-have_filter test [] p = tt
-have_filter test (m ∷ ms) (p, ps) =
-    either HaveWhole (test m) (m ∷ filter test ms) (filter test ms) (λ _. (p, have_filter test ms ps)) (λ _. have_filter test ms ps)
-
-behind_whole : (ms : List SymbolicMapping) (prefixes : List (List ℕ)) → HaveWhole ms → HaveWhole (mappings_behind ms prefixes)
-unfolding mappings_behind
-behind_whole ms [] p = tt
-behind_whole ms (prefix ∷ shorter) p =
-    let own = filter (stands_after_prefix prefix) ms in
-    let own_whole = have_filter (stands_after_prefix prefix) ms p in
-    let further = mappings_behind ms shorter in
-    let not_begun : SymbolicMapping → Bool = λ m. not (begin_suffix own m) in
-    either HaveWhole (list_any (λ (m : SymbolicMapping). bytes_eq m.suffix []) own) own (own ++ filter not_begun further)
-    (λ _. own_whole)
-    (λ _. have_append own (filter not_begun further) own_whole (have_filter not_begun further (behind_whole ms shorter p)))
-
-longer_whole : (text : List ℕ) (best : Option SymbolicMapping) (m : SymbolicMapping) → HasWhole best → AreWhole m.elements
-    → HasWhole (longer_mapping text best m)
-longer_whole text None m p q = either HasWhole (starts_with nat_eq text m.suffix) (Some m) None (λ _. q) (λ _. tt)
-longer_whole text (Some best) m p q =
-    either HasWhole (starts_with nat_eq text m.suffix && nat_lt (length best.suffix) (length m.suffix)) (Some m) (Some best)
-    (λ _. q) (λ _. p)
-
-longest_whole : (best : Option SymbolicMapping) (ms : List SymbolicMapping) (text : List ℕ) → HasWhole best → HaveWhole ms
-    → HasWhole (longest_suffix best ms text)
-unfolding longest_suffix
-longest_whole best [] text p q = p
-longest_whole best (m ∷ ms) text p (q, qs) =
-    longest_whole (longer_mapping text best m) ms text (longer_whole text best m p q) qs
-
-with_whole : (ms : List SymbolicMapping) (suffix : List ℕ) → HaveWhole ms → HasWhole (mapping_with ms suffix)
-with_whole [] suffix p = tt
-with_whole (m ∷ ms) suffix (p, ps) =
-    either HasWhole (bytes_eq m.suffix suffix) (Some m) (mapping_with ms suffix) (λ _. p) (λ _. with_whole ms suffix ps)
-
-abbrev GivesWhole : SymbolicMatch → Type 0
-GivesWhole m = AreWhole m.elements
-
-found_or : (o : Option SymbolicMapping) (some : SymbolicMapping → SymbolicMatch) (none : SymbolicMatch) → HasWhole o
-    → ((m : SymbolicMapping) → AreWhole m.elements → GivesWhole (some m)) → GivesWhole none
-    → GivesWhole (elim o as (λ _. SymbolicMatch) [ Some m ↦ some m | None ↦ none ])
-found_or (Some m) some none w p q = p m w
-found_or None some none w p q = q
-
-marks_whole : (ms : List SymbolicMapping) (found : SymbolicMapping) (passed text : List ℕ) → HaveWhole ms
-    → AreWhole found.elements → GivesWhole (joined_marks ms found passed text)
-unfolding joined_marks
-marks_whole ms found passed [] p q = q
-marks_whole ms found passed (m ∷ text) p q =
-    let over = marks_whole ms found (passed ++ m ∷ []) text p q in
-    let ended : SymbolicMatch =
-    record { elements = found.elements; suffix = found.suffix; rest = passed ++ m ∷ text } in
-    let passed_over = joined_marks ms found (passed ++ m ∷ []) text in
-    let tried : SymbolicMatch = elim (mapping_with ms (found.suffix ++ m ∷ [])) [
-      | Some longer ↦ joined_marks ms longer passed text
-      | None ↦ passed_over
-    ] in
-    let unblocked : SymbolicMatch = if is_blocked_by passed m then passed_over else tried in
-    either GivesWhole (is_starter m) ended unblocked (λ _. q)
-    (λ _. either GivesWhole (is_blocked_by passed m) passed_over tried (λ _. over)
-    (λ _. found_or (mapping_with ms (found.suffix ++ m ∷ [])) (λ longer. joined_marks ms longer passed text) passed_over
-    (with_whole ms (found.suffix ++ m ∷ []) p) (λ longer w. marks_whole ms longer passed text p w) over))
-
-match_whole : (ms : List SymbolicMapping) (text : List ℕ) → HaveWhole ms → GivesWhole (match_by ms text)
-match_whole ms text p =
-    let none : SymbolicMatch = record { elements = []; suffix = []; rest = text } in
-    found_or (longest_suffix None ms text) (λ found. joined_marks ms found [] (drop (length found.suffix) text)) none
-    (longest_whole None ms text tt p) (λ found w. marks_whole ms found [] (drop (length found.suffix) text) p w) tt
-
-along_whole : (along : List ℕ) (mappings : SymbolicMappings) (before text : List ℕ) → ((c : ℕ) → HaveWhole (mappings c))
-    → AreWhole (symbolic_along along mappings before text)
-unfolding symbolic_along
-along_whole along mappings before [] p = tt
-along_whole [] mappings before (c ∷ text) p = tt
-along_whole (a ∷ along) mappings before (c ∷ text) p =
-    let m = symbolic_match mappings before c text in
-    whole_append m.elements (symbolic_along along mappings (context_behind before c m) m.rest)
-    (match_whole (mappings_behind (mappings c) (beginnings before)) text (behind_whole (mappings c) (beginnings before) (p c)))
-    (along_whole along mappings (context_behind before c m) m.rest p)
+pub text_whole : (mappings : SymbolicMappings) (text : List ℕ) → ((c : ℕ) → HaveWhole (mappings c))
+    → AreWhole (symbolic_elements mappings text)
+text_whole mappings text p = symbolic_each IsWhole (λ c. Unit {0}) mappings text (λ c _. p c) (all_known text)
 
 -- ---- elements of positions
 
@@ -248,7 +163,7 @@ group_whole root tree p =
     let other : List SymbolicWeight = elim run [ [] ↦ first_of_primary tree next | w ∷ _ ↦ w ∷ [] ] in
     either (MakesWhole 1) (list_any has_tailored_weight below) below other (λ _. first_whole tree (Rooted p)) (λ _. run_or tree run next)
 
-position_whole : (root : Root) (tree : WeightTree) (position : LogicalPosition) → IsWhole (position_element root tree position)
+pub position_whole : (root : Root) (tree : WeightTree) (position : LogicalPosition) → IsWhole (position_element root tree position)
 position_whole root tree positions.FirstSecondaryIgnorable = tertiary_whole _ _
 position_whole root tree positions.LastSecondaryIgnorable = tertiary_last_whole tree _
 position_whole root tree positions.FirstPrimaryIgnorable = secondary_whole _ _ _
@@ -283,7 +198,7 @@ case_bits_whole e bits w = record {
   no_quaternary = w.no_quaternary;
 }
 
-cases_whole : (cases : List ℕ) (es : List SymbolicElement) → AreWhole es → AreWhole (with_cases cases es)
+pub cases_whole : (cases : List ℕ) (es : List SymbolicElement) → AreWhole es → AreWhole (with_cases cases es)
 unfolding with_cases
 cases_whole cases [] ws = tt
 cases_whole [] (e ∷ es) (w, ws) = (case_bits_whole e _ w, cases_whole [] es ws)
@@ -292,12 +207,12 @@ cases_whole (c ∷ cases) (e ∷ es) (w, ws) =
     either AreWhole (counts_first_at 1 e) (with_case_bits e c ∷ with_cases cases es) (other ∷ with_cases (c ∷ cases) es)
     (λ _. (case_bits_whole e c w, cases_whole cases es ws)) (λ _. (case_bits_whole e _ w, cases_whole (c ∷ cases) es ws))
 
-place_whole : (root : Root) (state : TailoringState) (place : ResetPlace) → IsWholeState state
+pub place_whole : (root : Root) (state : TailoringState) (place : ResetPlace) → IsWholeState state
     → AreWhole (place_elements root state place)
-place_whole root state (at_string s) w = along_whole (nfd s) state.mappings [] (nfd s) w.mappings
+place_whole root state (at_string s) w = text_whole state.mappings (nfd s) w.mappings
 place_whole root state (at_position position) w = (position_whole root state.tree position, tt)
 
-before_whole : (root : Root) (level : ℕ) (state : TailoringState) → 1 ≤ level → level ≤ 4 → IsWholeState state
+pub before_whole : (root : Root) (level : ℕ) (state : TailoringState) → 1 ≤ level → level ≤ 4 → IsWholeState state
     → IsWholeState (before_step root level state)
 unfolding before_step
 before_whole root level state p q w =
@@ -309,14 +224,14 @@ before_whole root level state p q w =
       mappings = w.mappings;
     }
 
-level_within : (strength : Strength) → (1 ≤ before_level strength) × (before_level strength ≤ 4)
+pub level_within : (strength : Strength) → (1 ≤ before_level strength) × (before_level strength ≤ 4)
 level_within Primary = (omega arith, omega arith)
 level_within Secondary = (omega arith, omega arith)
 level_within Tertiary = (omega arith, omega arith)
 level_within Quaternary = (omega arith, omega arith)
 level_within Identical = (omega arith, omega arith)
 
-reset_whole : (root : Root) (before : Option Strength) (place : ResetPlace) (state : TailoringState) → IsWholeState state
+pub reset_whole : (root : Root) (before : Option Strength) (place : ResetPlace) (state : TailoringState) → IsWholeState state
     → IsWholeState (reset_step root before place state)
 unfolding reset_step
 reset_whole root None place state w = record { elements = place_whole root state place w; mappings = w.mappings }
@@ -325,7 +240,7 @@ reset_whole root (Some strength) place state w =
     let at_whole : IsWholeState at = record { elements = place_whole root state place w; mappings = w.mappings } in
     before_whole root (before_level strength) at (level_within strength).0 (level_within strength).1 at_whole
 
-difference_whole : (level : ℕ) (state : TailoringState) → 1 ≤ level → level ≤ 4 → IsWholeState state
+pub difference_whole : (level : ℕ) (state : TailoringState) → 1 ≤ level → level ≤ 4 → IsWholeState state
     → IsWholeState (difference_step level state)
 unfolding difference_step
 difference_whole level state p q w =
@@ -337,7 +252,7 @@ difference_whole level state p q w =
       mappings = w.mappings;
     }
 
-strength_whole : (strength : Strength) (state : TailoringState) → IsWholeState state → IsWholeState (strength_step strength state)
+pub strength_whole : (strength : Strength) (state : TailoringState) → IsWholeState state → IsWholeState (strength_step strength state)
 strength_whole Primary state w = difference_whole 1 state (omega arith) (omega arith) w
 strength_whole Secondary state w = difference_whole 2 state (omega arith) (omega arith) w
 strength_whole Tertiary state w = difference_whole 3 state (omega arith) (omega arith) w
@@ -350,10 +265,10 @@ mapping_whole prefix [] es state ws w = w
 mapping_whole prefix (c ∷ suffix) es state ws w = record {
   elements = w.elements;
   mappings = λ other. either HaveWhole (other == c) _ (state.mappings other)
-      (λ _. (ws, have_filter _ (state.mappings c) (w.mappings c))) (λ _. w.mappings other);
+      (λ _. (ws, have_filter IsWhole _ (state.mappings c) (w.mappings c))) (λ _. w.mappings other);
 }
 
-relation_whole : (root : Root) (strength : Strength) (prefix string extension : List ℕ) (state : TailoringState)
+pub relation_whole : (root : Root) (strength : Strength) (prefix string extension : List ℕ) (state : TailoringState)
     → IsWholeState state → IsWholeState (relation_step root strength prefix string extension state)
 unfolding relation_step
 relation_whole root strength prefix string extension state w =
@@ -364,7 +279,7 @@ relation_whole root strength prefix string extension state w =
     let cased = cases_whole _ stepped.elements stepped_whole.elements in
     let different_whole : IsWholeState different = record { elements = cased; mappings = stepped_whole.mappings } in
     mapping_whole (nfd prefix) (nfd string) (different.elements ++ put_behind) different
-    (whole_append different.elements put_behind cased (along_whole (nfd extension) state.mappings [] (nfd extension) w.mappings))
+    (each_append IsWhole different.elements put_behind cased (text_whole state.mappings (nfd extension) w.mappings))
     different_whole
 
 pub rule_whole : (root : Root) (state : TailoringState) (rule : Rule) → IsWholeState state
@@ -376,11 +291,11 @@ rule_whole root state (relation strength prefix string extension) w =
 rule_whole root state (suppression ranges) w = record {
   elements = w.elements;
   mappings = λ c. either HaveWhole (have_character ranges c) (filter has_no_context (state.mappings c)) (state.mappings c)
-      (λ _. have_filter has_no_context (state.mappings c) (w.mappings c)) (λ _. w.mappings c);
+      (λ _. have_filter IsWhole has_no_context (state.mappings c) (w.mappings c)) (λ _. w.mappings c);
 }
 rule_whole root state (setting said) w = record { elements = w.elements; mappings = w.mappings }
 
-after_whole : (root : Root) (state : TailoringState) (rules : List Rule) → IsWholeState state
+pub after_whole : (root : Root) (state : TailoringState) (rules : List Rule) → IsWholeState state
     → IsWholeState (state_after root state rules)
 after_whole root state [] w = w
 after_whole root state (rule ∷ rules) w = after_whole root (rule_step root state rule) rules (rule_whole root state rule w)
