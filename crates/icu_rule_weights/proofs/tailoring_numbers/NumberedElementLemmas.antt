@@ -13,7 +13,7 @@ use Rattle.icu_rule_meaning.specs.SymbolicElements.{weights_of}
 use Rattle.icu_rule_meaning.specs.SymbolicOrders.{weights_in, level_numbers}
 use Rattle.icu_rule_weights.specs.declared.tailoring_numbers.tailoring_numbers.TailoringNumbers.{TailoringNumbers}
 use Rattle.icu_rule_weights.specs.tailoring_numbers.Numberings.{number_of, numbering_of}
-use Rattle.icu_rule_weights.specs.tailoring_numbers.NumberedElements.{number_at, lower_of, numbered_element, fits_lower, fits_element, FitsAll, element_numbers, NumberedElementsKeepOrder, RootElementsStay}
+use Rattle.icu_rule_weights.specs.tailoring_numbers.NumberedElements.{number_at, lower_of, numbered_element, fits_lower, FitsAll, element_numbers, NumberedElementsKeepOrder, RootElementsStay}
 use Rattle.icu_rule_weights.proofs.tailoring_numbers.ElementBits.{whole_half, tertiary_of_half, quaternary_of_half}
 
 -- what an element has at a level
@@ -30,9 +30,8 @@ record Parts (t : TailoringNumbers) (e : SymbolicElement) : Type 0 where
   few : number_at t 4 e ≤ 3
   case : e.case_bits ≤ 3
 
-parts_from : (t : TailoringNumbers) (e : SymbolicElement) → fits_element t e ≡ true → Parts t e
-parts_from t e fits =
-    let (half, second) = and_parts (fits_lower t e) (nat_le (number_at t 2 e) 0xFFFF) fits in
+parts_from : (t : TailoringNumbers) (e : SymbolicElement) → fits_lower t e ≡ true → Parts t e
+parts_from t e half =
     let (some, case) = and_parts (bit_and (number_at t 3 e) tertiary_mask == number_at t 3 e && nat_le (number_at t 4 e) 3) (nat_le e.case_bits 3) half in
     let (own, few) = and_parts (bit_and (number_at t 3 e) tertiary_mask == number_at t 3 e) (nat_le (number_at t 4 e) 3) some in
     record {
@@ -76,11 +75,11 @@ module _ (t : TailoringNumbers) (e : SymbolicElement) where
 -- ---- elements
 
 fits_first : (t : TailoringNumbers) (e : SymbolicElement) (es : List SymbolicElement) → FitsAll t (e ∷ es)
-    → (length e.weights ≡ 4) × (fits_element t e ≡ true)
-fits_first t e es fits = All-head (λ (f : SymbolicElement). (length f.weights ≡ 4) × (fits_element t f ≡ true)) e es fits
+    → (length e.weights ≡ 4) × (fits_lower t e ≡ true)
+fits_first t e es fits = All-head (λ (f : SymbolicElement). (length f.weights ≡ 4) × (fits_lower t f ≡ true)) e es fits
 
 fits_rest : (t : TailoringNumbers) (e : SymbolicElement) (es : List SymbolicElement) → FitsAll t (e ∷ es) → FitsAll t es
-fits_rest t e es fits = All-tail (λ (f : SymbolicElement). (length f.weights ≡ 4) × (fits_element t f ≡ true)) e es fits
+fits_rest t e es fits = All-tail (λ (f : SymbolicElement). (length f.weights ≡ 4) × (fits_lower t f ≡ true)) e es fits
 
 all_weights : (t : TailoringNumbers) (es : List SymbolicElement) (level : ℕ) → 1 ≤ level → level ≤ 4 → FitsAll t es
     → map (weight_in level) (map (numbered_element t) es) ≡ map (λ ws. numbering_of t (take level ws)) (weights_in es)

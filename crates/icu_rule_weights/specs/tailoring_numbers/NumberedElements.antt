@@ -29,9 +29,9 @@ fits_lower t e =
 abbrev pub fits_element : TailoringNumbers → SymbolicElement → Bool
 fits_element t e = fits_lower t e && nat_le (number_at t 2 e) 0xFFFF
 
--- elements have four weights, none of which is too great
+-- elements have four weights, of which the tertiary and the quaternary one have their own bits beside the case
 abbrev pub FitsAll : TailoringNumbers → List SymbolicElement → Type 0
-FitsAll t es = All (λ (e : SymbolicElement). (length e.weights ≡ 4) × (fits_element t e ≡ true)) es
+FitsAll t es = All (λ (e : SymbolicElement). (length e.weights ≡ 4) × (fits_lower t e ≡ true)) es
 
 -- the weights of elements at a level, without zeros (UTS #10, "Form Sort Keys")
 abbrev pub element_numbers : ℕ → List Element → List ℕ
