@@ -27,7 +27,7 @@ tables_halves : (o : OwnedTables) → HaveHalves (owned_tables o).tables.root
 unfolding owned_tables
 tables_halves o = owned_halves o.root
 
-beside_halves : (over : CheckedTables) (own : Option OwnJamo) → HaveHalves (root_beside over own)
+pub beside_halves : (over : CheckedTables) (own : Option OwnJamo) → HaveHalves (root_beside over own)
 beside_halves over None = tables_halves _
 beside_halves over (Some own) = owned_halves own.root
 

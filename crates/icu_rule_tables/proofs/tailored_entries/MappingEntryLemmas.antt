@@ -12,7 +12,7 @@ use Rattle.icu_table_mappings.proofs.GrownListLemmas.{digit_further, just_furthe
 use Rattle.icu_table_mappings.proofs.PutEntryLemmas.{nothing_between}
 use Rattle.icu_rule_meaning.specs.TailoredMappings.{SymbolicMapping, beginnings, has_no_context, mapping_with, mappings_behind, stands_after_prefix}
 use Rattle.icu_rule_weights.specs.declared.tailoring_numbers.tailoring_numbers.TailoringNumbers.{TailoringNumbers}
-use Rattle.icu_rule_tables.specs.tailored_entries.GivenMappings.{GivesMappings, IsMappingEntry, StandsFor, StandsForMappings, numbered_elements}
+use Rattle.icu_rule_tables.specs.tailored_entries.GivenMappings.{all_fit, GivesMappings, IsMappingEntry, StandsFor, StandsForMappings, numbered_elements}
 use Rattle.icu_rule_tables.specs.tailored_entries.inner.MappingEntries.{HasEntriesOf, IsEntryOfMaybe}
 
 -- a test that decides between facts, of which others follow
@@ -27,6 +27,7 @@ pub entry_further : (t : TailoringNumbers) (d new : Data) (c : ℕ) (m : Symboli
 entry_further t d new c m e grows is = record {
   letter = is.letter;
   spells = spells_further d new is.letter (numbered_elements t m.elements) grows is.spells;
+  fits = is.fits;
   digit = by_test (has_no_context m && is_digit_char c) _ _ _ _ (λ h. digit_further d new (decimal_value c) is.letter e grows h) (λ h. h) is.digit;
 }
 
@@ -66,6 +67,7 @@ mappings_further t d new c mappings e grows gives = record {
   prefix = just_further Prefix d new e gives.behind grows gives.prefix;
   prefixes = gives.prefixes;
   suffixes = λ before b is. suffixes_further t d new c (mappings_behind mappings (beginnings before)) b grows (gives.suffixes before b is);
+  fit = gives.fit;
 }
 
 -- ---- one mapping after another
@@ -101,12 +103,13 @@ entries_more t d c m next old new e is puts has before after =
 -- a digit by itself
 pub entry_of_digit : (t : TailoringNumbers) (d : Data) (c : ℕ) (m : SymbolicMapping) (letter value e : ℕ) (found : Option ℕ) → has_no_context m ≡ true
     → found ≡ (if is_digit_char c then Some (decimal_value c) else None) → found ≡ Some value
-    → Spells d letter (numbered_elements t m.elements) → IsDigitEntry d value letter e → IsMappingEntry t d c m e
-entry_of_digit t d c m letter value e found alone of_c is spells digit =
+    → Spells d letter (numbered_elements t m.elements) → all_fit t m.elements ≡ true → IsDigitEntry d value letter e → IsMappingEntry t d c m e
+entry_of_digit t d c m letter value e found alone of_c is spells fits digit =
     let both = by_digit (is_digit_char c) refl (sym of_c ∙ is) in
     record {
       letter = letter;
       spells = spells;
+      fits = fits;
       digit = subst (λ b. MatchBool b (IsDigitEntry d (decimal_value c) letter e) (e ≡ letter)) (sym (ap (λ b. b && is_digit_char c) alone ∙ both.0))
           (subst (λ v. IsDigitEntry d v letter e) both.1 digit);
     } where

@@ -1,6 +1,6 @@
 -- The entries of mappings behind a prefix are those of the mappings that count there.
 use Rattle.std.proofs.Common.{◌≡◌, ℕ, zero, suc, ◌+◌, ◌≤◌, Bool, true, false, List, [], ◌∷◌, ◌++◌, length, take, Option, Some, None, refl, sym, ap, subst, ◌∙◌, if◌then◌else◌, arith, inl, inr}
-use Rattle.std.specs.Prelude.{◌||◌, is_some, not, filter, bytes_eq, option_and_then}
+use Rattle.std.specs.Prelude.{◌||◌, ◌&&◌, is_some, not, filter, bytes_eq, option_and_then}
 use Rattle.std.specs.List.{list_any}
 use Rattle.std.specs.Option.{option_or}
 use Rattle.std.proofs.lemmas.List.{take_all}
@@ -15,7 +15,7 @@ use Rattle.icu_rule_steps.specs.symbolic_mappings.inner.Tiers.{joined_tiers, wit
 use Rattle.icu_rule_steps.proofs.symbolic_mappings.TierLemmas.{first_tier, tier_more}
 use Rattle.icu_rule_meaning.specs.TailoredMappings.{SymbolicMapping, beginnings, begin_suffix, has_no_context, mapping_with, mappings_behind, stands_after_prefix}
 use Rattle.icu_rule_weights.specs.declared.tailoring_numbers.tailoring_numbers.TailoringNumbers.{TailoringNumbers}
-use Rattle.icu_rule_tables.specs.tailored_entries.GivenMappings.{GivesMappings, IsMappingEntry, IsPrefixOfSome, StandsFor, StandsForMappings}
+use Rattle.icu_rule_tables.specs.tailored_entries.GivenMappings.{GivesMappings, IsMappingEntry, IsPrefixOfSome, StandsFor, StandsForMappings, mappings_fit}
 use Rattle.icu_rule_tables.specs.tailored_entries.inner.MappingEntries.{HasEntriesOf, IsEntryOfMaybe}
 use Rattle.icu_rule_tables.proofs.tailored_entries.MappingEntryLemmas.{stands_further}
 use Rattle.icu_rule_tables.proofs.tailored_entries.BegunSuffixLemmas.{all_unbegun, begin_chars, begun_with, first_of_both, none_unbegun, plain_begins, second_of_both, still_unbegun, with_begins, without_suffixes}
@@ -184,8 +184,9 @@ module _ (t : TailoringNumbers) (d : Data) (c : ℕ) where
         (take_all (length before) before (omega arith)) (nearest_has (length before) before after (omega arith))
 
     -- the entry that comes to just these gives the mappings
-    pub mappings_given : (new : Data) (e : ℕ) → HasMoreLists d new → GivesJust new e all own → GivesMappings t new c mappings e
-    mappings_given new e grows gives = record {
+    pub mappings_given : (new : Data) (e : ℕ) → HasMoreLists d new → GivesJust new e all own → mappings_fit t mappings ≡ true
+        → GivesMappings t new c mappings e
+    mappings_given new e grows gives fit = record {
       behind = gives.behind;
       prefix = gives.prefix;
       prefixes = λ before is. gives.prefixes before (prefix_behind before is);
@@ -195,6 +196,7 @@ module _ (t : TailoringNumbers) (d : Data) (c : ℕ) where
         stands = λ after. stands_further t d new c after (mapping_with (mappings_behind mappings (beginnings before)) after) (nearest all own before after)
             grows (near before after);
       };
+      fit = fit;
     }
 
 -- ---- a character without contexts
@@ -261,4 +263,5 @@ lone_given t d c m e mappings lone alone is =
         suffixes = λ before b h.
             let own = own_nothing e b before h in
             subst (λ x. StandsForMappings t d c (mappings_behind (m ∷ []) (beginnings before)) x) own.1 (stand before own.0);
+        fit = ap (λ b. b && true) is.fits;
       }

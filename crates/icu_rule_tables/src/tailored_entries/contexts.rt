@@ -6,7 +6,7 @@ ghost use Rattle.icu_table_provider.specs.builder.Building.{built_data};
 ghost use Rattle.icu_table_mappings.specs.GrownLists.{Extends};
 ghost use Rattle.icu_rule_meaning.specs.TailoredMappings.{has_no_context};
 ghost use Rattle.icu_rule_steps.specs.symbolic_mappings.StoredMappings.{symbolic_mapping, symbolic_mappings};
-ghost use Rattle.icu_rule_tables.specs.tailored_entries.GivenMappings.{GivesMappings, IsMappingEntry};
+ghost use Rattle.icu_rule_tables.specs.tailored_entries.GivenMappings.{GivesMappings, IsMappingEntry, mappings_fit};
 ghost use Rattle.icu_rule_tables.specs.tailored_entries.inner.MappingEntries.{HasEntriesOf, PutsEntryOf};
 
 use crate::tailored_entries::elements::entry_of_symbolic_elements;
@@ -94,6 +94,8 @@ fn contexts_of(
     ensures extends { OnOk result (Extends (built_data builder.old) (built_data builder.new)) }
     ensures entries { IfOk result (HasEntriesOf sources.entry.numbers.now (built_data builder.new) c
         (symbolic_mappings own.now)) }
+    ensures fit { IfOk result (λ _. mappings_fit sources.entry.numbers.now
+        (symbolic_mappings own.now) ≡ true) }
 {
     let mut contexts = BTreeMap::new(alloc);
     for index in (0..own.len()).rev() {

@@ -1,10 +1,10 @@
 //! The entries of symbolic elements.
-ghost use Rattle.std.specs.Prelude.{◌≡◌, IfOk, OnOk, map};
+ghost use Rattle.std.specs.Prelude.{◌≡◌, true, IfOk, OnOk, map};
 ghost use Rattle.icu_table_provider.specs.builder.Building.{built_data};
 ghost use Rattle.icu_table_mappings.specs.Given.{Spells};
 ghost use Rattle.icu_table_mappings.specs.GrownLists.{Extends};
 ghost use Rattle.icu_rule_weights.specs.tailoring_numbers.NumberedElements.{numbered_element};
-ghost use Rattle.icu_rule_tables.specs.tailored_entries.GivenMappings.{numbered_elements};
+ghost use Rattle.icu_rule_tables.specs.tailored_entries.GivenMappings.{all_fit, numbered_elements};
 
 use crate::tailored_entries::error::TailoredEntriesError;
 use icu_rule_meaning::SymbolicElement;
@@ -22,6 +22,7 @@ fn numbered(
 ) -> Result<Vec<CollationElement>, TailoredEntriesError>
     ensures elements { IfOk result (λ v.
         v.items ≡ map (numbered_element numbers.now) elements.now) }
+    ensures fits { IfOk result (λ _. all_fit numbers.now elements.now ≡ true) }
 {
     let mut found = Vec::new(alloc);
     for element in elements {
@@ -40,6 +41,7 @@ fn numbered_elements(
     elements: &[SymbolicElement],
 ) -> Result<Vec<CollationElement>, TailoredEntriesError>
     ensures elements { IfOk result (λ v. v.items ≡ numbered_elements numbers.now elements.now) }
+    ensures fits { IfOk result (λ _. all_fit numbers.now elements.now ≡ true) }
 {
     let mut found = numbered(alloc, numbers, elements)?;
     if found.is_empty() {
@@ -58,6 +60,7 @@ pub(crate) fn entry_of_symbolic_elements(
     ensures extends { OnOk result (Extends (built_data builder.old) (built_data builder.new)) }
     ensures spells { IfOk result (λ e.
         Spells (built_data builder.new) e (numbered_elements numbers.now elements.now)) }
+    ensures fits { IfOk result (λ _. all_fit numbers.now elements.now ≡ true) }
 {
     let elements = numbered_elements(alloc, numbers, elements)?;
     let entry = entry_of_elements(alloc, builder, elements.as_slice())?;

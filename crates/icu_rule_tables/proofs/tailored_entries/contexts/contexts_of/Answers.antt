@@ -1,4 +1,4 @@
-use Rattle.std.proofs.Common.{◌≡◌, ◌<◌, ◌≤◌, ◌∙◌, ◌∷◌, ◌+◌, ◌-◌, ℕ, List, [], sym, ap, subst, drop, length, arith, rules}
+use Rattle.std.proofs.Common.{◌≡◌, ◌<◌, ◌≤◌, ◌∙◌, ◌∷◌, ◌+◌, ◌-◌, ◌&&◌, ℕ, Bool, true, List, [], refl, sym, ap, ap₂, subst, drop, length, arith, rules}
 use Rattle.std.proofs.lemmas.List.{at_drop_more, at_drop_all}
 use Rattle.icu_table_provider.specs.builder.Building.{built_data}
 use Rattle.icu_table_mappings.proofs.GrownListLemmas.{extends_further, extends_itself}
@@ -6,6 +6,7 @@ use Rattle.icu_rule_meaning.specs.declared.symbolic.SymbolicElement.{SymbolicEle
 use Rattle.icu_rule_meaning.specs.TailoredMappings.{SymbolicMapping}
 use Rattle.icu_rule_steps.specs.symbolic_mappings.StoredMappings.{symbolic_mapping, symbolic_mappings}
 use Rattle.icu_rule_steps.specs.declared.symbolic_mappings.character_mapping.CharacterMapping.{CharacterMapping}
+use Rattle.icu_rule_tables.specs.tailored_entries.GivenMappings.{mappings_fit}
 use Rattle.icu_rule_tables.specs.tailored_entries.inner.MappingEntries.{HasEntriesOf}
 use Rattle.icu_rule_tables.proofs.tailored_entries.MappingEntryLemmas.{entries_further, entries_more, no_entries}
 use Rattle.icu_rule_tables.proofs.tailored_entries.contexts.contexts_of.Goals as goal
@@ -19,6 +20,7 @@ loop-index-init c =
       extends = extends_itself (built_data c.args.builder.now);
       entries = no_entries c.args.sources.numbers.now (built_data c.args.builder.now) c.args.c (symbolic_mappings (drop (length own) own))
           c.new-contexts.result none c.new-contexts.ensures.empty;
+      fit = ap (mappings_fit c.args.sources.numbers.now) none;
     }
 
 pub loop-index-preserved : goal.loop-index-preserved
@@ -40,4 +42,6 @@ loop-index-preserved c =
           (entries_more t new c.args.c (symbolic_mapping x) (symbolic_mappings (drop n own)) c.loop-index.contexts c.put_entry.new.contexts
           c.in_ok-put_entry.ensures.puts.entry c.in_ok-put_entry.ensures.puts.is_entry c.in_ok-put_entry.ensures.puts.puts
           (entries_further t old new c.args.c (symbolic_mappings (drop n own)) c.loop-index.contexts c.in_ok-put_entry.ensures.extends.lists c.loop-index.invariant.entries));
+      fit = ap (λ (ms : List (CharacterMapping SymbolicElement)). mappings_fit t (symbolic_mappings ms)) first
+          ∙ ap₂ (λ (a b : Bool). a && b) c.in_ok-put_entry.ensures.puts.is_entry.fits c.loop-index.invariant.fit;
     }
