@@ -1,2 +1,3 @@
 mod RuleTextLemmas
 pub mod RelatedTextLemmas
+pub mod FittingTextLemmas

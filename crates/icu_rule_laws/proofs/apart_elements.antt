@@ -7,3 +7,4 @@ pub mod BackwardLemmas
 pub mod SaidLemmas
 pub mod ApartOrderLemmas
 pub mod ApartTextLemmas
+pub mod PartedListLemmas

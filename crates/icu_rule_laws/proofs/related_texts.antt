@@ -1,6 +1,8 @@
-pub mod FourWeights
 pub mod PlainOrderLemmas
 pub mod RelationOrderLemmas
+pub mod RuleListLemmas
+pub mod BeforeListLemmas
+pub mod RelationApartLemmas
 pub mod OwnMappingLemmas
 pub mod IdentityLemmas
 pub mod HeldOrderLemmas

@@ -6,14 +6,10 @@ pub mod mapped_texts;
 pub mod related_texts;
 pub mod tailored_texts;
 
-ghost use Rattle.icu_rule_laws.specs.RelatedTexts.{RelationsHoldByTables};
 ghost use Rattle.icu_rule_laws.specs.RuleTexts.{CommonDiacriticsArePlain, TextsAreReadByRules};
 
-use icu_rule_meaning::relations_hold;
 use icu_rule_root::CheckedRoot;
-use icu_rule_weights::tailoring_numbers::{
-    elements_of_the_root_stay, numbered_elements_keep_order,
-};
+use icu_rule_weights::tailoring_numbers::elements_of_the_root_stay;
 
 /// Accepted tables of rules are as `AreRuledTables` asks if neither they nor the root's have diacritics of their own.
 pub fn common_diacritics_are_plain(root: &CheckedRoot<'_>)
@@ -33,15 +29,4 @@ pub fn texts_are_read_by_rules(root: &CheckedRoot<'_>)
     let tables = root.tables();
     tables.are_well_formed();
     elements_of_the_root_stay();
-}
-
-/// By these tables a relation of two strings that no later rule moves, of which `relation_holds` of icu_rule_steps
-/// says whether it is one, holds: both strings have the same weights at the levels before its own, and the one before
-/// is less at its level.
-pub fn relations_hold_by_tables(root: &CheckedRoot<'_>)
-    ensures { RelationsHoldByTables root.now }
-{
-    texts_are_read_by_rules(root);
-    relations_hold();
-    numbered_elements_keep_order();
 }

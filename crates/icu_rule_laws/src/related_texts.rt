@@ -1,7 +1,7 @@
 //! Texts that a relation of rules relates order as it says, by a collation of the tables of these rules: from weights
 //! of elements to the order of texts, by plain settings (UTS #35 part 5, "Collation Tailorings").
 ghost use Rattle.icu_rule_laws.specs.related_texts.PlainOrders.{NoTextHasVariable, RelatedTextsOrder, SameTextsTie};
-ghost use Rattle.icu_rule_laws.specs.related_texts.RelationOrders.{HeldRelationsOrder, IdentitiesOrder, RelationsOrder, RulesKeepScripts};
+ghost use Rattle.icu_rule_laws.specs.related_texts.RelationOrders.{ApartRelationsOrder, BeforeRelationsOrder, HeldRelationsOrder, IdentitiesOrder, RelationsOrder, RulesKeepScripts};
 ghost use Rattle.icu_rule_laws.specs.related_texts.SwedishLetters.{SwedishLettersOrder};
 
 use crate::texts_are_read_by_rules;
@@ -33,6 +33,25 @@ pub fn relations_order(root: &CheckedRoot<'_>)
 {
     texts_are_read_by_rules(root);
     relations_hold();
+    numbered_elements_keep_order();
+}
+
+/// By each collation of these tables, two texts that stand in a chain of relations are one apart at its level, if the
+/// relations of that level differ from elements that count there: at each of the four levels, backward, with scripts
+/// reordered, and beside variable elements.
+pub fn apart_relations_order(root: &CheckedRoot<'_>)
+    ensures { ApartRelationsOrder root.now }
+{
+    texts_are_read_by_rules(root);
+    numbered_elements_keep_order();
+}
+
+/// By each collation of these tables, what a relation puts right after `[before n]`, at this level, comes before the
+/// place of the reset.
+pub fn before_relations_order(root: &CheckedRoot<'_>)
+    ensures { BeforeRelationsOrder root.now }
+{
+    texts_are_read_by_rules(root);
     numbered_elements_keep_order();
 }
 

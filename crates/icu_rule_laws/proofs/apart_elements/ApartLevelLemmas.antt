@@ -13,15 +13,16 @@ use Rattle.icu_order_texts.proofs.AppendLemmas.{stayed_elements-append, weights-
 use Rattle.icu_rule_laws.specs.apart_elements.UpperWeights.{has_nonzero, upper_lists}
 use Rattle.icu_rule_laws.specs.apart_elements.ApartElements.{AreOneApart}
 use Rattle.icu_rule_laws.proofs.apart_elements.KeyedReadings.{first_same, rest_same}
-use Rattle.icu_rule_laws.proofs.apart_elements.UpperLemmas.{upper_of_same, upper-append}
+use Rattle.icu_rule_laws.proofs.apart_elements.UpperLemmas.{upper-append}
 use Rattle.icu_rule_laws.proofs.apart_elements.ReadLevels.{primaries_same, secondaries_same, tertiaries_same, quaternaries_same}
 use Rattle.icu_rule_laws.proofs.apart_elements.StayingLemmas.{stays_between, parted_order}
 
 -- what counts before the level of all the elements
-pub upper_whole : (n : ℕ) (xs ys : List Element) (a : AreOneApart n xs ys) → upper_lists n xs ≡ upper_lists n ys
-upper_whole n xs ys a =
+pub upper_whole : (n : ℕ) (xs ys : List Element) (a : AreOneApart n xs ys) → upper_lists n a.front ≡ upper_lists n a.other_front
+    → upper_lists n xs ≡ upper_lists n ys
+upper_whole n xs ys a fronts =
     ap (upper_lists n) a.left ∙ upper-append n a.front (a.e ∷ a.rest)
-    ∙ ap₂ (λ us vs. us ++ vs) (upper_of_same n a.front a.other_front a.fronts)
+    ∙ ap₂ (λ us vs. us ++ vs) fronts
     (ap₂ (λ ws wss. cond (has_nonzero ws) (ws ∷ wss) wss) a.above a.rests)
     ∙ sym (upper-append n a.other_front (a.other ∷ a.other_rest)) ∙ sym (ap (upper_lists n) a.right)
 
@@ -84,7 +85,7 @@ module _ (handling : AlternateHandling) (last : ℕ) where
       parted_order (map reorder (primaries (kept a.front))) (map reorder (primaries (kept a.other_front)))
       (map reorder (primaries (kept a.rest))) (map reorder (primaries (kept a.other_rest))) _ _
       (reorder a.e.primary) (reorder a.other.primary)
-      (ap (map reorder) (primaries_same handling last a.front a.other_front (upper_of_same 2 a.front a.other_front a.fronts)))
+      (ap (map reorder) (primaries_same handling last a.front a.other_front a.fronts))
       l
       (ap (map reorder) (weights_between _ a.front a.rest xs a.e a.left s a.counts)
       ∙ map-append reorder (primaries (kept a.front)) (a.e.primary ∷ primaries (kept a.rest)))
@@ -96,7 +97,7 @@ module _ (handling : AlternateHandling) (last : ℕ) where
   secondaries_less xs ys a s t =
       parted_order (secondaries (kept a.front)) (secondaries (kept a.other_front))
       (secondaries (kept a.rest)) (secondaries (kept a.other_rest)) _ _ a.e.secondary a.other.secondary
-      (secondaries_same handling last a.front a.other_front (upper_of_same 3 a.front a.other_front a.fronts)) a.less
+      (secondaries_same handling last a.front a.other_front a.fronts) a.less
       (weights_between _ a.front a.rest xs a.e a.left s a.counts)
       (weights_between _ a.other_front a.other_rest ys a.other a.right t (not_zero a.e.secondary a.other.secondary a.less))
 
@@ -105,7 +106,7 @@ module _ (handling : AlternateHandling) (last : ℕ) where
   tertiaries_less xs ys a s t =
       parted_order (tertiaries WithoutCase (kept a.front)) (tertiaries WithoutCase (kept a.other_front))
       (tertiaries WithoutCase (kept a.rest)) (tertiaries WithoutCase (kept a.other_rest)) _ _ (tertiary_of a.e) (tertiary_of a.other)
-      (tertiaries_same handling last a.front a.other_front (upper_of_same 4 a.front a.other_front a.fronts)) a.less
+      (tertiaries_same handling last a.front a.other_front a.fronts) a.less
       (weights_between tertiary_of a.front a.rest xs a.e a.left s a.counts)
       (weights_between tertiary_of a.other_front a.other_rest ys a.other a.right t (not_zero (tertiary_of a.e) (tertiary_of a.other) a.less))
 
@@ -118,7 +119,7 @@ module _ (handling : AlternateHandling) (last : ℕ) where
       parted_order (quaternaries reorder (handled handling last false a.front)) (quaternaries reorder (handled handling last false a.other_front))
       (quaternaries reorder (handled handling last false a.rest)) (quaternaries reorder (handled handling last false a.other_rest)) _ _
       (quaternary_weight a.e) (quaternary_weight a.other)
-      (quaternaries_same handling last reorder a.front a.other_front (upper_of_same 5 a.front a.other_front a.fronts))
+      (quaternaries_same handling last reorder a.front a.other_front a.fronts)
       (subst₂ (λ v w. v < w) (quaternary_there (tertiary_of a.e == 0) (quaternary_weight a.e) here)
       (quaternary_there (tertiary_of a.other == 0) (quaternary_weight a.other) there) a.less)
       (quaternaries_between reorder a.front a.rest xs a.e a.left s here)

@@ -1,11 +1,12 @@
 -- The order of elements that are one apart, without case.
 use Rattle.std.proofs.Common.{◌≡◌, ◌≤◌, ℕ, ◌+◌, zero, suc, Bool, true, false, List, ◌∷◌, Option, Some, None, map, reverse, refl, ap, sym, ◌∙◌, arith, Ordering, Less, Equal}
+use Rattle.std.specs.Ordering.{ordering_then}
 use Rattle.icu_options.specs.Metadata.{is_backward}
 use Rattle.icu_options.specs.declared.settings.Strength.{Strength}
 use Rattle.icu_options.specs.declared.settings.Strength.TheVariants.{Primary, Secondary, Tertiary, Quaternary, Identical}
 use Rattle.icu_table_entries.specs.Elements.{Element}
 use Rattle.icu_order_levels.specs.ListOrder.{list_order}
-use Rattle.icu_order_levels.specs.Keys.{LevelLists, levels_order, primaries_order, secondaries_order, tertiaries_order, characters_order}
+use Rattle.icu_order_levels.specs.Keys.{LevelLists, levels_order, primaries_order, secondaries_order, cases_order, tertiaries_order, characters_order}
 use Rattle.icu_order_levels.specs.declared.forms.CaseForm.{CaseForm}
 use Rattle.icu_order_levels.specs.declared.forms.KeyForm.{KeyForm}
 use Rattle.icu_order_levels.specs.declared.forms.TertiaryForm.{TertiaryForm}
@@ -24,7 +25,7 @@ use Rattle.icu_rule_laws.proofs.apart_elements.UpperLemmas.{upper_lower}
 use Rattle.icu_rule_laws.proofs.apart_elements.ReadLevels.{primaries_same, secondaries_same, tertiaries_same, parts_same, quaternaries_same}
 use Rattle.icu_rule_laws.proofs.apart_elements.ApartLevelLemmas.{upper_whole, primaries_less, secondaries_less, tertiaries_less, quaternaries_less}
 use Rattle.icu_rule_laws.proofs.apart_elements.BackwardLemmas.{segments_are_less}
-use Rattle.icu_rule_laws.proofs.apart_elements.SaidLemmas.{form_at, primary_decides, secondary_decides, secondaries_said, tertiaries_said, quaternaries_said, characters_said}
+use Rattle.icu_rule_laws.proofs.apart_elements.SaidLemmas.{form_at, primary_after, primary_decides, secondary_decides, secondaries_said, tertiaries_after, quaternaries_after, characters_said}
 
 -- at the primary level each strength says Less
 pub said_at_first : (s : Strength) → said_at s 1 ≡ Less
@@ -102,7 +103,7 @@ module _ (c : Collation) (xs ys : List Element) (t u : List ℕ) where
   second_apart cases tertiary s l a d =
       secondary_decides (compression_of c.tables) (direction (is_backward c.tables.bits)) cases tertiary (handling_form c.settings.alternate_handling)
       (left_by (form_of cases tertiary s)) (right_by (form_of cases tertiary s)) s l
-      (primaries_tie (form_of cases tertiary s) (upper_whole 2 xs ys a))
+      (primaries_tie (form_of cases tertiary s) (upper_whole 2 xs ys a (upper_lower 1 3 2 (λ x. refl) a.front a.other_front a.fronts)))
       (secondaries_part (form_of cases tertiary s) (is_backward c.tables.bits) refl a d)
 
   -- whatever case is, the primary level decides, and from the secondary strength on the secondary one
@@ -113,6 +114,36 @@ module _ (c : Collation) (xs ys : List Element) (t u : List ℕ) where
   apart_is_less cases tertiary s (suc (suc zero)) l m r a d = second_apart cases tertiary s (omega arith) a d
   apart_is_less cases tertiary s (suc (suc (suc n))) l m r a d = absurd (omega arith)
 
+  -- what cases are by a form
+  abbrev pub cases_by : Option CaseForm → TertiaryForm → Strength → Ordering
+  cases_by cases tertiary s = cases_order cases (left_by (form_of cases tertiary s)) (right_by (form_of cases tertiary s))
+
+  -- cases come first by the primary strength, and before a tertiary and a quaternary difference
+  pub apart_after_case : (cases : Option CaseForm) (s : Strength) (n : ℕ) → 2 ≤ n → n ≤ 4 → (n ≡ 2 → strength_rank s ≡ 0)
+      → (a : AreOneApart n xs ys) → SettingsDecide c n a → order_of cases WithoutCase s ≡ ordering_then (cases_by cases WithoutCase s) (said_at s n)
+  apart_after_case cases s zero l m r a d = absurd (omega arith)
+  apart_after_case cases s (suc zero) l m r a d = absurd (omega arith)
+  apart_after_case cases s (suc (suc zero)) l m r a d =
+      primary_after (compression_of c.tables) (direction (is_backward c.tables.bits)) cases WithoutCase (handling_form c.settings.alternate_handling)
+      (left_by (form_of cases WithoutCase s)) (right_by (form_of cases WithoutCase s)) s (r refl)
+      (primaries_tie (form_of cases WithoutCase s) (upper_whole 2 xs ys a (upper_lower 1 3 2 (λ x. refl) a.front a.other_front a.fronts)))
+  apart_after_case cases s (suc (suc (suc zero))) l m r a d =
+      let whole = upper_whole 3 xs ys a (upper_lower 2 4 3 (λ x. refl) a.front a.other_front a.fronts) in
+      tertiaries_after (compression_of c.tables) (direction (is_backward c.tables.bits)) cases WithoutCase (handling_form c.settings.alternate_handling)
+      (left_by (form_of cases WithoutCase s)) (right_by (form_of cases WithoutCase s)) s
+      (primaries_tie (form_of cases WithoutCase s) (upper_lower 1 3 2 (λ x. refl) xs ys whole))
+      (secondaries_tie (form_of cases WithoutCase s) (is_backward c.tables.bits) whole)
+      (tertiaries_part cases s a d)
+  apart_after_case cases s (suc (suc (suc (suc zero)))) l m r a d =
+      let whole = upper_whole 4 xs ys a (upper_lower 3 5 4 (λ x. refl) a.front a.other_front a.fronts) in
+      quaternaries_after (compression_of c.tables) (direction (is_backward c.tables.bits)) cases WithoutCase (handling_form c.settings.alternate_handling)
+      (left_by (form_of cases WithoutCase s)) (right_by (form_of cases WithoutCase s)) s
+      (primaries_tie (form_of cases WithoutCase s) (upper_lower 1 4 2 (λ x. refl) xs ys whole))
+      (secondaries_tie (form_of cases WithoutCase s) (is_backward c.tables.bits) (upper_lower 2 4 3 (λ x. refl) xs ys whole))
+      (tertiaries_tie cases s whole)
+      (quaternaries_less c.settings.alternate_handling (last_variable_by c) (reorder c.tables) xs ys a d.stays d.other_stays)
+  apart_after_case cases s (suc (suc (suc (suc (suc n))))) l m r a d = absurd (omega arith)
+
   -- without case it is as the strength says
   pub apart_is_said : (s : Strength) (n : ℕ) → 1 ≤ n → n ≤ 4 → (a : AreOneApart n xs ys) → SettingsDecide c n a
       → order_of None WithoutCase s ≡ said_at s n
@@ -121,22 +152,10 @@ module _ (c : Collation) (xs ys : List Element) (t u : List ℕ) where
   apart_is_said s (suc (suc zero)) l m a d =
       secondaries_said (compression_of c.tables) (direction (is_backward c.tables.bits)) None WithoutCase (handling_form c.settings.alternate_handling)
       (left_by (form_of None WithoutCase s)) (right_by (form_of None WithoutCase s)) s
-      (primaries_tie (form_of None WithoutCase s) (upper_whole 2 xs ys a))
+      (primaries_tie (form_of None WithoutCase s) (upper_whole 2 xs ys a (upper_lower 1 3 2 (λ x. refl) a.front a.other_front a.fronts)))
       (secondaries_part (form_of None WithoutCase s) (is_backward c.tables.bits) refl a d) refl
-  apart_is_said s (suc (suc (suc zero))) l m a d =
-      tertiaries_said (compression_of c.tables) (direction (is_backward c.tables.bits)) None WithoutCase (handling_form c.settings.alternate_handling)
-      (left_by (form_of None WithoutCase s)) (right_by (form_of None WithoutCase s)) s
-      (primaries_tie (form_of None WithoutCase s) (upper_lower 1 3 (λ x. refl) xs ys (upper_whole 3 xs ys a)))
-      (secondaries_tie (form_of None WithoutCase s) (is_backward c.tables.bits) (upper_whole 3 xs ys a)) refl
-      (tertiaries_part None s a d)
-  apart_is_said s (suc (suc (suc (suc zero)))) l m a d =
-      quaternaries_said (compression_of c.tables) (direction (is_backward c.tables.bits)) None WithoutCase (handling_form c.settings.alternate_handling)
-      (left_by (form_of None WithoutCase s)) (right_by (form_of None WithoutCase s)) s
-      (primaries_tie (form_of None WithoutCase s) (upper_lower 1 4 (λ x. refl) xs ys (upper_whole 4 xs ys a)))
-      (secondaries_tie (form_of None WithoutCase s) (is_backward c.tables.bits) (upper_lower 2 4 (λ x. refl) xs ys (upper_whole 4 xs ys a))) refl
-      (tertiaries_tie None s (upper_whole 4 xs ys a))
-      (quaternaries_less c.settings.alternate_handling (last_variable_by c) (reorder c.tables) xs ys a d.stays d.other_stays)
-  apart_is_said s (suc (suc (suc (suc (suc n))))) l m a d = absurd (omega arith)
+  apart_is_said s (suc (suc (suc n))) l m a d =
+      apart_after_case None s (suc (suc (suc n))) (omega arith) m (λ two. absurd (omega (arith, two))) a d
 
   -- elements that the levels compare alike
   pub alike_is_said : (s : Strength) → upper_lists 5 xs ≡ upper_lists 5 ys
@@ -144,9 +163,9 @@ module _ (c : Collation) (xs ys : List Element) (t u : List ℕ) where
   alike_is_said s e =
       characters_said (compression_of c.tables) (direction (is_backward c.tables.bits)) None WithoutCase (handling_form c.settings.alternate_handling)
       (left_by (form_of None WithoutCase s)) (right_by (form_of None WithoutCase s)) s
-      (primaries_tie (form_of None WithoutCase s) (upper_lower 1 5 (λ x. refl) xs ys e))
-      (secondaries_tie (form_of None WithoutCase s) (is_backward c.tables.bits) (upper_lower 2 5 (λ x. refl) xs ys e)) refl
-      (tertiaries_tie None s (upper_lower 3 5 (λ x. refl) xs ys e))
+      (primaries_tie (form_of None WithoutCase s) (upper_lower 1 5 2 (λ x. refl) xs ys e))
+      (secondaries_tie (form_of None WithoutCase s) (is_backward c.tables.bits) (upper_lower 2 5 3 (λ x. refl) xs ys e)) refl
+      (tertiaries_tie None s (upper_lower 3 5 4 (λ x. refl) xs ys e))
       (same_lists_order _ _ (quaternaries_same c.settings.alternate_handling (last_variable_by c) (reorder c.tables) xs ys e))
 
   -- the first primary decides

@@ -1,5 +1,6 @@
 -- Backward, elements that are one apart at the secondary level are less there.
-use Rattle.std.proofs.Common.{◌≡◌, ◌≢◌, ◌<◌, ◌⊎◌, ℕ, Bool, true, false, ◌==◌, List, [], ◌∷◌, ◌++◌, map, reverse, if◌then◌else◌, refl, ap, ap₂, sym, subst₂, ◌∙◌, append_assoc, append-nil, inl, inr, ⊎_elim, Less}
+use Rattle.std.proofs.Common.{◌≡◌, ◌≢◌, ◌<◌, ◌⊎◌, ℕ, Bool, true, false, ◌==◌, cond, List, [], ◌∷◌, ◌++◌, map, reverse, if◌then◌else◌, refl, ap, ap₂, sym, subst₂, ◌∙◌, append_assoc, append-nil, inl, inr, ⊎_elim, Less}
+use Rattle.std.specs.Prelude.{slice_index_or}
 use Rattle.std.specs.Ordering.{ordering_then}
 use Rattle.std.proofs.lemmas.List.{reverse-append}
 use Rattle.std.proofs.lemmas.Bool.{ne_eqb}
@@ -9,10 +10,10 @@ use Rattle.icu_table_entries.specs.ElementConditions.{separator_primary}
 use Rattle.icu_order_levels.specs.ListOrder.{list_order, segments_order, Precedes}
 use Rattle.icu_order_levels.proofs.Order.{same_front, less_head, same_lists_order}
 use Rattle.icu_order_texts.specs.weighting.Levels.{parted, segments}
-use Rattle.icu_rule_laws.specs.apart_elements.UpperWeights.{compared_weights, upper_lists}
+use Rattle.icu_rule_laws.specs.apart_elements.UpperWeights.{has_nonzero, upper_weights, upper_lists}
 use Rattle.icu_rule_laws.specs.apart_elements.ApartElements.{AreOneApart}
-use Rattle.icu_rule_laws.proofs.apart_elements.KeyedReadings.{first_same, rest_same}
-use Rattle.icu_rule_laws.proofs.apart_elements.ReadLevels.{parts_same, compared_same}
+use Rattle.icu_rule_laws.proofs.apart_elements.KeyedReadings.{first_same}
+use Rattle.icu_rule_laws.proofs.apart_elements.ReadLevels.{no_separator, primary_none, secondary_none, parts_same, upper_same}
 use Rattle.icu_rule_laws.proofs.apart_elements.ApartLevelLemmas.{kept, Stays, kept_between, not_zero}
 
 -- Segments that are less, whatever elements with the same weights come before: the first ones are the same and the
@@ -54,17 +55,35 @@ one_before false true s p q h = h
 one_before false false s p q h =
     ⊎_elim (λ e. inl (ap (λ l. s ∷ l) e.0, e.1)) (λ l. inr (precede_more s p.0 q.0 l)) h
 
-elements_before : (ks ls us vs : List Element) → map compared_weights ks ≡ map compared_weights ls → AreLessParts (parted us) (parted vs)
-    → AreLessParts (parted (ks ++ us)) (parted (ls ++ vs))
+-- more of them, by what counts at the first two levels
+abbrev with_all : List (List ℕ) → List ℕ × List (List ℕ) → List ℕ × List (List ℕ)
+with_all [] r = r
+with_all (ws ∷ wss) r = with_one (slice_index_or ws 0 0) (slice_index_or ws 1 0) (with_all wss r)
+
+all_before : (wss : List (List ℕ)) (p q : List ℕ × List (List ℕ)) → AreLessParts p q → AreLessParts (with_all wss p) (with_all wss q)
+all_before [] p q h = h
+all_before (ws ∷ wss) p q h =
+    one_before (slice_index_or ws 0 0 == separator_primary) (slice_index_or ws 1 0 == 0) (slice_index_or ws 1 0)
+    (with_all wss p) (with_all wss q) (all_before wss p q h)
+
+one_parted : (x : Element) (b : Bool) → has_nonzero (upper_weights 3 x) ≡ b → (wss : List (List ℕ)) (r : List ℕ × List (List ℕ))
+    → with_one x.primary x.secondary (with_all wss r) ≡ with_all (cond b (upper_weights 3 x ∷ wss) wss) r
+one_parted x true is wss r = refl
+one_parted x false none wss r =
+    ap₂ (λ v w. if v then ([], (with_all wss r).0 ∷ (with_all wss r).1) else if w then with_all wss r else (x.secondary ∷ (with_all wss r).0, (with_all wss r).1))
+    (no_separator x.primary (primary_none x none)) (secondary_none x none)
+
+all_parted : (ks us : List Element) → parted (ks ++ us) ≡ with_all (upper_lists 3 ks) (parted us)
 unfolding parted
-elements_before [] [] us vs e h = h
-elements_before [] (y ∷ ls) us vs e h = cc
-elements_before (x ∷ ks) [] us vs e h = cc
-elements_before (x ∷ ks) (y ∷ ls) us vs e h =
-    let more : AreLessParts (parted (ks ++ us)) (parted (ls ++ vs)) = elements_before ks ls us vs (rest_same e) h in
-    subst₂ (λ p s. AreLessParts (with_one x.primary x.secondary (parted (ks ++ us))) (with_one p s (parted (ls ++ vs))))
-    (first_same (first_same e)) (first_same (rest_same (first_same e)))
-    (one_before (x.primary == separator_primary) (x.secondary == 0) x.secondary (parted (ks ++ us)) (parted (ls ++ vs)) more)
+all_parted [] us = refl
+all_parted (x ∷ ks) us =
+    ap (with_one x.primary x.secondary) (all_parted ks us) ∙ one_parted x (has_nonzero (upper_weights 3 x)) refl (upper_lists 3 ks) (parted us)
+
+elements_before : (ks ls us vs : List Element) → upper_lists 3 ks ≡ upper_lists 3 ls → AreLessParts (parted us) (parted vs)
+    → AreLessParts (parted (ks ++ us)) (parted (ls ++ vs))
+elements_before ks ls us vs e h =
+    subst₂ AreLessParts (sym (all_parted ks us)) (ap (λ wss. with_all wss (parted vs)) e ∙ sym (all_parted ls vs))
+    (all_before (upper_lists 3 ks) (parted us) (parted vs) h)
 
 -- an element that has a secondary, before the rest
 with_secondary : (b c : Bool) (s : ℕ) (r : List ℕ × List (List ℕ)) → b ≡ false → c ≡ false
@@ -96,7 +115,7 @@ module _ (handling : AlternateHandling) (last : ℕ) where
       (subst₂ (λ us vs. AreLessParts (parted us) (parted vs)) (sym (kept_between handling last a.front a.rest xs a.e a.left s))
       (sym (kept_between handling last a.other_front a.other_rest ys a.other a.right t))
       (elements_before (on a.front) (on a.other_front) (a.e ∷ on a.rest) (a.other ∷ on a.other_rest)
-      (compared_same handling last a.front a.other_front a.fronts)
+      (upper_same handling last a.front a.other_front a.fronts)
       (subst₂ AreLessParts (sym (parted_with a.e (on a.rest) n a.counts))
       (sym (parted_with a.other (on a.other_rest) (λ p. n (first ∙ p)) (not_zero a.e.secondary a.other.secondary a.less)))
       (less_first a.e.secondary a.other.secondary (parted (on a.rest)) (parted (on a.other_rest)) a.less

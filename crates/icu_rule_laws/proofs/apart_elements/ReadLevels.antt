@@ -1,5 +1,5 @@
 -- What a level reads of elements is determined by their weights up to it.
-use Rattle.std.proofs.Common.{◌≡◌, ℕ, Bool, true, false, ◌&&◌, ◌==◌, not, List, [], ◌∷◌, map, if◌then◌else◌, refl, ap, ap₂, sym, ◌∙◌, arith}
+use Rattle.std.proofs.Common.{◌≡◌, ℕ, Bool, true, false, ◌&&◌, ◌==◌, not, cond, List, [], ◌∷◌, if◌then◌else◌, refl, ap, ap₂, sym, ◌∙◌, arith}
 use Rattle.std.proofs.lemmas.Bool.Decides.{nat_tests}
 use Rattle.icu_options.specs.declared.settings.AlternateHandling.{AlternateHandling}
 use Rattle.icu_table_entries.specs.Elements.{Element}
@@ -7,8 +7,8 @@ use Rattle.icu_table_entries.specs.ElementConditions.{separator_primary, tertiar
 use Rattle.icu_order_levels.specs.declared.forms.TertiaryForm.TheVariants.{WithoutCase}
 use Rattle.icu_order_texts.specs.weighting.Handled.{HandledElement, stayed, shifted_primary, handled, stayed_elements}
 use Rattle.icu_order_texts.specs.weighting.Levels.{weights, primaries, primary_of, secondaries, secondary_of, parted, tertiaries, quaternaries, quaternary_weight}
-use Rattle.icu_rule_laws.specs.apart_elements.UpperWeights.{compared_quaternary, compared_weights, has_nonzero, upper_weights, upper_lists}
-use Rattle.icu_rule_laws.proofs.apart_elements.KeyedReadings.{ReadsByKey, all_alike, read_alike, first_same, rest_same}
+use Rattle.icu_rule_laws.specs.apart_elements.UpperWeights.{compared_quaternary, has_nonzero, upper_weights, upper_lists}
+use Rattle.icu_rule_laws.proofs.apart_elements.KeyedReadings.{ReadsByKey, read_alike, first_same, rest_same}
 
 -- ---- weights that are all 0
 
@@ -20,7 +20,7 @@ zero_and_more false c e = cc
 is_zero : (n : ℕ) → (n == 0) ≡ true → n ≡ 0
 is_zero n e = grind (arith, nat_tests)
 
-no_separator : (p : ℕ) → p ≡ 0 → (p == separator_primary) ≡ false
+pub no_separator : (p : ℕ) → p ≡ 0 → (p == separator_primary) ≡ false
 no_separator p e = grind (arith, nat_tests)
 
 -- the first of weights that are all 0, and those after it
@@ -35,10 +35,10 @@ none_at_first : (x : Element) → has_nonzero (upper_weights 2 x) ≡ false → 
 none_at_first x z = is_zero x.primary (first_zero x.primary [] z)
 
 module _ (x : Element) (z : has_nonzero (upper_weights 3 x) ≡ false) where
-  primary_none : x.primary ≡ 0
+  pub primary_none : x.primary ≡ 0
   primary_none = is_zero x.primary (first_zero x.primary (x.secondary ∷ []) z)
 
-  secondary_none : (x.secondary == 0) ≡ true
+  pub secondary_none : (x.secondary == 0) ≡ true
   secondary_none = first_zero x.secondary [] (rest_zero x.primary (x.secondary ∷ []) z)
 
 module _ (x : Element) (ws : List ℕ) (z : has_nonzero (x.primary ∷ x.secondary ∷ tertiary_of x ∷ ws) ≡ false) where
@@ -180,26 +180,25 @@ module _ (handling : AlternateHandling) (last : ℕ) where
         → quaternaries reorder (handled handling last false xs) ≡ quaternaries reorder (handled handling last false ys)
     quaternaries_same xs ys e = read_alike _ _ (upper_weights 5) has_nonzero reads_quaternaries handling last false xs ys e
 
-  -- ---- what stays of elements with the same weights
+  -- ---- what counts at the first two levels of elements that stayed
 
-  abbrev compared_step : HandledElement → List (List ℕ) → List (List ℕ)
-  compared_step (stayed x) r = compared_weights x ∷ r
-  compared_step (shifted_primary p) r = r
+  abbrev upper_step : HandledElement → List (List ℕ) → List (List ℕ)
+  upper_step (stayed x) r = cond (has_nonzero (upper_weights 3 x)) (upper_weights 3 x ∷ r) r
+  upper_step (shifted_primary p) r = r
 
-  compared_turn : (h : HandledElement) (hs : List HandledElement)
-      → map compared_weights (stayed_elements (h ∷ hs)) ≡ compared_step h (map compared_weights (stayed_elements hs))
-  compared_turn (stayed x) hs = refl
-  compared_turn (shifted_primary p) hs = refl
+  upper_turn : (h : HandledElement) (hs : List HandledElement)
+      → upper_lists 3 (stayed_elements (h ∷ hs)) ≡ upper_step h (upper_lists 3 (stayed_elements hs))
+  upper_turn (stayed x) hs = refl
+  upper_turn (shifted_primary p) hs = refl
 
-  reads_compared : ReadsByKey (λ hs. map compared_weights (stayed_elements hs)) compared_step compared_weights (λ ws. true)
-  reads_compared = record {
-    turn = compared_turn;
-    alike = λ x y e r. ap (λ ws. ws ∷ r) e;
+  reads_upper : ReadsByKey (λ hs. upper_lists 3 (stayed_elements hs)) upper_step (upper_weights 3) has_nonzero
+  reads_upper = record {
+    turn = upper_turn;
+    alike = λ x y e r. ap (λ ws. cond (has_nonzero ws) (ws ∷ r) r) e;
     alike_primary = λ x y e. first_same e;
-    quiet = λ x z r. cc;
-    quiet_primary = λ x z. cc;
+    quiet = λ x z r. ap (λ b. cond b (upper_weights 3 x ∷ r) r) z;
+    quiet_primary = primary_none;
   }
 
-  pub compared_same : (xs ys : List Element) → map compared_weights xs ≡ map compared_weights ys
-      → map compared_weights (kept xs) ≡ map compared_weights (kept ys)
-  compared_same xs ys e = all_alike _ _ compared_weights (λ ws. true) reads_compared handling last false xs ys e
+  pub upper_same : (xs ys : List Element) → upper_lists 3 xs ≡ upper_lists 3 ys → upper_lists 3 (kept xs) ≡ upper_lists 3 (kept ys)
+  upper_same xs ys e = read_alike _ _ (upper_weights 3) has_nonzero reads_upper handling last false xs ys e

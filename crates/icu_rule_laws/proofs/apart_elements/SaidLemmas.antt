@@ -100,19 +100,32 @@ module _ (c : Compression) (secondary : SecondaryForm) (cases : Option CaseForm)
         → cases_order cases t u ≡ Equal → levels_order c (form_at s) t u ≡ said_at s 2
     secondaries_said s e f g = tie_hands_on (primaries_order c t u) _ (said_at s 2) e (second_said s f g)
 
+    -- where no level before them parts, cases come first
+    pub primary_after : (s : Strength) → strength_rank s ≡ 0 → primaries_order c t u ≡ Equal
+        → levels_order c (form_at s) t u ≡ ordering_then (cases_order cases t u) (said_at s 2)
+    primary_after Primary r e = tie_hands_on (primaries_order c t u) _ _ e refl
+    primary_after Secondary r e = absurd (omega (arith, r))
+    primary_after Tertiary r e = absurd (omega (arith, r))
+    primary_after Quaternary r e = absurd (omega (arith, r))
+    primary_after Identical r e = absurd (omega (arith, r))
+
+    pub tertiaries_after : (s : Strength) → primaries_order c t u ≡ Equal → secondaries_order (Some secondary) t u ≡ Equal
+        → (2 ≤ strength_rank s → tertiaries_order (Some tertiary) t u ≡ Less)
+        → levels_order c (form_at s) t u ≡ ordering_then (cases_order cases t u) (said_at s 3)
+    tertiaries_after s e f h =
+        tie_hands_on (primaries_order c t u) _ _ e (tie_hands_on _ _ _ (second_ties s f) (ap (ordering_then (cases_order cases t u)) (third_said s h)))
+
     pub tertiaries_said : (s : Strength) → primaries_order c t u ≡ Equal → secondaries_order (Some secondary) t u ≡ Equal
         → cases_order cases t u ≡ Equal → (2 ≤ strength_rank s → tertiaries_order (Some tertiary) t u ≡ Less) → levels_order c (form_at s) t u ≡ said_at s 3
-    tertiaries_said s e f g h =
-        tie_hands_on (primaries_order c t u) _ (said_at s 3) e
-        (tie_hands_on _ _ (said_at s 3) (second_ties s f) (tie_hands_on (cases_order cases t u) _ (said_at s 3) g (third_said s h)))
+    tertiaries_said s e f g h = tertiaries_after s e f h ∙ ap (λ o. ordering_then o (said_at s 3)) g
 
-    pub quaternaries_said : (s : Strength) → primaries_order c t u ≡ Equal → secondaries_order (Some secondary) t u ≡ Equal
-        → cases_order cases t u ≡ Equal → (2 ≤ strength_rank s → tertiaries_order (Some tertiary) t u ≡ Equal) → quaternaries_order (Some quaternary) t u ≡ Less
-        → levels_order c (form_at s) t u ≡ said_at s 4
-    quaternaries_said s e f g h i =
-        tie_hands_on (primaries_order c t u) _ (said_at s 4) e
-        (tie_hands_on _ _ (said_at s 4) (second_ties s f)
-        (tie_hands_on (cases_order cases t u) _ (said_at s 4) g (tie_hands_on _ _ (said_at s 4) (third_ties s h) (fourth_said s i))))
+    pub quaternaries_after : (s : Strength) → primaries_order c t u ≡ Equal → secondaries_order (Some secondary) t u ≡ Equal
+        → (2 ≤ strength_rank s → tertiaries_order (Some tertiary) t u ≡ Equal) → quaternaries_order (Some quaternary) t u ≡ Less
+        → levels_order c (form_at s) t u ≡ ordering_then (cases_order cases t u) (said_at s 4)
+    quaternaries_after s e f h i =
+        tie_hands_on (primaries_order c t u) _ _ e
+        (tie_hands_on _ _ _ (second_ties s f)
+        (ap (ordering_then (cases_order cases t u)) (tie_hands_on _ _ (said_at s 4) (third_ties s h) (fourth_said s i))))
 
     fourth_ties : (s : Strength) → quaternaries_order (Some quaternary) t u ≡ Equal → quaternaries_order (quaternary_form s quaternary) t u ≡ Equal
     fourth_ties Primary e = refl

@@ -1,5 +1,5 @@
 -- Weights before a level: of elements one after another, and before a higher level.
-use Rattle.std.proofs.Common.{◌≡◌, ℕ, ◌-◌, ◌==◌, Bool, true, false, ◌&&◌, cond, not, List, [], ◌∷◌, ◌++◌, map, filter, take, refl, ap, ap₂, sym, ◌∙◌, zero, suc, ◌+◌}
+use Rattle.std.proofs.Common.{◌≡◌, ℕ, ◌-◌, ◌==◌, Bool, true, false, ◌&&◌, cond, not, List, [], ◌∷◌, ◌++◌, map, filter, take, refl, ap, ap₂, sym, ◌∙◌, zero, suc}
 use Rattle.std.proofs.lemmas.List.{map-append}
 use Rattle.std.proofs.lemmas.List.Elements.{filter-append}
 use Rattle.std.specs.List.{list_all}
@@ -47,14 +47,14 @@ turned : (b c : Bool) → (b ≡ true → c ≡ true) → not b ≡ false → no
 turned true c f e = ap not (f refl)
 turned false c f e = cc
 
-module _ (k n : ℕ) (shorter : (x : Element) → take k (upper_weights n x) ≡ upper_weights (k + 1) x) where
-  cut_upper : (es : List Element) → map (take k) (map (upper_weights n) es) ≡ map (upper_weights (k + 1)) es
+module _ (k n m : ℕ) (shorter : (x : Element) → take k (upper_weights n x) ≡ upper_weights m x) where
+  cut_upper : (es : List Element) → map (take k) (map (upper_weights n) es) ≡ map (upper_weights m) es
   cut_upper [] = refl
   cut_upper (x ∷ xs) = ap₂ (λ ws wss. ws ∷ wss) (shorter x) (cut_upper xs)
 
-  lower_lists : (es : List Element) → filter has_nonzero (map (take k) (upper_lists n es)) ≡ upper_lists (k + 1) es
+  pub lower_lists : (es : List Element) → filter has_nonzero (map (take k) (upper_lists n es)) ≡ upper_lists m es
   lower_lists es =
       filter_cut (take k) (λ ws h. turned _ _ (none_taken k ws) h) (map (upper_weights n) es) ∙ ap (filter has_nonzero) (cut_upper es)
 
-  pub upper_lower : (xs ys : List Element) → upper_lists n xs ≡ upper_lists n ys → upper_lists (k + 1) xs ≡ upper_lists (k + 1) ys
+  pub upper_lower : (xs ys : List Element) → upper_lists n xs ≡ upper_lists n ys → upper_lists m xs ≡ upper_lists m ys
   upper_lower xs ys e = sym (lower_lists xs) ∙ ap (λ wss. filter has_nonzero (map (take k) wss)) e ∙ lower_lists ys

@@ -59,10 +59,10 @@ held_are_ordered root order same placed t says ok c tables index strength is hel
     let at = stands (stored_root root) placed (numbering_of says.numbers) index strength is held in
     let level = level_alone strength string in
     record {
-      differ = λ plain v w fits low.
+      differ = λ plain v w low.
           order placed t says ok c tables other string first second (alone strength string) at
           (subst (λ n. 1 ≤ n) (sym level) (level_is_one strength)) (subst (HasPlainSettings c) (sym level) plain) v w
-          (λ far. fits (subst (λ n. 3 ≤ n) level far)) (λ far. low (subst (λ n. 4 ≤ n) level far))
+          (λ far. low (subst (λ n. 4 ≤ n) level far))
           ∙ ap (said_at c.settings.strength) level;
       same = λ none plain case.
           same placed t says ok c tables other string first second (alone strength string) at (level ∙ ap level_of none) plain case;

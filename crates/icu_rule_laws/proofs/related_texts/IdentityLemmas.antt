@@ -1,11 +1,10 @@
 -- Texts that `=` relates have elements with the same weights, so no level tells them apart.
-use Rattle.std.proofs.Common.{◌≡◌, ◌<◌, ◌≤◌, ◌+◌, ◌*◌, ◌/◌, ◌%◌, ◌^◌, ◌==◌, ℕ, Bool, true, false, cond, min, List, [], ◌∷◌, ◌++◌, map, length, if◌then◌else◌, refl, ap, ap₂, sym, ◌∙◌, arith}
+use Rattle.std.proofs.Common.{◌≡◌, ◌<◌, ◌≤◌, ◌+◌, ◌*◌, ◌/◌, ◌%◌, ◌^◌, ◌==◌, ℕ, Bool, true, false, cond, min, List, [], ◌∷◌, ◌++◌, map, if◌then◌else◌, refl, ap, ap₂, sym, ◌∙◌, arith}
 use Rattle.std.specs.Prelude.{bit_and}
-use Rattle.std.proofs.lemmas.List.{append-nil, append_assoc, map-append}
+use Rattle.std.proofs.lemmas.List.{append-nil, append_assoc}
 use Rattle.std.proofs.lemmas.Nat.{and_le_r, and_mod}
 use Rattle.std.proofs.Math.Nat.{min-le_left, min-le_right, mod-eq_of_lt}
 use Rattle.std.proofs.lemmas.Bool.Decides.{nat_tests}
-use Rattle.unicode_normalization.specs.Forms.{nfd}
 use Rattle.icu_options.specs.declared.settings.Strength.TheVariants.{Primary, Secondary, Tertiary, Quaternary, Identical}
 use Rattle.icu_table_entries.specs.Elements.{Element, tertiary_mask, quaternary_mask}
 use Rattle.icu_order_texts.specs.weighting.Collations.{Collation}
@@ -14,15 +13,14 @@ use Rattle.icu_rule_root.specs.declared.checked_root.CheckedRoot.{CheckedRoot}
 use Rattle.icu_rule_root.specs.StoredRoots.{stored_root}
 use Rattle.icu_rule_meaning.specs.Rules.{Rule, relation, reset, setting, suppression, level_of}
 use Rattle.icu_rule_meaning.specs.RelationLaws.{elements_at}
-use Rattle.icu_rule_meaning.specs.Steps.{TailoringState, case_step, first_state, mapping_step, relation_step, rule_step, state_after, tailoring_of}
+use Rattle.icu_rule_meaning.specs.Steps.{TailoringState, first_state, tailoring_of}
 use Rattle.icu_rule_meaning.specs.SymbolicOrders.{Numbering, weights_in}
-use Rattle.icu_rule_meaning.specs.TailoredCases.{cases_for, cases_of, counts_first_at, primary_elements, upper_case_bits, with_case_bits, with_cases}
-use Rattle.icu_rule_meaning.specs.TailoredMappings.{root_mappings, symbolic_elements}
 use Rattle.icu_rule_meaning.specs.TailoredRoots.{Root}
 use Rattle.icu_rule_meaning.specs.WeightTrees.{weight_at_level}
 use Rattle.icu_rule_meaning.specs.declared.symbolic.SymbolicWeight.{SymbolicWeight}
 use Rattle.icu_rule_meaning.specs.declared.symbolic.SymbolicElement.{SymbolicElement}
-use Rattle.icu_rule_meaning.proofs.TreeLemmas.{either}
+use Rattle.icu_rule_meaning.proofs.ExtensionLemmas.{weights_append}
+use Rattle.icu_rule_meaning.proofs.RelationLemmas.{state_after-append}
 use Rattle.icu_rule_weights.specs.declared.tailoring_numbers.tailoring_numbers.TailoringNumbers.{TailoringNumbers}
 use Rattle.icu_rule_weights.specs.tailoring_numbers.NumberedElements.{numbered_element}
 use Rattle.icu_rule_weights.specs.tailoring_numbers.Numberings.{number_of}
@@ -37,6 +35,7 @@ use Rattle.icu_rule_laws.proofs.apart_elements.ApartTextLemmas.{alike_texts}
 use Rattle.icu_rule_laws.proofs.apart_elements.UpperLemmas.{upper_of_same}
 use Rattle.icu_rule_laws.proofs.related_texts.PlainOrderLemmas.{has_plain_elements}
 use Rattle.icu_rule_laws.proofs.related_texts.RelationOrderLemmas.{read_by}
+use Rattle.icu_rule_laws.proofs.related_texts.RuleListLemmas.{relation_weights}
 
 -- ---- case bits change nothing that levels compare
 
@@ -96,41 +95,11 @@ upper_weighted (x ∷ xs) = one_weighted x xs (is_weighted x) refl (upper_weight
 
 -- ---- `=` changes case bits alone
 
-cases_change_no_weight : (cases : List ℕ) (es : List SymbolicElement) → weights_in (with_cases cases es) ≡ weights_in es
-unfolding with_cases
-cases_change_no_weight cases [] = refl
-cases_change_no_weight [] (e ∷ es) = ap (λ ws. e.weights ∷ ws) (cases_change_no_weight [] es)
-cases_change_no_weight (c ∷ cases) (e ∷ es) =
-    let other = with_case_bits e (if counts_first_at 3 e then upper_case_bits else 0) in
-    either (λ fs. weights_in fs ≡ weights_in (e ∷ es)) (counts_first_at 1 e)
-    (with_case_bits e c ∷ with_cases cases es) (other ∷ with_cases (c ∷ cases) es)
-    (λ _. ap (λ ws. e.weights ∷ ws) (cases_change_no_weight cases es))
-    (λ _. ap (λ ws. e.weights ∷ ws) (cases_change_no_weight (c ∷ cases) es))
-
-kept_elements_of : (prefix string : List ℕ) (es : List SymbolicElement) (state : TailoringState)
-    → (mapping_step prefix string es state).elements ≡ state.elements
-kept_elements_of prefix [] es state = refl
-kept_elements_of prefix (c ∷ suffix) es state = refl
-
-in_turn : (root : Root) (state : TailoringState) (rules more : List Rule)
-    → state_after root state (rules ++ more) ≡ state_after root (state_after root state rules) more
-in_turn root state [] more = refl
-in_turn root state (rule ∷ rules) more = in_turn root (rule_step root state rule) rules more
-
-step_weights : (root : Root) (prefix string extension : List ℕ) (state : TailoringState)
-    → weights_in (relation_step root Identical prefix string extension state).elements ≡ weights_in state.elements
-unfolding relation_step
-step_weights root prefix string extension state =
-    let cased : TailoringState = case_step root (nfd string) state in
-    let of_string = symbolic_elements (root_mappings root) (nfd string) in
-    ap weights_in (kept_elements_of (nfd prefix) (nfd string) (cased.elements ++ symbolic_elements state.mappings (nfd extension)) cased)
-    ∙ cases_change_no_weight (cases_for (length (primary_elements state.elements)) (cases_of of_string)) state.elements
-
 identity_weights : (root : Root) (earlier : List Rule) (prefix string extension : List ℕ)
     → weights_in (elements_at root (earlier ++ relation Identical prefix string extension ∷ [])) ≡ weights_in (elements_at root earlier)
 identity_weights root earlier prefix string extension =
-    ap (λ (s : TailoringState). weights_in s.elements) (in_turn root (first_state root) earlier (relation Identical prefix string extension ∷ []))
-    ∙ step_weights root prefix string extension (tailoring_of root earlier)
+    ap (λ (s : TailoringState). weights_in s.elements) (state_after-append root (first_state root) earlier (relation Identical prefix string extension ∷ []))
+    ∙ relation_weights root Identical prefix string extension (tailoring_of root earlier)
 
 -- ---- chains of `=`
 
@@ -166,11 +135,10 @@ chain_weights root (setting said ∷ chain) earlier e = absurd (omega arith)
 between : (front before after behind : List SymbolicElement) → weights_in after ≡ weights_in before
     → weights_in (front ++ (before ++ behind)) ≡ weights_in (front ++ (after ++ behind))
 between front before after behind e =
-    let weights : SymbolicElement → List SymbolicWeight = λ e. e.weights in
-    map-append weights front (before ++ behind)
+    weights_append front (before ++ behind)
     ∙ ap (λ wss. weights_in front ++ wss)
-    (map-append weights before behind ∙ ap (λ wss. wss ++ weights_in behind) (sym e) ∙ sym (map-append weights after behind))
-    ∙ sym (map-append weights front (after ++ behind))
+    (weights_append before behind ∙ ap (λ wss. wss ++ weights_in behind) (sym e) ∙ sym (weights_append after behind))
+    ∙ sym (weights_append front (after ++ behind))
 
 same_weights : (root : Root) (placed : List PlacedStatement) (numbering : Numbering) (chain : List Rule) (left right : List ℕ)
     → StandInChain root placed numbering chain left right → chain_level chain ≡ 5
@@ -182,7 +150,7 @@ same_weights root placed numbering chain left right at e =
 
 -- ---- texts
 
-upper_by : (t : TailoringNumbers) (c : Collation) → ReadsPlainly c → (text : List ℕ) (es : List SymbolicElement)
+pub upper_by : (t : TailoringNumbers) (c : Collation) → ReadsPlainly c → (text : List ℕ) (es : List SymbolicElement)
     → weighted (plain_elements c text) ≡ weighted (map (numbered_element t) es)
     → upper_lists 5 (elements_by c text) ≡ upper_lists 5 (map (numbered_element t) es)
 upper_by t c plain text es e =

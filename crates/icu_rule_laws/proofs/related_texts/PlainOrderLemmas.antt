@@ -39,11 +39,11 @@ use Rattle.icu_rule_laws.proofs.apart_elements.ApartTextLemmas.{by_elements}
 
 -- ---- all elements stay
 
-left_false : (b c : Bool) → (b || c) ≡ false → b ≡ false
+pub left_false : (b c : Bool) → (b || c) ≡ false → b ≡ false
 left_false true c e = cc
 left_false false c e = refl
 
-right_false : (b c : Bool) → (b || c) ≡ false → c ≡ false
+pub right_false : (b c : Bool) → (b || c) ≡ false → c ≡ false
 right_false true c e = cc
 right_false false c e = e
 
@@ -90,7 +90,7 @@ module _ (c : Collation) where
   abbrev AreKept : List Element → Type 0
   AreKept es = list_any (is_variable (last_variable_by c)) es ≡ false
 
-  kept_all : (es : List Element) → AreKept es → kept_elements c es ≡ es
+  pub kept_all : (es : List Element) → AreKept es → kept_elements c es ≡ es
   kept_all es none = all_stay c.settings.alternate_handling (last_variable_by c) es none
 
   primaries_are : (es : List Element) → AreKept es → primaries (kept_elements c es) ≡ element_numbers 1 es

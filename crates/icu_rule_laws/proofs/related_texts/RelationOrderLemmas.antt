@@ -1,13 +1,11 @@
 -- Texts that stand at a relation order as it says, by a collation of the tables of its rules.
-use Rattle.std.proofs.Common.{◌≡◌, ◌≢◌, ◌≤◌, ◌<◌, ◌+◌, ◌-◌, ℕ, zero, suc, Bool, ◌==◌, min, not, inl, inr, List, [], ◌∷◌, ◌++◌, length, map, filter, take, if◌then◌else◌, refl, ap, ap₂, sym, subst, subst₂, ◌∙◌, arith, Less, Equal}
-use Rattle.std.specs.Prelude.{slice_index_or}
+use Rattle.std.proofs.Common.{◌≡◌, ◌≢◌, ◌≤◌, ◌<◌, ◌+◌, ℕ, zero, suc, min, inl, inr, List, [], ◌∷◌, ◌++◌, map, refl, ap, ap₂, sym, subst, subst₂, ◌∙◌, arith, Less, Equal}
 use Rattle.std.specs.List.{AllByRecursion}
 use Rattle.std.proofs.lemmas.Bool.{cases_order}
 use Rattle.std.proofs.lemmas.Cmp.{nat_list_cmp_total}
 use Rattle.std.proofs.Math.Nat.{min-le_left, min-le_right}
 use Rattle.std.proofs.lemmas.Bool.Decides.{nat_tests}
-use Rattle.std.proofs.lemmas.List.{append-nil, append_assoc, map-append}
-use Rattle.std.proofs.lemmas.List.Elements.{filter-append}
+use Rattle.std.proofs.lemmas.List.{append-nil, append_assoc}
 use Rattle.unicode_normalization.specs.Forms.{nfd}
 use Rattle.icu_options.specs.declared.settings.Strength.{Strength}
 use Rattle.icu_options.specs.declared.settings.Strength.TheVariants.{Primary, Secondary, Tertiary, Quaternary, Identical}
@@ -25,15 +23,13 @@ use Rattle.icu_rule_root.specs.StoredRoots.{stored_root}
 use Rattle.icu_rule_meaning.specs.Rules.{Rule, relation, reset, setting, suppression, level_of, rules_of}
 use Rattle.icu_rule_meaning.specs.RelationLaws.{AreRelated, ExtendedRelationsHold, RelationsHold, elements_at}
 use Rattle.icu_rule_meaning.specs.Steps.{tailoring_of}
-use Rattle.icu_rule_meaning.specs.SymbolicElements.{weights_of}
-use Rattle.icu_rule_meaning.specs.SymbolicOrders.{AreLessAt, Numbering, NumbersTree, level_numbers, weights_in}
+use Rattle.icu_rule_meaning.specs.SymbolicOrders.{AreLessAt, Numbering, NumbersTree, level_numbers}
 use Rattle.icu_rule_meaning.specs.TailoredRoots.{Root}
-use Rattle.icu_rule_meaning.specs.WeightTrees.{weight_at_level}
-use Rattle.icu_rule_meaning.specs.declared.symbolic.SymbolicWeight.{SymbolicWeight}
+use Rattle.icu_rule_meaning.proofs.ExtensionLemmas.{level_append}
 use Rattle.icu_rule_meaning.specs.declared.symbolic.SymbolicElement.{SymbolicElement}
 use Rattle.icu_rule_weights.specs.declared.tailoring_numbers.tailoring_numbers.TailoringNumbers.{TailoringNumbers}
 use Rattle.icu_rule_weights.specs.tailoring_numbers.NumberedElements.{FitsAll, NumberedElementsKeepOrder, element_numbers, numbered_element}
-use Rattle.icu_rule_weights.specs.tailoring_numbers.Numberings.{number_of, numbering_of}
+use Rattle.icu_rule_weights.specs.tailoring_numbers.Numberings.{numbering_of}
 use Rattle.icu_rule_steps.specs.held_relations.HeldRelations.{elements_by_all}
 use Rattle.icu_rule_tables.specs.Tailorings.{SaysRules, tailored_tables}
 use Rattle.icu_rule_tables.specs.declared.tailoring.Tailoring.{Tailoring}
@@ -44,9 +40,9 @@ use Rattle.icu_rule_laws.specs.tailored_texts.TailoredTexts.{IsScalarCode}
 use Rattle.icu_rule_laws.specs.apart_elements.ApartElements.{said_at}
 use Rattle.icu_rule_laws.specs.related_texts.PlainOrders.{HasNoVariable, HasPlainSettings, plain_elements}
 use Rattle.icu_rule_laws.specs.related_texts.RelationOrders.{DifferFromWeights, DiffersFromWeight, RelationsOrder, StandInChain, chain_level}
+use Rattle.icu_rule_laws.proofs.FittingTextLemmas.{text_fits_all}
 use Rattle.icu_rule_laws.proofs.RelatedTextLemmas.{numbers_weighted}
 use Rattle.icu_rule_laws.proofs.related_texts.PlainOrderLemmas.{related_order, same_tie}
-use Rattle.icu_rule_laws.proofs.related_texts.FourWeights.{AreFour, tailoring_four, symbolic_four}
 
 -- ---- lists of elements that are the same before a level, and less at it if it is one of the four
 
@@ -105,23 +101,14 @@ module _ (numbering : Numbering) (n m : ℕ) (es fs gs : List SymbolicElement) (
 
 -- ---- the same elements before or after both
 
-numbers-append : (numbering : Numbering) (level : ℕ) (es fs : List SymbolicElement)
-    → level_numbers numbering level (es ++ fs) ≡ level_numbers numbering level es ++ level_numbers numbering level fs
-numbers-append numbering level es fs =
-    let number : List SymbolicWeight → ℕ = λ ws. numbering (take level ws) in
-    let test : ℕ → Bool = λ w. not (w == 0) in
-    ap (λ wss. filter test (map number wss)) (map-append (λ (e : SymbolicElement). e.weights) es fs)
-    ∙ ap (filter test) (map-append number (weights_in es) (weights_in fs))
-    ∙ filter-append test (map number (weights_in es)) (map number (weights_in fs))
-
 with_front : (numbering : Numbering) (n : ℕ) (gs es fs : List SymbolicElement) → AreLessFrom numbering n es fs
     → AreLessFrom numbering n (gs ++ es) (gs ++ fs)
 with_front numbering n gs es fs l = record {
   same = λ level a b.
-      numbers-append numbering level gs es ∙ ap (λ ws. level_numbers numbering level gs ++ ws) (l.same level a b)
-      ∙ sym (numbers-append numbering level gs fs);
+      level_append numbering level gs es ∙ ap (λ ws. level_numbers numbering level gs ++ ws) (l.same level a b)
+      ∙ sym (level_append numbering level gs fs);
   less = λ d.
-      ap₂ list_order (numbers-append numbering n gs es) (numbers-append numbering n gs fs)
+      ap₂ list_order (level_append numbering n gs es) (level_append numbering n gs fs)
       ∙ same_front (level_numbers numbering n gs) (level_numbers numbering n es) (level_numbers numbering n fs) ∙ l.less d;
 }
 
@@ -130,8 +117,8 @@ same_with_behind : (numbering : Numbering) (es fs gs : List SymbolicElement)
     → ((level : ℕ) → level_numbers numbering level es ≡ level_numbers numbering level fs)
     → (level : ℕ) → level_numbers numbering level (es ++ gs) ≡ level_numbers numbering level (fs ++ gs)
 same_with_behind numbering es fs gs same level =
-    numbers-append numbering level es gs ∙ ap (λ ws. ws ++ level_numbers numbering level gs) (same level)
-    ∙ sym (numbers-append numbering level fs gs)
+    level_append numbering level es gs ∙ ap (λ ws. ws ++ level_numbers numbering level gs) (same level)
+    ∙ sym (level_append numbering level fs gs)
 
 -- ---- chains
 
@@ -222,56 +209,12 @@ in_chain_by_all holds extended root placed numbering numbers chain left right at
 
 -- ---- numbers of elements
 
-first_number : (t : TailoringNumbers) (ws : List SymbolicWeight) → number_of t (weight_at_level 1 ws) ≡ numbering_of t (take 1 ws)
-first_number t [] = refl
-first_number t (v ∷ ws) = refl
-
-second_number : (t : TailoringNumbers) (ws : List SymbolicWeight) → length ws ≡ 4
-    → number_of t (weight_at_level 2 ws) ≡ numbering_of t (take 2 ws)
-second_number t [] e = refl
-second_number t (v ∷ []) e = cc
-second_number t (v ∷ w ∷ ws) e = refl
-
-abbrev counted : List ℕ → List ℕ
-counted = filter (λ w. not (w == 0))
-
-one_more : (v w : ℕ) (us vs : List ℕ) → v ≡ w → counted us ≡ counted vs → counted (v ∷ us) ≡ counted (w ∷ vs)
-one_more v w us vs e f = ap (λ x. counted (x ∷ us)) e ∙ ap (λ ws. if not (w == 0) then w ∷ ws else ws) f
-
-abbrev elements_at_level : TailoringNumbers → ℕ → List SymbolicElement → List ℕ
-elements_at_level t level es = map (λ (x : Element). slice_index_or (weights_of x) (level - 1) 0) (map (numbered_element t) es)
-
-abbrev weights_at_level : TailoringNumbers → ℕ → List SymbolicElement → List ℕ
-weights_at_level t level es = map (λ ws. numbering_of t (take level ws)) (weights_in es)
-
-first_numbers : (t : TailoringNumbers) (es : List SymbolicElement)
-    → element_numbers 1 (map (numbered_element t) es) ≡ level_numbers (numbering_of t) 1 es
-first_numbers t [] = refl
-first_numbers t (e ∷ es) =
-    one_more (number_of t (weight_at_level 1 e.weights)) (numbering_of t (take 1 e.weights)) (elements_at_level t 1 es) (weights_at_level t 1 es)
-    (first_number t e.weights) (first_numbers t es)
-
-second_numbers : (t : TailoringNumbers) (es : List SymbolicElement) → AreFour es
-    → element_numbers 2 (map (numbered_element t) es) ≡ level_numbers (numbering_of t) 2 es
-second_numbers t [] four = refl
-second_numbers t (e ∷ es) (f, fs) =
-    one_more (number_of t (weight_at_level 2 e.weights)) (numbering_of t (take 2 e.weights)) (elements_at_level t 2 es) (weights_at_level t 2 es)
-    (second_number t e.weights f) (second_numbers t es fs)
-
-level_is : (keeps : NumberedElementsKeepOrder) (t : TailoringNumbers) (es : List SymbolicElement) → AreFour es → (level : ℕ)
-    → 1 ≤ level → level ≤ 4 → (3 ≤ level → FitsAll t es)
-    → element_numbers level (map (numbered_element t) es) ≡ level_numbers (numbering_of t) level es
-level_is keeps t es four zero a b fits = absurd (omega arith)
-level_is keeps t es four (suc zero) a b fits = first_numbers t es
-level_is keeps t es four (suc (suc zero)) a b fits = second_numbers t es four
-level_is keeps t es four (suc (suc (suc n))) a b fits = keeps t es (suc (suc (suc n))) a b (fits (omega arith))
-
-numbers_at : (keeps : NumberedElementsKeepOrder) (t : TailoringNumbers) (xs : List Element) (es : List SymbolicElement) → AreFour es
-    → weighted xs ≡ weighted (map (numbered_element t) es) → (level : ℕ) → 1 ≤ level → level ≤ 4 → (3 ≤ level → FitsAll t es)
+numbers_at : (keeps : NumberedElementsKeepOrder) (t : TailoringNumbers) (xs : List Element) (es : List SymbolicElement) → FitsAll t es
+    → weighted xs ≡ weighted (map (numbered_element t) es) → (level : ℕ) → 1 ≤ level → level ≤ 4
     → element_numbers level xs ≡ level_numbers (numbering_of t) level es
-numbers_at keeps t xs es four same level a b fits =
+numbers_at keeps t xs es fits same level a b =
     sym (numbers_weighted level xs) ∙ ap (element_numbers level) same ∙ numbers_weighted level (map (numbered_element t) es)
-    ∙ level_is keeps t es four level a b fits
+    ∙ keeps t es level a b fits
 
 -- ---- texts
 
@@ -280,25 +223,25 @@ not_had : (s : Strength) (n : ℕ) → strength_rank s + 1 < n → Equal ≡ sai
 not_had s n h = grind (arith, nat_tests)
 
 module _ (keeps : NumberedElementsKeepOrder) (t : TailoringNumbers) (c : Collation) (left right : List ℕ)
-    (es fs : List SymbolicElement) (fours : AreFour es × AreFour fs)
+    (es fs : List SymbolicElement) (fit_left : FitsAll t es) (fit_right : FitsAll t fs)
     (keeps_left : HasNoVariable c left) (keeps_right : HasNoVariable c right)
     (of_left : weighted (plain_elements c left) ≡ weighted (map (numbered_element t) es))
     (of_right : weighted (plain_elements c right) ≡ weighted (map (numbered_element t) fs)) where
   -- weights of a level are the same, or less
-  same_at : (level : ℕ) → 1 ≤ level → level ≤ 4 → (3 ≤ level → FitsAll t es × FitsAll t fs)
+  same_at : (level : ℕ) → 1 ≤ level → level ≤ 4
       → level_numbers (numbering_of t) level es ≡ level_numbers (numbering_of t) level fs
       → element_numbers level (plain_elements c left) ≡ element_numbers level (plain_elements c right)
-  same_at level a b fits e =
-      numbers_at keeps t (plain_elements c left) es fours.0 of_left level a b (λ l. (fits l).0) ∙ e
-      ∙ sym (numbers_at keeps t (plain_elements c right) fs fours.1 of_right level a b (λ l. (fits l).1))
+  same_at level a b e =
+      numbers_at keeps t (plain_elements c left) es fit_left of_left level a b ∙ e
+      ∙ sym (numbers_at keeps t (plain_elements c right) fs fit_right of_right level a b)
 
-  less_at : (n : ℕ) → 1 ≤ n → n ≤ 4 → (3 ≤ n → FitsAll t es × FitsAll t fs) → AreLessFrom (numbering_of t) n es fs
+  less_at : (n : ℕ) → 1 ≤ n → n ≤ 4 → AreLessFrom (numbering_of t) n es fs
       → AreLessElements n (plain_elements c left) (plain_elements c right)
-  less_at n a b fits l = record {
-    same = λ level from under. same_at level from (omega arith) (λ m. fits (omega arith)) (l.same level from under);
+  less_at n a b l = record {
+    same = λ level from under. same_at level from (omega arith) (l.same level from under);
     less =
-        ap₂ list_order (numbers_at keeps t (plain_elements c left) es fours.0 of_left n a b (λ m. (fits m).0))
-        (numbers_at keeps t (plain_elements c right) fs fours.1 of_right n a b (λ m. (fits m).1))
+        ap₂ list_order (numbers_at keeps t (plain_elements c left) es fit_left of_left n a b)
+        (numbers_at keeps t (plain_elements c right) fs fit_right of_right n a b)
         ∙ l.less b;
   }
 
@@ -306,30 +249,26 @@ module _ (keeps : NumberedElementsKeepOrder) (t : TailoringNumbers) (c : Collati
   rank = strength_rank c.settings.strength
 
   -- the level is one of the first three, and the strength has it or not
-  has_level : (n : ℕ) → 1 ≤ n → n ≤ 3 → HasPlainSettings c n → (3 ≤ n → FitsAll t es × FitsAll t fs) → AreLessFrom (numbering_of t) n es fs
+  has_level : (n : ℕ) → 1 ≤ n → n ≤ 3 → HasPlainSettings c n → AreLessFrom (numbering_of t) n es fs
       → text_order c left right ≡ said_at c.settings.strength n
-  has_level n a b plain fits l = related_order c left right n a b plain keeps_left keeps_right (less_at n a (omega arith) fits l)
+  has_level n a b plain l = related_order c left right n a b plain keeps_left keeps_right (less_at n a (omega arith) l)
 
-  has_no_level : (n : ℕ) → 3 ≤ n → rank + 1 < n → rank ≤ 2 → HasPlainSettings c n → (2 ≤ rank → FitsAll t es × FitsAll t fs)
+  has_no_level : (n : ℕ) → 3 ≤ n → rank + 1 < n → rank ≤ 2 → HasPlainSettings c n
       → AreLessFrom (numbering_of t) n es fs → text_order c left right ≡ said_at c.settings.strength n
-  has_no_level n a b d plain fits l =
+  has_no_level n a b d plain l =
       same_tie c left right n a plain keeps_left keeps_right d
-      (λ level from to. same_at level from (omega arith) (λ m. fits (omega arith)) (l.same level from (omega arith)))
+      (λ level from to. same_at level from (omega arith) (l.same level from (omega arith)))
       ∙ not_had c.settings.strength n b
 
-  by_strength : (n : ℕ) → 1 ≤ n → HasPlainSettings c n → (3 ≤ n → 2 ≤ rank → FitsAll t es × FitsAll t fs) → (4 ≤ n → rank ≤ 2)
+  by_strength : (n : ℕ) → 1 ≤ n → HasPlainSettings c n → (4 ≤ n → rank ≤ 2)
       → AreLessFrom (numbering_of t) n es fs → text_order c left right ≡ said_at c.settings.strength n
-  by_strength zero a plain fits low l = absurd (omega arith)
-  by_strength (suc zero) a plain fits low l = has_level 1 a (omega arith) plain (λ m. absurd (omega arith)) l
-  by_strength (suc (suc zero)) a plain fits low l = has_level 2 a (omega arith) plain (λ m. absurd (omega arith)) l
-  by_strength (suc (suc (suc zero))) a plain fits low l = elim (cases_order (rank + 1) 3) [
-    | inl e ↦ has_level 3 a (omega arith) plain (λ m. fits m (omega (arith, e))) l
-    | inr (inl h) ↦ has_no_level 3 (omega arith) h (omega (arith, h)) plain (fits (omega arith)) l
-    | inr (inr h) ↦ has_level 3 a (omega arith) plain (λ m. fits m (omega (arith, h))) l
-  ]
-  by_strength (suc (suc (suc (suc n)))) a plain fits low l =
+  by_strength zero a plain low l = absurd (omega arith)
+  by_strength (suc zero) a plain low l = has_level 1 a (omega arith) plain l
+  by_strength (suc (suc zero)) a plain low l = has_level 2 a (omega arith) plain l
+  by_strength (suc (suc (suc zero))) a plain low l = has_level 3 a (omega arith) plain l
+  by_strength (suc (suc (suc (suc n)))) a plain low l =
       let few = low (omega arith) in
-      has_no_level (suc (suc (suc (suc n)))) (omega arith) (omega (arith, few)) few plain (fits (omega arith)) l
+      has_no_level (suc (suc (suc (suc n)))) (omega arith) (omega (arith, few)) few plain l
 
 -- what a collation of tables reads
 pub read_by : (root : CheckedRoot) → TextsAreReadByRules root → (placed : List PlacedStatement) (t : Tailoring) (says : SaysRules root placed t)
@@ -341,14 +280,10 @@ read_by root reads placed t says ok c tables text scalars =
 
 pub relations_are_ordered : RelationsHold → ExtendedRelationsHold → NumberedElementsKeepOrder → (root : CheckedRoot) → TextsAreReadByRules root
     → RelationsOrder root
-relations_are_ordered holds extended keeps root reads placed t says ok c tables left right first second chain at one plain keeps_left keeps_right fits low =
+relations_are_ordered holds extended keeps root reads placed t says ok c tables left right first second chain at one plain keeps_left keeps_right low =
     let es = elements_by_all (stored_root root) placed left in
     let fs = elements_by_all (stored_root root) placed right in
-    let mappings = (tailoring_four (stored_root root) (rules_of placed)).mappings in
-    by_strength keeps says.numbers c left right es fs (
-      symbolic_four (tailoring_of (stored_root root) (rules_of placed)).mappings (nfd left) mappings,
-      symbolic_four (tailoring_of (stored_root root) (rules_of placed)).mappings (nfd right) mappings,
-    )
+    by_strength keeps says.numbers c left right es fs (text_fits_all root placed t says left first) (text_fits_all root placed t says right second)
     keeps_left keeps_right (read_by root reads placed t says ok c tables left first) (read_by root reads placed t says ok c tables right second)
-    (chain_level chain) one plain fits low
+    (chain_level chain) one plain low
     (in_chain_by_all holds extended (stored_root root) placed (numbering_of says.numbers) says.numbered.numbered chain left right at one)

@@ -291,52 +291,52 @@ swedish_letters root law scripts untouched placed t says rules ok c tables =
           (stand stored placed numbering rules z small_å (reset None (at_string z) ∷ []) (relation Primary [] small_å [] ∷ [])
           (relation Tertiary [] capital_å [] ∷ relation Primary [] small_ä [] ∷ relation Tertiary [] capital_ä [] ∷ relation Primary [] small_ö [] ∷ relation Tertiary [] capital_ö [] ∷ []) refl
           (read_z stored placed numbering rules untouched) (read_small_å stored placed numbering rules))
-          (omega arith) (plain_of reads) v w (λ far. absurd (omega arith)) (λ far. absurd (omega arith))
+          (omega arith) (plain_of reads) v w (λ far. absurd (omega arith))
           ∙ said_at_first c.settings.strength;
       ä_after_small_å = λ reads v w.
           law placed t says ok c tables small_å small_ä scalar_small_å scalar_small_ä (relation Tertiary [] capital_å [] ∷ relation Primary [] small_ä [] ∷ [])
           (stand stored placed numbering rules small_å small_ä (reset None (at_string z) ∷ relation Primary [] small_å [] ∷ []) (relation Tertiary [] capital_å [] ∷ relation Primary [] small_ä [] ∷ [])
           (relation Tertiary [] capital_ä [] ∷ relation Primary [] small_ö [] ∷ relation Tertiary [] capital_ö [] ∷ []) refl
           (read_small_å stored placed numbering rules) (read_small_ä stored placed numbering rules))
-          (omega arith) (plain_of reads) v w (λ far. absurd (omega arith)) (λ far. absurd (omega arith))
+          (omega arith) (plain_of reads) v w (λ far. absurd (omega arith))
           ∙ said_at_first c.settings.strength;
       ä_after_capital_å = λ reads v w.
           law placed t says ok c tables capital_å small_ä scalar_capital_å scalar_small_ä (relation Primary [] small_ä [] ∷ [])
           (stand stored placed numbering rules capital_å small_ä (reset None (at_string z) ∷ relation Primary [] small_å [] ∷ relation Tertiary [] capital_å [] ∷ []) (relation Primary [] small_ä [] ∷ [])
           (relation Tertiary [] capital_ä [] ∷ relation Primary [] small_ö [] ∷ relation Tertiary [] capital_ö [] ∷ []) refl
           (read_capital_å stored placed numbering rules) (read_small_ä stored placed numbering rules))
-          (omega arith) (plain_of reads) v w (λ far. absurd (omega arith)) (λ far. absurd (omega arith))
+          (omega arith) (plain_of reads) v w (λ far. absurd (omega arith))
           ∙ said_at_first c.settings.strength;
       ö_after_small_ä = λ reads v w.
           law placed t says ok c tables small_ä small_ö scalar_small_ä scalar_small_ö (relation Tertiary [] capital_ä [] ∷ relation Primary [] small_ö [] ∷ [])
           (stand stored placed numbering rules small_ä small_ö (reset None (at_string z) ∷ relation Primary [] small_å [] ∷ relation Tertiary [] capital_å [] ∷ relation Primary [] small_ä [] ∷ []) (relation Tertiary [] capital_ä [] ∷ relation Primary [] small_ö [] ∷ [])
           (relation Tertiary [] capital_ö [] ∷ []) refl
           (read_small_ä stored placed numbering rules) (read_small_ö stored placed numbering rules))
-          (omega arith) (plain_of reads) v w (λ far. absurd (omega arith)) (λ far. absurd (omega arith))
+          (omega arith) (plain_of reads) v w (λ far. absurd (omega arith))
           ∙ said_at_first c.settings.strength;
       ö_after_capital_ä = λ reads v w.
           law placed t says ok c tables capital_ä small_ö scalar_capital_ä scalar_small_ö (relation Primary [] small_ö [] ∷ [])
           (stand stored placed numbering rules capital_ä small_ö (reset None (at_string z) ∷ relation Primary [] small_å [] ∷ relation Tertiary [] capital_å [] ∷ relation Primary [] small_ä [] ∷ relation Tertiary [] capital_ä [] ∷ []) (relation Primary [] small_ö [] ∷ [])
           (relation Tertiary [] capital_ö [] ∷ []) refl
           (read_capital_ä stored placed numbering rules) (read_small_ö stored placed numbering rules))
-          (omega arith) (plain_of reads) v w (λ far. absurd (omega arith)) (λ far. absurd (omega arith))
+          (omega arith) (plain_of reads) v w (λ far. absurd (omega arith))
           ∙ said_at_first c.settings.strength;
-      cases_of_å = λ plain v w fits.
+      cases_of_å = λ plain v w.
           law placed t says ok c tables small_å capital_å scalar_small_å scalar_capital_å (relation Tertiary [] capital_å [] ∷ [])
           (stand stored placed numbering rules small_å capital_å (reset None (at_string z) ∷ relation Primary [] small_å [] ∷ []) (relation Tertiary [] capital_å [] ∷ [])
           (relation Primary [] small_ä [] ∷ relation Tertiary [] capital_ä [] ∷ relation Primary [] small_ö [] ∷ relation Tertiary [] capital_ö [] ∷ []) refl
           (read_small_å stored placed numbering rules) (read_capital_å stored placed numbering rules))
-          (omega arith) plain v w (λ _ high. fits high) (λ far. absurd (omega arith));
-      cases_of_ä = λ plain v w fits.
+          (omega arith) plain v w (λ far. absurd (omega arith));
+      cases_of_ä = λ plain v w.
           law placed t says ok c tables small_ä capital_ä scalar_small_ä scalar_capital_ä (relation Tertiary [] capital_ä [] ∷ [])
           (stand stored placed numbering rules small_ä capital_ä (reset None (at_string z) ∷ relation Primary [] small_å [] ∷ relation Tertiary [] capital_å [] ∷ relation Primary [] small_ä [] ∷ []) (relation Tertiary [] capital_ä [] ∷ [])
           (relation Primary [] small_ö [] ∷ relation Tertiary [] capital_ö [] ∷ []) refl
           (read_small_ä stored placed numbering rules) (read_capital_ä stored placed numbering rules))
-          (omega arith) plain v w (λ _ high. fits high) (λ far. absurd (omega arith));
-      cases_of_ö = λ plain v w fits.
+          (omega arith) plain v w (λ far. absurd (omega arith));
+      cases_of_ö = λ plain v w.
           law placed t says ok c tables small_ö capital_ö scalar_small_ö scalar_capital_ö (relation Tertiary [] capital_ö [] ∷ [])
           (stand stored placed numbering rules small_ö capital_ö (reset None (at_string z) ∷ relation Primary [] small_å [] ∷ relation Tertiary [] capital_å [] ∷ relation Primary [] small_ä [] ∷ relation Tertiary [] capital_ä [] ∷ relation Primary [] small_ö [] ∷ []) (relation Tertiary [] capital_ö [] ∷ [])
           ([]) refl
           (read_small_ö stored placed numbering rules) (read_capital_ö stored placed numbering rules))
-          (omega arith) plain v w (λ _ high. fits high) (λ far. absurd (omega arith));
+          (omega arith) plain v w (λ far. absurd (omega arith));
     }

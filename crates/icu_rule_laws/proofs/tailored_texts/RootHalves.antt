@@ -88,7 +88,7 @@ half_final home p e c = at (kind_of e)
     at Implicit = (omega arith, tt)
     at _ = half_itself e
 
-half_entry : (home : Data) → Halves home.elements → (c e : ℕ) → Halves (entry_elements home c e)
+pub half_entry : (home : Data) → Halves home.elements → (c e : ℕ) → Halves (entry_elements home c e)
 unfolding entry_elements
 half_entry home p c e = at (kind_of e)
   where

@@ -40,10 +40,10 @@ second_of : (a b : Bool) → (a && b) ≡ true → b ≡ true
 second_of true b h = h
 second_of false b h = cc
 
-scalar_of : (c : ℕ) → IsScalarCode c → is_scalar c ≡ true
+pub scalar_of : (c : ℕ) → IsScalarCode c → is_scalar c ≡ true
 scalar_of c h = first_of (is_scalar c) (nat_lt c code_point_count) h
 
-inside_of : (c : ℕ) → IsScalarCode c → c < code_point_count
+pub inside_of : (c : ℕ) → IsScalarCode c → c < code_point_count
 inside_of c h = ltb-true c code_point_count (second_of (is_scalar c) (nat_lt c code_point_count) h)
 
 jamo_place : (c : ℕ) → is_jamo c ≡ true → (c - jamo_base < jamo_count) × (jamo_base + (c - jamo_base) ≡ c)

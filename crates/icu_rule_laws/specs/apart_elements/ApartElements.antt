@@ -1,6 +1,6 @@
 -- Elements that are one apart at a level, and what settings make of it (UTS #10, "Compare Sort Keys" and "Variable
 -- Weighting"; UTS #35 part 5, "Setting Options").
-use Rattle.std.specs.Prelude.{ℕ, ◌≡◌, ◌≢◌, ◌<◌, ◌+◌, nat_lt, true, false, List, [], ◌∷◌, ◌++◌, map, if◌then◌else◌}
+use Rattle.std.specs.Prelude.{ℕ, ◌≡◌, ◌≢◌, ◌<◌, ◌+◌, nat_lt, true, false, List, [], ◌∷◌, ◌++◌, if◌then◌else◌}
 use Rattle.std.specs.declared.cmp.Ordering.{Ordering}
 use Rattle.std.specs.declared.cmp.Ordering.TheVariants.{Less, Equal}
 use Rattle.unicode_normalization.specs.Forms.{nfd}
@@ -14,10 +14,11 @@ use Rattle.icu_order_texts.specs.weighting.Collations.{Collation}
 use Rattle.icu_order_texts.specs.weighting.Handled.{stayed_elements}
 use Rattle.icu_order_texts.specs.TextOrder.{handled_elements, reading_by}
 use Rattle.icu_order_texts.specs.text_laws.OrderLaws.{strength_rank}
-use Rattle.icu_rule_laws.specs.apart_elements.UpperWeights.{compared_weights, weight_on, upper_weights, upper_lists}
+use Rattle.icu_rule_laws.specs.apart_elements.UpperWeights.{weight_on, upper_weights, upper_lists}
 
--- Elements are one apart at a level: up to one element the levels compare the same weights, but for case; that element
--- is the lesser one at the level, and the same before it; and of what follows, the same counts before the level.
+-- Elements are one apart at a level: before one element the levels up to this one compare the same weights; that
+-- element is the lesser one at the level, and the same before it; and of what follows, the same counts before the
+-- level.
 pub record AreOneApart (n : ℕ) (xs ys : List Element) : Type 0 where
   pub front : List Element
   pub e : Element
@@ -27,7 +28,7 @@ pub record AreOneApart (n : ℕ) (xs ys : List Element) : Type 0 where
   pub other_rest : List Element
   pub left : xs ≡ front ++ e ∷ rest
   pub right : ys ≡ other_front ++ other ∷ other_rest
-  pub fronts : map compared_weights front ≡ map compared_weights other_front
+  pub fronts : upper_lists (n + 1) front ≡ upper_lists (n + 1) other_front
   pub above : upper_weights n e ≡ upper_weights n other
   pub counts : weight_on n e ≢ 0
   pub less : weight_on n e < weight_on n other
