@@ -119,12 +119,28 @@ fn read_member(text: &[char]) -> Option<(char, &[char])>
     }
 }
 
+/// Why what a text begins with isn't read in a set, if it is a string, a complement, a property or another set.
+fn unread_member(text: &[char]) -> Option<RulesErrorKind>
+    ensures { IfSome result (λ kind. sort_of kind ≡ of_part) }
+{
+    match text {
+        ['{', ..] => Some(RulesErrorKind::StringInSet),
+        ['^' | '[' | ':', ..] | ['\\', 'p' | 'P' | 'N', '{', ..] => Some(
+            RulesErrorKind::UnlistedSet,
+        ),
+        _ => None,
+    }
+}
+
 /// The range of a set that a text begins with, and what follows it.
 fn read_range(text: &[char]) -> Result<(CharacterRange, &[char]), RulesErrorKind>
     ensures len { IfOk result (λ r. length r.1.now < length text.now) }
     ensures taken { IfOk result (λ r. TakesRange text.now r.0 r.1.now) }
     ensures part { IfErr result (λ kind. sort_of kind ≡ of_part) }
 {
+    if let Some(kind) = unread_member(text) {
+        return Err(kind);
+    }
     let Some((first, after)) = read_member(text) else {
         return Err(RulesErrorKind::CharacterSet);
     };

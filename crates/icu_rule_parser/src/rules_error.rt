@@ -77,6 +77,12 @@ pub enum RulesErrorKind {
     /// A set of something else than characters and ranges.
     #[error("expected a set of characters and ranges")]
     CharacterSet,
+    /// A string in a set: contractions are suppressed by their first characters.
+    #[error("expected no string in a set: a contraction is suppressed by its first character")]
+    StringInSet,
+    /// A complement, a property or another set in a set.
+    #[error("expected a set that lists characters and ranges: `^`, properties and sets within it aren't read")]
+    UnlistedSet,
     /// An import of rules that there aren't.
     #[error("expected a tag of rules")]
     UnknownRules,
