@@ -1,5 +1,5 @@
 -- What a file of collations says, as a function of the events of its document.
-use Rattle.std.specs.Prelude.{ℕ, Bool, true, false, ◌||◌, List, [], ◌∷◌, ◌++◌, length, Option, Some, None, option_map, unwrap_or, bytes_eq, string_bytes, codes, if◌then◌else◌}
+use Rattle.std.specs.Prelude.{ℕ, Bool, true, false, ◌||◌, List, [], ◌∷◌, ◌++◌, length, Option, Some, None, option_map, is_some, unwrap_or, bytes_eq, string_bytes, codes, if◌then◌else◌}
 use Rattle.std.specs.List.{list_all}
 use Rattle.icu_cldr_files.specs.declared.xml.event.Event.{Event}
 use Rattle.icu_cldr_files.specs.declared.xml.event.Event.TheVariants.{Start, End, Text}
@@ -25,15 +25,17 @@ place_after place (Start tag) = unwrap_or (place_inside place tag.name.now) plac
 place_after place (End name) = place_outside place
 place_after place (Text text) = place
 
--- why an element may not start, which leads to this place: there is none, or it is a collation without a type
-abbrev pub reason_of_tag : Option CollationPlace → Option (List ℕ) → Option LdmlReason
-reason_of_tag None type_named = Some reasons.Element
-reason_of_tag (Some places.Collation) None = Some reasons.Untyped
-reason_of_tag (Some place) type_named = None
+-- why an element of this name may not start, which leads to this place: there is none, or it is a collation without a
+-- type
+abbrev pub reason_of_tag : Option CollationPlace → List ℕ → Option (List ℕ) → Option LdmlReason
+reason_of_tag None name type_named = Some (if bytes_eq name (codes "alias") then reasons.Alias else reasons.Element)
+reason_of_tag (Some places.Collation) name None = Some reasons.Untyped
+reason_of_tag (Some place) name type_named = None
 
 -- why an event may not stand at a place, if it may not
 abbrev pub reason_at : CollationPlace → Event → Option LdmlReason
-reason_at place (Start tag) = reason_of_tag (place_inside place tag.name.now) (attribute_of (codes "type") tag.attributes.items)
+reason_at place (Start tag) =
+    reason_of_tag (place_inside place tag.name.now) tag.name.now (attribute_of (codes "type") tag.attributes.items)
 reason_at place (End name) = None
 reason_at place (Text text) =
     if holds_text place || list_all is_space (string_bytes text) then None else Some reasons.Text
@@ -56,11 +58,17 @@ text_ahead (Start tag ∷ events) = []
 text_ahead (End name ∷ events) = []
 text_ahead (Text text ∷ events) = string_bytes text ++ text_ahead events
 
--- behind the tag of a collation: the text of the element in it, which is <cr>
+-- whether an element of rules has the attribute `alt`: it is another form of the one beside it (UTS #35 part 1)
+abbrev pub is_alternative : StartTag → Bool
+is_alternative tag = is_some (attribute_of (codes "alt") tag.attributes.items)
+
+-- behind the tag of a collation: the text of its first <cr> without `alt`, if it has one
 unfoldable pub rules_ahead : List Event → List ℕ
 rules_ahead [] = []
-rules_ahead (Start tag ∷ events) = text_ahead events
-rules_ahead (End name ∷ events) = []
+rules_ahead (Start tag ∷ events) =
+    if bytes_eq tag.name.now (codes "cr") then (if is_alternative tag then rules_ahead events else text_ahead events)
+    else []
+rules_ahead (End name ∷ events) = if bytes_eq name.now (codes "cr") then rules_ahead events else []
 rules_ahead (Text text ∷ events) = rules_ahead events
 
 -- a collation, in bytes

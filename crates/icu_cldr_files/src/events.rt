@@ -6,7 +6,7 @@ ghost use Rattle.icu_cldr_files.specs.xml.XmlCharacters.{is_space};
 ghost use Rattle.icu_cldr_files.specs.declared.collation_places.CollationPlace.TheVariants.{Outside};
 ghost use Rattle.icu_cldr_files.specs.CollationPlaces.{place_inside};
 ghost use Rattle.icu_cldr_files.specs.CollationEvents.{attribute_of, place_after, reason_of_tag, reason_at, first_refused};
-ghost use Rattle.icu_cldr_files.specs.CollationEvents.{text_ahead, rules_ahead, collation_of_tag, collation_tag, collations_from};
+ghost use Rattle.icu_cldr_files.specs.CollationEvents.{text_ahead, is_alternative, rules_ahead, collation_of_tag, collation_tag, collations_from};
 ghost use Rattle.icu_cldr_files.specs.CollationEvents.{starts_default, default_from, said_collation};
 
 use crate::collation::Collation;
@@ -53,10 +53,11 @@ fn place_after(place: CollationPlace, event: &Event<'_>) -> CollationPlace
 
 /// Why an element may not start at a place, if it may not.
 fn reason_of_tag(place: CollationPlace, tag: &StartTag<'_>) -> Option<LdmlReason>
-    ensures { result ≡ reason_of_tag (place_inside place tag.now.name.now)
+    ensures { result ≡ reason_of_tag (place_inside place tag.now.name.now) tag.now.name.now
         (attribute_of (codes "type") tag.now.attributes.items) }
 {
     match place_inside(place, tag.name) {
+        None if tag.name == "alias" => Some(LdmlReason::Alias),
         None => Some(LdmlReason::Element),
         Some(CollationPlace::Collation) => match attribute_of(tag.attributes.as_slice(), "type") {
             Some(_) => None,
@@ -121,7 +122,14 @@ fn text_ahead(alloc: Global, events: &[Event<'_>]) -> Result<String, AllocError>
     Ok(text)
 }
 
-/// The rules of a collation: the text of the element in it. Events begin behind its tag.
+/// Whether an element of rules has the attribute `alt`.
+fn is_alternative(tag: &StartTag<'_>) -> bool
+    ensures { result ≡ is_alternative tag.now }
+{
+    attribute_of(tag.attributes.as_slice(), "alt").is_some()
+}
+
+/// The rules of a collation: the text of its first `<cr>` without `alt`. Events begin behind its tag.
 #[tactic(auto, unfolding(crate::specs::CollationEvents::rules_ahead))]
 fn rules_ahead(alloc: Global, events: &[Event<'_>]) -> Result<String, AllocError>
     ensures { IfOk result (λ text. string_bytes text ≡ rules_ahead events.now) }
@@ -129,9 +137,10 @@ fn rules_ahead(alloc: Global, events: &[Event<'_>]) -> Result<String, AllocError
     let mut unread = events;
     'reading: while let [event, rest @ ..] = unread {
         match event {
-            Event::Start(_) => return text_ahead(alloc, rest),
-            Event::End(_) => return Ok(String::new(alloc)),
-            Event::Text(_) => {}
+            Event::Start(tag) if tag.name != "cr" => return Ok(String::new(alloc)),
+            Event::Start(tag) if !is_alternative(tag) => return text_ahead(alloc, rest),
+            Event::End(name) if *name != "cr" => return Ok(String::new(alloc)),
+            _ => {}
         }
         unread = rest;
     }

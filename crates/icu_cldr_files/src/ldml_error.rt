@@ -11,6 +11,9 @@ pub enum LdmlReason {
     /// An element that may not stand there.
     #[error("expected an element of a file of collations, in its place")]
     Element,
+    /// An `<alias>`.
+    #[error("expected no <alias>: what it points to isn't looked up, but [import ..] in rules is")]
+    Alias,
     /// A text where only elements stand.
     #[error("expected only white space between elements")]
     Text,
