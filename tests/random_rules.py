@@ -1,13 +1,12 @@
 #!/usr/bin/env python3
 """Makes random small lists of rules, and compares the order of texts by them with that of ICU4C, over the root of CLDR.
 
-    tests/random_rules.py [--sets N] [--seed N] [--root FILE] [--folder FOLDER] [--program FILE]
+    tests/random_rules.py PROGRAM [--sets N] [--seed N] [--root FILE]
 
-It is no part of the gate. It wants g++, libicu-dev and pkg-config. The library is built as it stands, with no proof, in a copy of the
-crates, and then takes some seconds for each list; with --program it is asked by a program of tests/rule_keys that was built before, which takes a
-fortieth of a second for each. Both programs print sort keys (tests/rule_keys), whose order and level of difference are compared for all pairs of the texts
-of a set. First the library is asked for the rows of tests/rule_keys/rows.txt, whose levels are ICU4C's. ICU4C is asked for keys, since the order of its comparisons isn't always theirs,
-and of the decomposed texts, since it may have two keys for equivalent ones. It prints how many sets were compared, how many were refused by both, by ICU4C alone, and by the library alone
+It is no part of the gate. It wants g++, libicu-dev and pkg-config. PROGRAM is `collate-cldr`, which is run once for each list, by `keys --rules`.
+Of its sort keys and of those that ICU4C prints (tests/rule_keys) the order and the level of difference are compared for all pairs of the texts
+of a list. First the program is asked for the rows of tests/rule_keys/rows.txt, whose levels are ICU4C's. ICU4C is asked for keys, since the order of its comparisons isn't always theirs,
+and of the decomposed texts, since it may have two keys for equivalent ones. It prints how many lists were compared, how many were refused by both, by ICU4C alone, and by the program alone
 with the reasons, and each pair that is ordered otherwise. What differs for a reason that tests/rule_differences.py names is counted by this name. Status 1: some pairs differ
 without such a name, or ICU4C alone refuses some.
 """
@@ -17,16 +16,14 @@ import itertools
 import os
 import random
 import re
-import shutil
 import subprocess
 import sys
 import tempfile
+from concurrent.futures import ThreadPoolExecutor
 
-import rattle_tests
 from rule_differences import decomposed, has_weakened, name_of
 
 HERE = os.path.dirname(os.path.realpath(__file__))
-TOP = os.path.dirname(HERE)
 NAME = "rule_keys"
 ROOT = "/usr/share/unicode/cldr/common/uca/FractionalUCA.txt"
 LETTERS = "aAbBcdeEfæÆßäáàǎåéœhzʒαβиѝй"
@@ -147,55 +144,26 @@ def unlike_pairs(texts, ours, peers):
             yield texts[i], texts[j], here, there
 
 
-def copied(folder):
-    """A copy of the crates with the program of keys among them."""
-    for name in sorted(os.listdir(os.path.join(TOP, "crates"))):
-        for part in ("src", "specs", "proofs"):
-            source, target = (os.path.join(it, "crates", name, part) for it in (TOP, folder))
-            shutil.rmtree(target, ignore_errors=True)
-            if os.path.isdir(source):
-                shutil.copytree(source, target)
-    with open(os.path.join(TOP, "crates.txt"), encoding="utf-8") as it:
-        listed = it.read()
-    libraries = " ".join(rattle_tests.libraries())
-    with open(os.path.join(folder, "crates.txt"), "w", encoding="utf-8") as it:
-        it.write(f"{listed}\n{NAME}: anyhow icu_cldr_root icu_key_writers {libraries}\n")
-    shutil.copy(os.path.join(TOP, "HANDLES"), folder)
-    crate = os.path.join(folder, "crates", NAME)
-    for part in ("src", "specs", "proofs"):
-        os.makedirs(os.path.join(crate, part), exist_ok=True)
-    for part in ("specs", "proofs"):
-        with open(os.path.join(crate, part, "Lib.antt"), "w", encoding="utf-8"):
-            pass
-    shutil.copy(os.path.join(HERE, NAME, "main.rt.txt"), os.path.join(crate, "src", "main.rt"))
-    return crate
+class Program:
+    """The program, over a root."""
 
+    def __init__(self, program, root, folder):
+        self.words = [os.path.realpath(program), "keys", "--root", root, "--strength=4"]
+        self.folder = folder
 
-def keys_here(crate, root, lines, seconds):
-    """What the library prints, unproved."""
-    asked = os.path.join(crate, "asked.txt")
-    with open(asked, "w", encoding="utf-8") as it:
-        it.writelines(f"{line}\n" for line in lines)
-    words = ["rt", "try", "--seconds", str(seconds), "--data", f"FractionalUCA.txt={root}"]
-    with open(asked, encoding="utf-8") as it:
-        done = subprocess.run(words, cwd=crate, stdin=it, capture_output=True, text=True, check=False)
-    answers = [line for line in done.stdout.split("\n") if line.startswith(("ok", "refused", "no collator"))]
-    if len(answers) != len(lines):
-        sys.exit(f"random_rules: {len(answers)} answers to {len(lines)} lists\n{done.stdout[-2000:]}{done.stderr[-2000:]}")
-    return answers
-
-
-def keys_of_program(program, folder, root, lines):
-    """What a program prints that was built before."""
-    target = os.path.join(folder, "FractionalUCA.txt")
-    if not os.path.exists(target):
-        shutil.copy(root, target)
-    asked = "".join(f"{line}\n" for line in lines)
-    done = subprocess.run([os.path.realpath(program)], cwd=folder, input=asked, capture_output=True, text=True, check=False)
-    answers = done.stdout.splitlines()
-    if len(answers) != len(lines):
-        sys.exit(f"random_rules: {len(answers)} answers to {len(lines)} lists\n{done.stderr[-2000:]}")
-    return answers
+    def keys(self, numbered):
+        """The keys of the texts of a list with its number, parted by tabs, or why there are none."""
+        number, line = numbered
+        rules, *texts = line.split("\t")
+        place = os.path.join(self.folder, f"rules-{number}")
+        with open(place, "w", encoding="utf-8", newline="") as it:
+            it.write(rules)
+        asked = "".join(f"{text}\n" for text in texts).encode()
+        done = subprocess.run([*self.words, "--rules", place], input=asked, capture_output=True, env={"LC_ALL": "C"}, check=False)
+        os.remove(place)
+        if done.returncode:
+            return f"refused {done.stderr.decode()}".strip().replace(f"{place}: ", "")
+        return "\t".join(["ok", *(key.partition(b"\t")[0].decode() for key in done.stdout.split(b"\n")[:-1])])
 
 
 def unescaped(text):
@@ -289,23 +257,18 @@ def compare(lines, ours, peers):
 
 def main():
     words = argparse.ArgumentParser()
+    words.add_argument("program")
     words.add_argument("--sets", type=int, default=20)
     words.add_argument("--seed", type=int, default=1)
     words.add_argument("--root", default=ROOT)
-    words.add_argument("--folder", default=os.path.join(tempfile.gettempdir(), "random-rules"))
-    words.add_argument("--seconds", type=int, default=3600)
-    words.add_argument("--program")
     chosen = words.parse_args()
-    os.makedirs(chosen.folder, exist_ok=True)
     maker = Maker(chosen.seed)
     lines = [maker.line() for _ in range(chosen.sets)]
     small = [row for row in rows() if "\n" not in row[0]]
     asked = ["\t".join([rules, *texts]) for rules, texts, _ in small] + lines
-    peers = keys_there(chosen.folder, list(with_decomposed(lines)))
-    if chosen.program:
-        ours = keys_of_program(chosen.program, chosen.folder, chosen.root, asked)
-    else:
-        ours = keys_here(copied(chosen.folder), chosen.root, asked, chosen.seconds)
+    with tempfile.TemporaryDirectory() as folder, ThreadPoolExecutor() as runs:
+        peers = keys_there(folder, list(with_decomposed(lines)))
+        ours = list(runs.map(Program(chosen.program, chosen.root, folder).keys, enumerate(asked)))
     wrong = wrong_rows(small, ours)
     sys.exit(0 if compare(lines, ours[len(small):], peers) and not wrong else 1)
 
