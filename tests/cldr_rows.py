@@ -8,6 +8,9 @@ before.) The program is asked for the sort keys at each strength, which have to 
 compares the texts so. FOLDER is that of CLDR's data. A row with `proposed` behind the name is of rules that are a proposal
 (`alt="proposed"`), which no tag asks for: it is asked of a copy of the files in which these rules are accepted.
 
+tests/cldr_pairs.txt has the pairs of ICU4C's own tests of languages, Spanish, Finnish, German, Japanese, Thai, Turkish and of currencies: a tag
+with its settings, two texts, and whether the first is less or they are equal. The program is asked for the sort keys by each tag.
+
 It prints each type that is refused with what is said of it, each row that isn't in order, and counts and times. TABLE is written:
 for each locale what its types take, in seconds of processor and in memory at most, from start to end of a comparison. Its status is 1
 where a row isn't in order, a type is refused, or nothing is asked. It isn't part of the gate."""
@@ -107,6 +110,23 @@ def wrong_pairs(program, folder, row):
     return wrong, ""
 
 
+def wrong_by_settings(program, folder):
+    """How many of the pairs of tags with settings are ordered otherwise, each of which is printed, and how many pairs there are."""
+    by_tag, wrong, pairs = {}, 0, 0
+    for row in rows("cldr_pairs.txt"):
+        by_tag.setdefault(row.name, []).append(row.parts)
+    for tag, found in by_tag.items():
+        ran = asked([program, "keys", "--cldr", folder, "-z", "-l", tag], [text for (_, one), (_, other) in found for text in (one, other)])
+        keys = [bytes.fromhex(it.partition(b"\t")[0].decode()) for it in ran.stdout.split(b"\0")[:-1]]
+        keys += [b""] * (2 * len(found) - len(keys))
+        for ((_, one), (sign, other)), first, second in zip(found, keys[::2], keys[1::2]):
+            pairs += 1
+            if not (first and second) or (first > second) - (first < second) != (-1 if sign == "<" else 0):
+                wrong += 1
+                print(f"{tag}: not so: {one} {sign} {other} {ran.stderr.decode(errors='replace').strip()}", flush=True)
+    return wrong, pairs
+
+
 def cost(program, folder, tag):
     """The processor time and the memory at most of a comparison, from start to end: the least of three runs."""
     costs = []
@@ -165,6 +185,9 @@ def main(program, folder="/usr/share/unicode/cldr", written=None):
                 if row.name not in costs:
                     costs[row.name] = cost(program, data, tag_of(row.name))
             failed = bool(count.say(file)) or failed
+        wrong, pairs = wrong_by_settings(program, folder)
+        print(f"cldr_pairs.txt: {pairs} pairs, {wrong} ordered otherwise", flush=True)
+        failed = failed or wrong or not pairs
     finally:
         shutil.rmtree(copy)
     for seconds, name in sorted(((it[0], name) for name, it in costs.items()), reverse=True)[:3]:
