@@ -36,15 +36,25 @@ SORTED = [
     (["--numeric", "--column", "1"], "10\n9\n", "9\n10\n"),
     (["--column", "1"], ",1\na,2\n\"\",3\n", ",1\n\"\",3\na,2\n"),
     (["--column", "1"], "á\nb\na\n", "a\ná\nb\n"),
+    (["--header", "--column", "n:n"], "n,t\n10,a\n9,b\n", "n,t\n9,b\n10,a\n"),
+    (["--header", "--column", "n:nr"], "n,t\n10,a\n9,b\n11,c\n", "n,t\n11,c\n10,a\n9,b\n"),
+    (["--header", "-r", "--column", "n:nr"], "n,t\n10,a\n9,b\n11,c\n", "n,t\n11,c\n10,a\n9,b\n"),
+    (["--header", "-r", "--column", "n:n"], "n,t\n10,a\n9,b\n11,c\n", "n,t\n9,b\n10,a\n11,c\n"),
+    (["--header", "--column", "a:n"], "a:n,t\nb,a\na,b\n", "a:n,t\na,b\nb,a\n"),
+    (["--column", "1:nr", "--column", "2:r"], "1,a\n2,b\n2,c\n", "2,c\n2,b\n1,a\n"),
+    (["--column", "1:rn"], "-1,a\n2,b\nx,c\n", "2,b\nx,c\n-1,a\n"),
+    (["-u", "--column", "1:n"], "1,a\n01,b\n2,c\n", "1,a\n2,c\n"),
 ]
 # Words that are wrong, and what is named.
 WRONG_WORDS = [
     (["--column", "1"], "--csv"),
-    (["--header"], "--csv"),
     (["--delimiter", ";"], "--csv"),
     (["--csv"], "--column"),
     (["--csv", "--column", "x"], "'x'"),
     (["--csv", "--column", "0"], "'0'"),
+    (["--csv", "--column", "1:x"], "'1:x'"),
+    (["--csv", "--column", "0:n"], "'0:n'"),
+    (["--csv", "--column", "1:"], "'1:'"),
     (["--csv", "--column", "1", "--delimiter", ""], "''"),
     (["--csv", "--column", "1", "--delimiter", '"'], "'\"'"),
     (["--csv", "--column", "1", "--delimiter", "ab"], "'ab'"),
@@ -55,6 +65,8 @@ WRONG_WORDS = [
 # Further words, an input that is refused, and what is said.
 REFUSED = [
     (["--header", "--column", "c"], "a,b\n", "line 1: no column 'c'; the columns are: a, b"),
+    (["--header", "--column", "c:n"], "a,b\n", "line 1: no column 'c:n'; the columns are: a, b"),
+    (["--header", "--column", "a:r"], "a,b,a\n", "line 1: several columns are 'a:r': name one by its number"),
     (["--header", "--column", "0"], "a,b\n", "line 1: no column '0'; the columns are: a, b"),
     (["--header", "--column", "c"], "", "line 1: no column 'c'; the columns are: "),
     (["--header", "--column", "c"], '"\x1b\n",b\n', "line 1: no column 'c'; the columns are: \\u{1b}\\n, b"),
@@ -72,6 +84,8 @@ CHECKED = [
     (["--column", "2"], "2,a\n1,a\n", None),
     (["-u", "--column", "2"], "2,a\n1,a\n", "2 is out of order: 1,a"),
     (["-r", "--column", "1"], "b\na\n", None),
+    (["--column", "1:n"], "10\n9\n", "2 is out of order: 9"),
+    (["--column", "1:nr"], "10\n9\n", None),
     (["--column", "1"], "", None),
 ]
 

@@ -4,6 +4,7 @@ import os
 import random
 import subprocess
 
+import gnu_words
 from sweeps import faults_missed, run
 
 
@@ -64,6 +65,8 @@ def wrong_explanations(program, letters):
 # ---- search
 
 ON, OFF = "\x1b[01;31m\x1b[K", "\x1b[m\x1b[K"
+NAME, NUMBER, MARK = "\x1b[35m\x1b[K", "\x1b[32m\x1b[K", "\x1b[36m\x1b[K"
+GROUPS = "c\na\nb\na\nc\nb\nb\nb\na\nc\n"
 LINES = "b\ná\nbA\na b\nab\n"
 # The strength and further words, the pattern, the input, and the status and the output that are wanted.
 SEARCHES = [
@@ -110,6 +113,23 @@ SEARCHES = [
     (["1", "-om1"], "a", "aA\na\n", 0, "a\nA\n"),
     (["1", "-m0"], "a", LINES, 1, ""),
     (["1", "--max-count=9"], "a", LINES, 0, "á\nbA\na b\nab\n"),
+    (["3", "-A1"], "a", GROUPS, 0, "a\nb\na\nc\n--\na\nc\n"),
+    (["3", "-B1"], "a", GROUPS, 0, "c\na\nb\na\n--\nb\na\n"),
+    (["3", "-nC1"], "a", GROUPS, 0, "1-c\n2:a\n3-b\n4:a\n5-c\n--\n8-b\n9:a\n10-c\n"),
+    (["3", "-C", "1", "-A", "0"], "a", GROUPS, 0, "c\na\nb\na\n--\nb\na\n"),
+    (["3", "-A0"], "a", GROUPS, 0, "a\n--\na\n--\na\n"),
+    (["3", "-m1", "-A3"], "a", GROUPS, 0, "a\nb\na\nc\n"),
+    (["3", "-C9999999999"], "a", "b\na\nc\n", 0, "b\na\nc\n"),
+    (["3", "-oC1"], "a", GROUPS, 0, "a\na\n--\na\n"),
+    (["3", "-cC1"], "a", GROUPS, 0, "3\n"),
+    (["3", "-C1"], "e", GROUPS, 1, ""),
+    (["3", "-vB1"], "b", "b\nb\na\nb\n", 0, "b\na\n"),
+    (["3", "-zA1"], "a", "a\0b\0c\0", 0, "a\0b\0"),
+    (["3", "-nHA1", "--colour=always"], "a", "a\nb\n", 0,
+     f"{NAME}(standard input){OFF}{MARK}:{OFF}{NUMBER}1{OFF}{MARK}:{OFF}{ON}a{OFF}\n"
+     f"{NAME}(standard input){OFF}{MARK}-{OFF}{NUMBER}2{OFF}{MARK}-{OFF}b\n"),
+    (["3", "-A0", "--colour=always"], "a", "a\nb\na\n", 0, f"{ON}a{OFF}\n{MARK}--{OFF}\n{ON}a{OFF}\n"),
+    (["3", "-F", "--line-buffered"], "a", "b\na\n", 0, "a\n"),
 ]
 # Further words, the input, and the status and the output that are wanted: at the strength 3, where no other is said.
 PATTERNS = [
@@ -125,8 +145,7 @@ PATTERNS = [
     (["--color=always", "-e", "b", "-e", "a"], "ab c\n", 0, f"{ON}a{OFF}{ON}b{OFF} c\n"),
     (["-i", "-e", "a"], LINES, 0, "bA\na b\nab\n"),
     (["-i", "a"], LINES, 0, "bA\na b\nab\n"),
-    (["-i", "--strength", "1", "a"], LINES, 0, "á\nbA\na b\nab\n"),
-    (["-i", "--strength", "3", "a"], LINES, 0, "a b\nab\n"),
+    (["-1", "a"], LINES, 0, "á\nbA\na b\nab\n"),
     (["-c", "-e", "a", "-e", "A"], LINES, 0, "3\n"),
 ]
 
@@ -186,11 +205,108 @@ def wrong_missing(program, letters, one, two):
         (["-f", "absent", one], 3, b"", said),
         (["-m1", "b", one, two], 0, f"{one}:b\n{two}:b\n".encode(), b""),
         (["-m", "x", "b", one], 2, b"", b"collate-cldr: --max-count takes a number from 0 on\n"),
+        (["-A", "-1", "b", one], 2, b"", None),
+        (["-C", "", "b", one], 2, b"", b"collate-cldr: --context takes a number from 0 on\n"),
+        (["-i", "b", one], 2, b"", b"collate-cldr: -i, -1 and --strength each say how many levels count; take one of them\n"),
+        (["-1", "b", one], 2, b"", b"collate-cldr: -i, -1 and --strength each say how many levels count; take one of them\n"),
+        (["--include", "*", "b", one], 2, b"", b"collate-cldr: --include is for -r\n"),
+        (["-E", "b", one], 2, b"", b"collate-cldr: -E isn't taken: a pattern is a text, and no regular expression; several stand behind -e each\n"),
+        (["-bn", "b", one], 2, b"", b"collate-cldr: -b isn't taken: -n prints the numbers of lines\n"),
+        (["-R", "b", one], 2, b"", b"collate-cldr: -R isn't taken: -r reads folders and follows no links\n"),
+        (["-nC1", "b", one, two], 0, f"{one}-1-a\n{one}:2:b\n--\n{two}:1:b\n".encode(), b""),
+        (["-hA1", "a", two, one], 0, b"a\nb\n", b""),
     ]
     for words, *wanted in rows:
         ran = run(program, over(letters, "search", "3", *words))
-        if ran.came_to() != tuple(wanted):
+        if ran.came_to()[:2] != tuple(wanted)[:2] or wanted[2] not in (None, ran.faults):
             found.append(f"search {words}: {ran}; wanted: {wanted}")
+    return found
+
+
+# Files below a folder, by their paths, in the order in which they are searched; all but the last two are text with a match.
+TREE = {"a.txt": "a\n", "sub.txt": "a\n", "sub/deep/three.md": "b\na\n", "sub/two.txt": "x\na\n", "bin.dat": "a\0\n", "sub/none": "b\n"}
+
+
+def wrong_folders(program, letters, room):
+    """Searches of folders: in the order of the bytes of paths, without binary files, links and what is no file."""
+    top, found = os.path.join(room, "tree"), []
+    for name, text in TREE.items():
+        os.makedirs(os.path.dirname(os.path.join(top, name)), exist_ok=True)
+        with open(os.path.join(top, name), "w", encoding="utf-8") as it:
+            it.write(text)
+    os.symlink("a.txt", os.path.join(top, "link.txt"))
+    os.symlink("..", os.path.join(top, "sub", "up"))
+    os.mkfifo(os.path.join(top, "sub", "pipe"))
+    os.symlink("tree", os.path.join(room, "linked"))
+    shown = lambda folder, names: "".join(f"{folder}/{it}:a\n" for it in names).encode()
+    all_four, no_folder = ["a.txt", "sub.txt", "sub/deep/three.md", "sub/two.txt"], os.path.join(room, "no-folder")
+    rows = [
+        (["-r", "a", top], 0, shown(top, all_four)),
+        (["-r", "a", f"{top}/"], 0, shown(top, all_four)),
+        (["-r", "a", os.path.join(room, "linked")], 0, shown(os.path.join(room, "linked"), all_four)),
+        (["-ra", "a", top], 0, shown(top, ["a.txt"]) + f"{top}/bin.dat:a\0\n".encode() + shown(top, all_four[1:])),
+        (["-r", "--include", "*.txt", "a", top], 0, shown(top, ["a.txt", "sub.txt", "sub/two.txt"])),
+        (["-r", "--include=?.txt", "--include", "t*.md", "a", top], 0, shown(top, ["a.txt", "sub/deep/three.md"])),
+        (["-r", "--include", "txt", "a", top], 1, b""),
+        (["-rh", "--include", "*.md", "-B1", "a", top], 0, b"b\na\n"),
+        (["-rc", "a", f"{top}/sub"], 0, f"{top}/sub/deep/three.md:1\n{top}/sub/none:0\n{top}/sub/two.txt:1\n".encode()),
+        (["-rq", "a", top], 0, b""),
+        (["-r", "a", f"{top}/a.txt"], 0, b"a\n"),
+        (["-r", "a", no_folder], 3, b""),
+    ]
+    for words, *wanted in rows:
+        ran = run(program, over(letters, "search", "3", *words))
+        said = f"collate-cldr: {no_folder}: No such file or directory\n".encode() if no_folder in words else b""
+        if ran.came_to() != (*wanted, said):
+            found.append(f"search {words}: {ran}; wanted: {wanted}")
+    here = subprocess.run([program, *over(letters, "search", "3", "-r", "a")], cwd=top, capture_output=True, check=False)
+    if (here.returncode, here.stdout) != (0, "".join(f"{it}:a\n" for it in all_four).encode()):
+        found.append(f"search -r in the folder of the run: {here}")
+    return found
+
+
+# ---- headers of lines, and lists of files
+
+HEADERS = [
+    (["--header"], "c\nb\na\n", "c\na\nb\n"),
+    (["--header", "-r", "-k1"], "a\na\nb\n", "a\nb\na\n"),
+    (["--header"], "", ""),
+    (["--header"], "c", "c\n"),
+    (["--header", "-z"], "c\0b\0a", "c\0a\0b\0"),
+    (["-t", "\\t", "-k2,2"], "a\tb\nb\ta\n", "b\ta\na\tb\n"),
+    (["--parallel=4", "--batch-size", "9"], "b\na\n", "a\nb\n"),
+]
+
+
+def wrong_lists(program, letters, room):
+    """Sorts of lines with a header, and of files that a list names."""
+    found = []
+    for words, given, printed in HEADERS:
+        ran = run(program, over(letters, "sort", "3", *words), given.encode())
+        if ran.came_to() != (0, printed.encode(), b""):
+            found.append(f"sort {words}: {ran}; wanted: {printed!r}")
+    ran = run(program, over(letters, "check", "3", "--header"), b"c\nb\na\n")
+    if ran.came_to() != (1, b"", b"collate-cldr: line 3 is out of order: a\n"):
+        found.append(f"check --header: {ran}")
+    one, two, names = (os.path.join(room, it) for it in ("list-one", "list-two", "list"))
+    lists = [
+        (f"{one}\0{two}\0", [], (0, b"a\nb\nc\n", b"")),
+        (f"{two}\0-", [], (0, b"a\nd\n", b"")),
+        ("", [], (3, b"", f"collate-cldr: {names}: it names no file\n".encode())),
+        (f"{one}\0\0{two}", [], (3, b"", f"collate-cldr: {names}: a name in it is empty\n".encode())),
+        ("absent\0", [], (3, b"", b"collate-cldr: absent: No such file or directory\n")),
+        (one, [two], (2, b"", b"collate-cldr: --files0-from is for lines, and takes no other file\n")),
+        (one, ["--csv", "--column=1"], (2, b"", b"collate-cldr: --files0-from is for lines, and takes no other file\n")),
+    ]
+    for path, text in ((one, "c\nb"), (two, "a\n")):
+        with open(path, "w", encoding="utf-8") as it:
+            it.write(text)
+    for text, words, wanted in lists:
+        with open(names, "w", encoding="utf-8") as it:
+            it.write(text)
+        ran = run(program, over(letters, "sort", "3", f"--files0-from={names}", *words), b"d\n")
+        if ran.came_to() != wanted:
+            found.append(f"sort of the list {text!r} {words}: {ran}; wanted: {wanted}")
     return found
 
 
@@ -315,7 +431,11 @@ FAULTY = [
 
 def check_lines(report, room, program, letters):
     report.say("collate-cldr: explanations and reasons", wrong_explanations(program, letters), len(EXPLAINED) + len(REASONS))
-    report.say("collate-cldr: searches", wrong_searches(program, letters, room), len(SEARCHES) + len(PATTERNS) + 13)
+    report.say("collate-cldr: searches", wrong_searches(program, letters, room), len(SEARCHES) + len(PATTERNS) + 23)
+    report.say("collate-cldr: searches of folders", wrong_folders(program, letters, room), 13)
+    report.say("collate-cldr: headers of lines, and lists of files", wrong_lists(program, letters, room), len(HEADERS) + 8)
+    beside, _ = gnu_words.unlike(program, ["--root", letters, "--strength", "1"], gnu_words.SMALL, room, 100)
+    report.say("collate-cldr: random words of sort and search as those of GNU sort and grep", beside, 200)
     report.say("collate-cldr: sorts by fields", wrong_fields(program, letters),
                len(FIELDS) + len(WRONG_FIELDS) + 9 * len(CHECKED))
     report.say("collate-cldr: sorts and checks by fields as those of GNU sort", unlike_gnu(program, letters), 240)

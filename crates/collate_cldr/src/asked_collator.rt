@@ -21,9 +21,11 @@ use program_words::{
 use std::io::Write;
 use std::rt::{Env, Files};
 
-/// The word for a strength, if an option has one: else that of two levels if an option says that case doesn't count.
+/// The word for a strength, if an option has one: else that of one level if an option says that letters alone count, or
+/// of two if one says that case doesn't.
 fn strength_asked<'a>(matches: &ArgMatches<'a>) -> Option<&'a str> {
     match matches.get_str("strength") {
+        None if matches.get_flag("primary") => Some("primary"),
         None if matches.get_flag("ignore-case") => Some("secondary"),
         word => word,
     }

@@ -8,8 +8,8 @@ use crate::reports::in_memory;
 use clap::ArgMatches;
 use icu_collator::Collator;
 use line_commands::csv_sorts::{
-    CsvError, CsvRequest, column_disorder_text, columns_of_words, csv_delimiter, csv_error_said,
-    first_column_disorder, print_sorted_by_columns,
+    ColumnSort, CsvError, CsvRequest, column_disorder_text, columns_of_words, csv_delimiter,
+    csv_error_said, first_column_disorder, print_sorted_by_columns,
 };
 use program_files::{OutputFile, ProgramError, RunProgress, read_input};
 use program_words::{character_asked, files_of, sort_request_of};
@@ -56,7 +56,7 @@ fn columns<R: AllocGlobal>(
     rt: &R,
     matches: &ArgMatches<'_>,
     text: &[u8],
-) -> Result<Vec<usize>, ProgramError> {
+) -> Result<Vec<ColumnSort>, ProgramError> {
     let words = matches.get_strs("column").unwrap_or_default();
     match columns_of_words(
         rt.alloc(),
@@ -64,6 +64,7 @@ fn columns<R: AllocGlobal>(
         matches.get_flag("header"),
         text,
         words,
+        matches.get_flag("reverse"),
     ) {
         Ok(columns) => Ok(columns),
         Err(error) => Err(refused_csv(rt, matches, text, error)),
@@ -71,7 +72,7 @@ fn columns<R: AllocGlobal>(
 }
 
 /// How records are to be sorted by columns.
-fn csv_request_of<'c>(matches: &ArgMatches<'_>, columns: &'c [usize]) -> CsvRequest<'c> {
+fn csv_request_of<'c>(matches: &ArgMatches<'_>, columns: &'c [ColumnSort]) -> CsvRequest<'c> {
     let request = sort_request_of(matches);
     CsvRequest {
         delimiter: csv_delimiter(character_asked(matches, "delimiter")),

@@ -13,8 +13,10 @@ use line_commands::field_sorts::{
 };
 use line_commands::{disorder_text, first_disorder, print_sorted, print_text};
 use line_sorts::SortRequest;
-use program_files::{DONE, InputText, OutputFile, ProgramError, RunProgress, read_inputs};
-use program_words::{character_asked, files_of, sort_request_of};
+use program_files::{
+    DONE, InputText, OutputFile, ProgramError, RunProgress, read_input, read_inputs,
+};
+use program_words::{character_asked, files_of, listed_files, sort_request_of};
 use std::fs::File;
 use std::io::{Read, Write};
 use std::random::RandomSource;
@@ -28,8 +30,44 @@ fn fields_of<'s>(matches: &ArgMatches<'_>, sorts: &'s [FieldSort]) -> FieldSorts
     }
 }
 
+/// Reads the files that words name, or those that a list names.
+fn read_asked<R: Files + Clock + AllocGlobal, I: Read, E: Write>(
+    rt: &R,
+    matches: &ArgMatches<'_>,
+    separator: u8,
+    progress: &mut RunProgress,
+    input: &mut I,
+    errors: &mut E,
+) -> Result<InputText, ProgramError> {
+    let Some(list) = matches.get_str("files0-from") else {
+        return read_inputs(rt, files_of(matches), separator, input, progress, errors);
+    };
+    let bytes = read_input(rt, list, 0, input, progress, errors)?;
+    let files = listed_files(rt.alloc(), list, bytes.as_slice())?;
+    let mut names = Vec::new(rt.alloc());
+    for file in files.as_slice() {
+        names.push(file.as_str())?;
+    }
+    read_inputs(rt, names.as_slice(), separator, input, progress, errors)
+}
+
+/// The first line of an input, if it is a header, and the rest.
+fn header_and_lines<'b>(
+    matches: &ArgMatches<'_>,
+    separator: u8,
+    bytes: &'b [u8],
+) -> (&'b [u8], &'b [u8]) {
+    if !matches.get_flag("header") {
+        return bytes.split_at(0);
+    }
+    match bytes.iter().position(|b| *b == separator) {
+        Some(end) if end < bytes.len() => bytes.split_at(end + 1),
+        _ => bytes.split_at(bytes.len()),
+    }
+}
+
 /// Prints the lines of an input in order: by the line, or by its fields if keys are asked for. The byte order mark of
-/// the input goes before them.
+/// the input goes before them, and its first line if that is a header.
 fn print_in_order<R: AllocGlobal, W: Write>(
     rt: &R,
     matches: &ArgMatches<'_>,
@@ -38,8 +76,9 @@ fn print_in_order<R: AllocGlobal, W: Write>(
     request: SortRequest,
     output: &mut W,
 ) -> Result<(), ProgramError> {
-    let bytes = input.as_slice();
+    let (header, bytes) = header_and_lines(matches, request.separator, input.as_slice());
     print_text(input.mark(), output)?;
+    print_text(header, output)?;
     let Some(words) = matches.get_strs("key") else {
         return print_sorted(rt.alloc(), collator, bytes, request, output);
     };
@@ -87,14 +126,7 @@ pub(crate) fn sort_lines<
     let request = sort_request_of(matches);
     let file = output_asked(rt, matches)?;
     let collator = collator_by_words(rt, matches)?;
-    let read = read_inputs(
-        rt,
-        files_of(matches),
-        request.separator,
-        input,
-        progress,
-        errors,
-    )?;
+    let read = read_asked(rt, matches, request.separator, progress, input, errors)?;
     write_sorted(rt, matches, &collator, &read, request, file, output, errors)?;
     Ok(DONE)
 }
@@ -129,16 +161,15 @@ pub(crate) fn check_lines<R: Files + Env + Clock + AllocGlobal, I: Read, E: Writ
 {
     let request = sort_request_of(matches);
     let collator = collator_by_words(rt, matches)?;
-    let bytes = read_inputs(
-        rt,
-        files_of(matches),
-        request.separator,
-        input,
-        progress,
-        errors,
-    )?;
-    let Some(index) = first_wrong(rt, matches, &collator, bytes.as_slice(), request)? else {
+    let bytes = read_asked(rt, matches, request.separator, progress, input, errors)?;
+    let (header, lines) = header_and_lines(matches, request.separator, bytes.as_slice());
+    let Some(index) = first_wrong(rt, matches, &collator, lines, request)? else {
         return Ok(DONE);
+    };
+    let index = if header.is_empty() {
+        index
+    } else {
+        index.saturating_add(1)
     };
     if !is_quiet {
         let said = disorder_text(rt.alloc(), bytes.as_slice(), request, index)?;

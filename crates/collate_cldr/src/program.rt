@@ -17,12 +17,12 @@ use line_commands::csv_sorts::{CsvWords, wrong_csv_words};
 use line_commands::field_sorts::wrong_field_word;
 use line_commands::{print_comparison, print_key, print_keys};
 use program_files::{
-    DONE, ProgramError, RunProgress, WRONG_WORDS, WatchedOutput, open_output, read_inputs,
-    report_failure, text_of_word, write_text,
+    DONE, ProgramError, RunProgress, WRONG_WORDS, WatchedOutput, open_output, printed_name,
+    read_inputs, report_failure, text_of_word, write_text,
 };
 use program_words::{
-    CheckWanted, answer_words, character_asked, check_of, cldr_folder, files_of, foreign_said,
-    program, root_file, said_of_language, separator_of, text_of,
+    CheckWanted, SORT_OPTIONS, answer_words, character_asked, check_of, cldr_folder, files_of,
+    foreign_said, program, root_file, said_of_language, separator_of, text_of,
 };
 use std::fs::File;
 use std::io::{Read, Write};
@@ -121,6 +121,9 @@ fn compile<R: Files<File = File> + RandomSource + Env + AllocGlobal, W: Write, E
 /// What is said where keys are asked for of records of CSV.
 const NO_KEYS_OF_RECORDS: &str = "--key is for lines, and --column for --csv";
 
+/// What is said if files are named beside a list of files, or records of CSV asked for.
+const NO_OTHER_FILES: &str = "--files0-from is for lines, and takes no other file";
+
 /// Says what is wrong with the words for fields or for records of CSV, and returns whether something is. That a write
 /// fails changes nothing.
 fn says_wrong_words<R: AllocGlobal, E: Write>(
@@ -128,7 +131,7 @@ fn says_wrong_words<R: AllocGlobal, E: Write>(
     matches: &ArgMatches<'_>,
     errors: &mut E,
 ) -> Result<bool, ProgramError> {
-    if let Some(said) = foreign_said(matches) {
+    if let Some(said) = foreign_said(SORT_OPTIONS.as_slice(), matches) {
         say(said.as_bytes(), errors);
         return Ok(true);
     }
@@ -136,6 +139,7 @@ fn says_wrong_words<R: AllocGlobal, E: Write>(
     let words = keys.unwrap_or_default();
     let separator = character_asked(matches, "field-separator");
     if let Some(word) = wrong_field_word(separator, words, matches.get_flag("reverse")) {
+        let word = printed_name(rt.alloc(), word)?;
         let text = format!(in rt.alloc();
             "'{word}' is no key F[.C][bnr][,F[.C][bnr]] and no separator of one character of ASCII; --help says more"
         )?;
@@ -143,8 +147,13 @@ fn says_wrong_words<R: AllocGlobal, E: Write>(
         return Ok(true);
     }
     let is_csv = matches.get_flag("csv");
+    let is_listed = matches.get_str("files0-from").is_some();
     if is_csv && keys.is_some() {
         say(NO_KEYS_OF_RECORDS.as_bytes(), errors);
+        return Ok(true);
+    }
+    if is_listed && (is_csv || !files_of(matches).is_empty()) {
+        say(NO_OTHER_FILES.as_bytes(), errors);
         return Ok(true);
     }
     let words = CsvWords {
@@ -263,7 +272,7 @@ pub(crate) struct Terminals {
 
 /// What a command does, by its name and what was matched behind it.
 fn run_command<
-    R: Files<File = File> + RandomSource + Env + Clock + AllocGlobal,
+    R: Files<File = File> + RandomSource + Env + Clock + AllocGlobal + Clone + Drop,
     I: Read + Drop,
     W: Write,
     E: Write,
@@ -356,7 +365,7 @@ pub(crate) fn run<
             let answered = if error.kind() == ErrorKind::DisplayVersion {
                 print_versions(rt, None, None, output)
             } else {
-                answer_words(rt, &error, output, errors)
+                answer_words(rt, WORDING.prefix, &error, output, errors)
             };
             return match answered {
                 Ok(status) => status,

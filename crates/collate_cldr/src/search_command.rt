@@ -9,17 +9,25 @@ use icu_collator::Collator;
 use icu_search::{Boundary, Searcher};
 use line_commands::print_text;
 use line_searches::{
-    MatchKind, SearchRequest, Shown, Wanted, count_wanted, name_and, prefix_of, print_count,
-    print_wanted, shown_name,
+    MatchKind, SearchRequest, Shown, Wanted, count_wanted, files_below, is_folder, matches_name,
+    name_line, prefix_of, print_count, print_wanted,
 };
 use line_sorts::lines_by;
 use program_files::{
     ProgramError, RunProgress, WRONG_WORDS, bytes_of_word, read_input, read_inputs, report_failure,
 };
-use program_words::{most_lines, pattern_files, patterns_of, searched_files, separator_of};
+use program_words::{
+    GREP_OPTIONS, foreign_said, has_several_strengths, line_numbers, pattern_files, patterns_of,
+    searched_files, separator_of, wrong_line_number,
+};
 use std::alloc::{AllocError, Global};
 use std::io::{Read, Write};
 use std::rt::{Clock, Env, Files};
+
+/// Whether what is printed has colours.
+fn shows_colours(request: SearchRequest<'_>) -> bool {
+    matches!(request.shown, Shown::ColouredLine | Shown::ColouredMatches)
+}
 
 /// Searches an input that was read, and returns whether lines were found.
 fn search_bytes<R: AllocGlobal, W: Write>(
@@ -39,7 +47,8 @@ fn search_bytes<R: AllocGlobal, W: Write>(
         let is_found = count_wanted(alloc, searchers, bytes, request)? > 0;
         let is_listed = lists_found && is_found || lists_others && !is_found;
         if is_listed && !is_quiet {
-            print_text(name_and(alloc, name, b'\n')?.as_slice(), output)?;
+            let has_colours = shows_colours(request);
+            print_text(name_line(alloc, name, has_colours)?.as_slice(), output)?;
         }
         return Ok(is_found);
     }
@@ -74,49 +83,151 @@ impl Found {
     }
 }
 
-/// Searches an input by its name, and returns whether lines were found, or `None` where it isn't read: that is said,
-/// unless it isn't to be.
+/// Whether an input is left out: one that is binary, of a folder.
+fn is_left_out(matches: &ArgMatches<'_>, is_of_folder: bool, bytes: &[u8]) -> bool {
+    is_of_folder
+        && !matches.get_flag("text")
+        && !matches.get_flag("zero-terminated")
+        && bytes.contains(&0)
+}
+
+/// Says why an input isn't read, unless that isn't to be said. A want of memory is handed on.
+fn say_unread<E: Write>(
+    matches: &ArgMatches<'_>,
+    error: ProgramError,
+    errors: &mut E,
+) -> Result<(), ProgramError> {
+    match error {
+        ProgramError::NoMemory => Err(ProgramError::NoMemory),
+        error => {
+            if !matches.get_flag("no-messages") {
+                let _ = report_failure(error, WORDING, errors);
+            }
+            Ok(())
+        }
+    }
+}
+
+/// An input: its name, and whether it was found below a folder.
+#[derive(Clone, Copy)]
+struct Input<'f> {
+    file: &'f str,
+    is_of_folder: bool,
+    is_named: bool,
+}
+
+/// Searches an input by its name, and keeps whether lines were found. If it isn't read, that is said, unless it isn't
+/// to be.
 fn search_input<R: Files + Clock + AllocGlobal, I: Read, W: Write, E: Write>(
     rt: &R,
     matches: &ArgMatches<'_>,
     searchers: &[Searcher<'_>],
-    file: &str,
+    asked: Input<'_>,
     request: SearchRequest<'_>,
+    found: &mut Found,
     progress: &mut RunProgress,
     input: &mut I,
     output: &mut W,
     errors: &mut E,
-) -> Result<Option<bool>, ProgramError> {
+) -> Result<(), ProgramError> {
+    let file = asked.file;
     let bytes = match read_input(rt, file, request.separator, input, progress, errors) {
         Ok(bytes) => bytes,
-        Err(ProgramError::NoMemory) => return Err(ProgramError::NoMemory),
         Err(error) => {
-            if !matches.get_flag("no-messages") {
-                let _ = report_failure(error, WORDING, errors);
-            }
-            return Ok(None);
+            found.is_unread = true;
+            return say_unread(matches, error, errors);
         }
     };
-    let found = search_bytes(
-        rt,
-        matches,
-        searchers,
-        shown_name(file),
-        bytes.as_slice(),
-        request,
-        output,
-    )?;
-    Ok(Some(found))
+    if is_left_out(matches, asked.is_of_folder, bytes.as_slice()) {
+        return Ok(());
+    }
+    let has_colours = shows_colours(request);
+    let mut prefix = Vec::new(rt.alloc());
+    let mut beside = Vec::new(rt.alloc());
+    if asked.is_named {
+        prefix = prefix_of(rt.alloc(), file, b':', has_colours)?;
+        beside = prefix_of(rt.alloc(), file, b'-', has_colours)?;
+    }
+    let named = SearchRequest {
+        prefix: prefix.as_slice(),
+        beside: beside.as_slice(),
+        follows: found.some,
+        ..request
+    };
+    let bytes = bytes.as_slice();
+    let is_found = search_bytes(rt, matches, searchers, file, bytes, named, output)?;
+    found.some = found.some || is_found;
+    Ok(())
 }
 
-/// Whether the name of its input stands before each line: where words say so, or else where there are several inputs.
-fn are_named(matches: &ArgMatches<'_>, files: &[&str]) -> bool {
-    !matches.get_flag("no-filename") && (files.len() > 1 || matches.get_flag("with-filename"))
+/// Whether the name of its input stands before each line: if words say so, or if there are several inputs, as of a
+/// folder.
+fn are_named(matches: &ArgMatches<'_>, files: usize, has_folder: bool) -> bool {
+    !matches.get_flag("no-filename")
+        && (files > 1 || has_folder || matches.get_flag("with-filename"))
 }
 
-/// Searches inputs one after another. One that isn't read is named, and the others are searched. Where nothing is
-/// printed it ends with the first that has such a line.
-fn search_inputs<R: Files + Clock + AllocGlobal, I: Read, W: Write, E: Write>(
+/// Whether the search ends: a line was found, and nothing is printed.
+fn is_done(matches: &ArgMatches<'_>, found: Found) -> bool {
+    found.some && matches.get_flag("quiet")
+}
+
+/// Whether a file below a folder is asked for, by its name.
+fn is_included<R: AllocGlobal>(
+    rt: &R,
+    matches: &ArgMatches<'_>,
+    file: &str,
+) -> Result<bool, ProgramError> {
+    let Some(patterns) = matches.get_strs("include") else {
+        return Ok(true);
+    };
+    for pattern in patterns {
+        if matches_name(rt.alloc(), pattern, file)? {
+            return Ok(true);
+        }
+    }
+    Ok(false)
+}
+
+/// Searches the files below a folder.
+fn search_folder<R: Files + Clock + AllocGlobal + Clone + Drop, I: Read, W: Write, E: Write>(
+    rt: &R,
+    matches: &ArgMatches<'_>,
+    searchers: &[Searcher<'_>],
+    folder: &str,
+    request: SearchRequest<'_>,
+    found: &mut Found,
+    progress: &mut RunProgress,
+    input: &mut I,
+    output: &mut W,
+    errors: &mut E,
+) -> Result<(), ProgramError> {
+    let below = files_below(rt, folder)?;
+    for refusal in below.refusals {
+        found.is_unread = true;
+        say_unread(matches, refusal, errors)?;
+    }
+    for file in below.files.as_slice() {
+        if is_done(matches, *found) {
+            return Ok(());
+        }
+        if is_included(rt, matches, file.as_str())? {
+            let asked = Input {
+                file: file.as_str(),
+                is_of_folder: true,
+                is_named: are_named(matches, 1, true),
+            };
+            search_input(
+                rt, matches, searchers, asked, request, found, progress, input, output, errors,
+            )?;
+        }
+    }
+    Ok(())
+}
+
+/// Searches inputs one after another. One that isn't read is named, and the others are searched. If nothing is printed,
+/// it ends with the first that has such a line.
+fn search_inputs<R: Files + Clock + AllocGlobal + Clone + Drop, I: Read, W: Write, E: Write>(
     rt: &R,
     matches: &ArgMatches<'_>,
     searchers: &[Searcher<'_>],
@@ -132,19 +243,22 @@ fn search_inputs<R: Files + Clock + AllocGlobal, I: Read, W: Write, E: Write>(
         is_unread: false,
     };
     for file in files {
-        let prefix = prefix_of(rt.alloc(), file, are_named(matches, files))?;
-        let named = SearchRequest {
-            prefix: prefix.as_slice(),
-            ..request
-        };
-        match search_input(
-            rt, matches, searchers, file, named, progress, input, output, errors,
-        )? {
-            Some(found) => all.some = all.some || found,
-            None => all.is_unread = true,
-        }
-        if all.some && matches.get_flag("quiet") {
+        if is_done(matches, all) {
             return Ok(all);
+        }
+        if matches.get_flag("recursive") && is_folder(rt, file)? {
+            search_folder(
+                rt, matches, searchers, file, request, &mut all, progress, input, output, errors,
+            )?;
+        } else {
+            let asked = Input {
+                file: *file,
+                is_of_folder: false,
+                is_named: are_named(matches, files.len(), false),
+            };
+            search_input(
+                rt, matches, searchers, asked, request, &mut all, progress, input, output, errors,
+            )?;
         }
     }
     Ok(all)
@@ -199,11 +313,8 @@ fn match_kind(matches: &ArgMatches<'_>) -> MatchKind {
 }
 
 /// How lines are searched for and printed, by words: in colour where that is asked for, or on a terminal.
-fn request_of<'p>(
-    matches: &ArgMatches<'_>,
-    is_terminal: bool,
-    at_most: usize,
-) -> SearchRequest<'p> {
+fn request_of<'p>(matches: &ArgMatches<'_>, is_terminal: bool) -> SearchRequest<'p> {
+    let numbers = line_numbers(matches);
     let is_coloured = match matches.get_str("colour") {
         Some("always") => true,
         Some("never") => false,
@@ -223,18 +334,57 @@ fn request_of<'p>(
             (true, true) => Shown::ColouredMatches,
         },
         prefix: &[],
+        beside: &[],
         is_numbered: matches.get_flag("line-number"),
+        is_grouped: numbers.are_grouped,
+        follows: false,
+        before: numbers.before,
+        after: numbers.after,
         separator: separator_of(matches),
-        at_most,
+        at_most: numbers.at_most,
     }
 }
 
-/// What is said of a number of lines that is none.
-const NO_NUMBER: &str = "--max-count takes a number from 0 on";
+/// What is said if names of files are asked for, and no folder is searched.
+const NO_FOLDERS: &str = "--include is for -r";
+
+/// What is said of words for several strengths.
+const SEVERAL_STRENGTHS: &str =
+    "-i, -1 and --strength each say how many levels count; take one of them";
+
+/// Says what is wrong with the words for lines or files, and returns whether something is. That a write fails changes
+/// nothing.
+fn says_wrong_search<R: AllocGlobal, E: Write>(
+    rt: &R,
+    matches: &ArgMatches<'_>,
+    errors: &mut E,
+) -> Result<bool, ProgramError> {
+    if let Some(id) = wrong_line_number(matches) {
+        let text = format!(in rt.alloc(); "--{id} takes a number from 0 on")?;
+        say(text.as_bytes(), errors);
+        return Ok(true);
+    }
+    let said = if has_several_strengths(matches) {
+        Some(SEVERAL_STRENGTHS)
+    } else if matches.get_strs("include").is_some() && !matches.get_flag("recursive") {
+        Some(NO_FOLDERS)
+    } else {
+        foreign_said(GREP_OPTIONS.as_slice(), matches)
+    };
+    if let Some(said) = said {
+        say(said.as_bytes(), errors);
+    }
+    Ok(said.is_some())
+}
 
 /// Prints the lines that hold a match of a pattern, and returns the status: 0 where there are some, and else 1; 3 where
 /// an input isn't read, which is named.
-pub(crate) fn search<R: Files + Env + Clock + AllocGlobal, I: Read, W: Write, E: Write>(
+pub(crate) fn search<
+    R: Files + Env + Clock + AllocGlobal + Clone + Drop,
+    I: Read,
+    W: Write,
+    E: Write,
+>(
     rt: &R,
     matches: &ArgMatches<'_>,
     is_terminal: bool,
@@ -245,10 +395,9 @@ pub(crate) fn search<R: Files + Env + Clock + AllocGlobal, I: Read, W: Write, E:
 ) -> Result<u8, ProgramError>
     ensures { IfOk result (λ status. status ≤ 3) }
 {
-    let Some(at_most) = most_lines(matches) else {
-        say(NO_NUMBER.as_bytes(), errors);
+    if says_wrong_search(rt, matches, errors)? {
         return Ok(WRONG_WORDS);
-    };
+    }
     let collator = collator_by_words(rt, matches)?;
     let patterns = patterns_of(rt.alloc(), matches)?;
     let mut searchers = searchers_of(rt.alloc(), &collator, patterns.as_slice())?;
@@ -267,7 +416,7 @@ pub(crate) fn search<R: Files + Env + Clock + AllocGlobal, I: Read, W: Write, E:
         matches,
         searchers.as_slice(),
         files.as_slice(),
-        request_of(matches, is_terminal, at_most),
+        request_of(matches, is_terminal),
         progress,
         input,
         output,

@@ -26,7 +26,7 @@ fn run_words<I: Read, W: Write, E: Write>(
     let command = index_words(rt.alloc())?;
     let matches = match command.try_get_matches_from(words) {
         Ok(matches) => matches,
-        Err(error) => return answer_words(rt, &error, output, errors),
+        Err(error) => return answer_words(rt, WORDING.prefix, &error, output, errors),
     };
     match matches.subcommand() {
         Some((name, inner)) => run_command(rt, name, inner, input, output, errors),

@@ -10,6 +10,6 @@ pub mod sorted_records;
 pub use column_disorder::{column_disorder_text, first_column_disorder};
 pub use column_words::columns_of_words;
 pub use csv_messages::csv_error_said;
-pub use csv_request::{CsvError, CsvRequest};
+pub use csv_request::{ColumnSort, CsvError, CsvRequest};
 pub use csv_words::{CsvWords, csv_delimiter, wrong_csv_words};
 pub use sorted_records::print_sorted_by_columns;

@@ -6,5 +6,7 @@ mod line_key;
 pub mod printed_fields;
 
 pub use field_sort::{FieldOrder, FieldSort, FieldSorts};
+pub(crate) use field_words::direction_of;
 pub use field_words::{field_ends, keys_of_words, wrong_field_word};
+pub(crate) use line_key::part_key;
 pub use printed_fields::print_sorted_by_fields;

@@ -1,2 +1,3 @@
 pub mod JoinedMatchLemmas
+pub mod NearLineLemmas
 pub mod WantedLineLemmas

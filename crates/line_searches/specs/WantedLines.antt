@@ -1,21 +1,34 @@
 -- How lines that are wanted are printed.
-use Rattle.std.specs.Prelude.{ℕ, ◌+◌, ◌-◌, ◌==◌, nat_lt, min, Bool, List, [], ◌∷◌, ◌++◌, if◌then◌else◌, filter, length}
+use Rattle.std.specs.Prelude.{ℕ, ◌+◌, ◌-◌, ◌==◌, nat_lt, min, Bool, true, false, List, [], ◌∷◌, ◌++◌, if◌then◌else◌, filter, length}
 use Rattle.std.specs.Fmt.{decimal}
 use Rattle.icu_search_places.specs.LeastMatches.{Span}
 use Rattle.icu_search_places.specs.Searches.{Search}
 use Rattle.line_searches.specs.LineSearches.{decoded_line, found_in, is_line_wanted}
-use Rattle.line_searches.specs.ShownMatches.{bytes_between, coloured, coloured_from}
+use Rattle.line_searches.specs.ShownMatches.{bytes_between, coloured, coloured_from, cyan, green, painted}
 use Rattle.line_searches.specs.declared.search_request.SearchRequest.{SearchRequest}
 use Rattle.line_searches.specs.declared.search_request.Shown.{Shown}
 use Rattle.line_searches.specs.declared.search_request.Shown.TheVariants as shows
 
--- the number of a line and a colon, where that is asked for
-abbrev pub number_before : Bool → ℕ → List ℕ
-number_before is_numbered number = if is_numbered then decimal number ++ 58 ∷ [] else []
+-- whether there are colours
+abbrev pub is_coloured : Shown → Bool
+is_coloured shows.ColouredLine = true
+is_coloured shows.ColouredMatches = true
+is_coloured _ = false
+
+-- the number of a line and a byte behind it, if that is asked for
+abbrev pub number_before : SearchRequest → ℕ → ℕ → List ℕ
+number_before r mark number =
+    if r.is_numbered then painted (is_coloured r.shown) green (decimal number) ++ painted (is_coloured r.shown) cyan (mark ∷ []) else []
 
 -- a printed line: what stands before it, maybe its number, bytes, and what ends it
 abbrev pub printed_line : SearchRequest → ℕ → List ℕ → List ℕ
-printed_line r number bytes = r.prefix.now ++ (number_before r.is_numbered number ++ (bytes ++ r.separator ∷ []))
+printed_line r number bytes = r.prefix.now ++ (number_before r 58 number ++ (bytes ++ r.separator ∷ []))
+
+-- a line near one that is wanted as it is printed: not at all, if matches alone are
+abbrev pub line_beside : Shown → SearchRequest → ℕ → List ℕ → List ℕ
+line_beside shows.Matches r number line = []
+line_beside shows.ColouredMatches r number line = []
+line_beside _ r number line = r.beside.now ++ (number_before r 45 number ++ (line ++ r.separator ∷ []))
 
 -- a match as it is shown, by itself
 abbrev pub match_text : Shown → List ℕ → List ℕ

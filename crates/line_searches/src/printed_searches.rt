@@ -5,17 +5,39 @@ ghost use Rattle.std.specs.Io.KnownBytes.{Appends};
 ghost use Rattle.icu_search.specs.Searchers.{search_of};
 ghost use Rattle.line_sorts.specs.InputLines.{lines_by};
 ghost use Rattle.line_commands.specs.Printed.{StopsPrinting};
-ghost use Rattle.line_searches.specs.WantedLines.{count_text, wanted_count, wanted_lines};
+ghost use Rattle.line_searches.specs.NearLines.{printed_lines};
+ghost use Rattle.line_searches.specs.WantedLines.{count_text, wanted_count};
 
+use crate::near_lines::near_text;
 use crate::search_request::SearchRequest;
-use crate::wanted_lines::{count_wanted, wanted_text};
+use crate::wanted_lines::{WantedText, count_wanted, wanted_text};
 use icu_search::Searcher;
 use line_commands::print_text;
 use program_files::ProgramError;
 use std::alloc::{AllocError, Global};
 use std::io::Write;
 
-/// Prints the lines of an input that are wanted, and returns whether there are some. Of one of which only matches are
+/// What is printed of an input, and how many lines are wanted.
+fn printed_text(
+    alloc: Global,
+    searchers: &[Searcher<'_>],
+    input: &[u8],
+    request: SearchRequest<'_>,
+) -> Result<WantedText, AllocError>
+    ensures text { IfOk result (λ printed. printed.text.items ≡ printed_lines request.entry
+        (map search_of searchers.now) (lines_by request.entry.separator input.now)) }
+    ensures count { IfOk result (λ printed. printed.count ≡ wanted_count request.entry
+        (map search_of searchers.now) (lines_by request.entry.separator input.now)) }
+{
+    if request.is_grouped {
+        near_text(alloc, searchers, input, request)
+    } else {
+        wanted_text(alloc, searchers, input, request)
+    }
+}
+
+/// Prints the lines of an input that are wanted, and those near them if that is asked for, and returns whether lines
+/// are wanted. Of one of which only matches are
 /// printed there may be nothing to print.
 ///
 /// # Errors
@@ -29,18 +51,18 @@ pub fn print_wanted<W: Write>(
     request: SearchRequest<'_>,
     output: &mut W,
 ) -> Result<bool, ProgramError>
-    ensures ok { let text = wanted_lines request.entry (map search_of searchers.now)
+    ensures ok { let text = printed_lines request.entry (map search_of searchers.now)
         (lines_by request.entry.separator input.now) in
         OnOk result (Appends (W.contents output.old) (W.contents output.new) text) }
     ensures some { let count = wanted_count request.entry (map search_of searchers.now)
         (lines_by request.entry.separator input.now) in
         IfOk result (λ b. b ≡ nat_lt 0 count) }
-    ensures stops { let text = wanted_lines request.entry (map search_of searchers.now)
+    ensures stops { let text = printed_lines request.entry (map search_of searchers.now)
         (lines_by request.entry.separator input.now) in
         IfErr result (StopsPrinting (λ t. t ≡ text)
         (W.contents output.old) (W.contents output.new)) }
 {
-    let wanted = wanted_text(alloc, searchers, input, request)?;
+    let wanted = printed_text(alloc, searchers, input, request)?;
     print_text(wanted.text.as_slice(), output)?;
     Ok(wanted.count > 0)
 }

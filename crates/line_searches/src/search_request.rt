@@ -44,8 +44,18 @@ pub struct SearchRequest<'a> {
     pub shown: Shown,
     /// What stands before each, as the name of its file.
     pub prefix: &'a [u8],
-    /// Whether the number of each line stands before it, from 1 on, with a colon.
+    /// What stands before each line near one that is wanted.
+    pub beside: &'a [u8],
+    /// Whether the number of each line stands before it, from 1 on, and a colon, or a hyphen if it isn't wanted itself.
     pub is_numbered: bool,
+    /// Whether groups of lines have `--` between them, and lines near those that are wanted are printed, too.
+    pub is_grouped: bool,
+    /// Whether lines of another input were printed: then there is `--` before the first of this one.
+    pub follows: bool,
+    /// How many lines are printed before each that is wanted.
+    pub before: u32,
+    /// How many lines are printed after each that is wanted.
+    pub after: u32,
     /// The byte behind each line.
     pub separator: u8,
     /// How many lines are wanted of an input at most. No line after them is searched.

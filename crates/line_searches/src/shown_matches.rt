@@ -1,8 +1,8 @@
 //! How matches of a line are shown.
 
 ghost use Rattle.std.specs.Prelude.{◌≡◌, ◌++◌, IfOk, OnOk, drop};
-ghost use Rattle.line_searches.specs.ShownMatches.{bytes_between, coloured, coloured_from, next_coloured};
-ghost use Rattle.line_searches.specs.WantedLines.{match_line, match_lines, match_text, number_before, printed_line};
+ghost use Rattle.line_searches.specs.ShownMatches.{bytes_between, coloured, coloured_from, in_colour, next_coloured, painted};
+ghost use Rattle.line_searches.specs.WantedLines.{is_coloured, line_beside, match_line, match_lines, match_text, number_before, printed_line};
 
 use crate::search_request::{SearchRequest, Shown};
 use icu_search::Match;
@@ -24,14 +24,60 @@ fn bytes_between(bytes: &[u8], start: usize, stop: usize) -> &[u8]
     &from[..stop.saturating_sub(start).min(from.len())]
 }
 
+/// What stands before a match in colour (ECMA-48, "Select Graphic Rendition").
+const RED: &[u8] = b"\x1b[01;31m\x1b[K";
+
+/// What stands before the name of a file in colour.
+pub(crate) const MAGENTA: &[u8] = b"\x1b[35m\x1b[K";
+
+/// What stands before a number in colour.
+const GREEN: &[u8] = b"\x1b[32m\x1b[K";
+
+/// What stands before what divides them, in colour.
+pub(crate) const CYAN: &[u8] = b"\x1b[36m\x1b[K";
+
+/// Whether there are colours.
+pub(crate) fn is_coloured(shown: Shown) -> bool
+    ensures { result ≡ is_coloured shown }
+{
+    match shown {
+        Shown::ColouredLine | Shown::ColouredMatches => true,
+        Shown::Line | Shown::Matches => false,
+    }
+}
+
+/// Appends bytes in a colour, by what begins it.
+fn push_in_colour(text: &mut Vec<u8>, on: &[u8], bytes: &[u8]) -> Result<(), AllocError>
+    ensures { OnOk result (text.new.items ≡ text.old.items ++ in_colour on.now bytes.now) }
+{
+    text.extend_from_slice(on)?;
+    text.extend_from_slice(bytes)?;
+    text.extend_from_slice(b"\x1b[m\x1b[K")?;
+    Ok(())
+}
+
+/// Appends bytes in a colour, if there are colours.
+pub(crate) fn push_painted(
+    text: &mut Vec<u8>,
+    has_colours: bool,
+    on: &[u8],
+    bytes: &[u8],
+) -> Result<(), AllocError>
+    ensures { OnOk result (text.new.items
+        ≡ text.old.items ++ painted has_colours on.now bytes.now) }
+{
+    if has_colours {
+        push_in_colour(text, on, bytes)
+    } else {
+        text.extend_from_slice(bytes)
+    }
+}
+
 /// Appends a match in colour.
 fn push_coloured(text: &mut Vec<u8>, bytes: &[u8]) -> Result<(), AllocError>
     ensures { OnOk result (text.new.items ≡ text.old.items ++ coloured bytes.now) }
 {
-    text.extend_from_slice(b"\x1b[01;31m\x1b[K")?;
-    text.extend_from_slice(bytes)?;
-    text.extend_from_slice(b"\x1b[m\x1b[K")?;
-    Ok(())
+    push_in_colour(text, RED, bytes)
 }
 
 /// Appends what stands before a match from a byte on, and the match in colour.
@@ -61,22 +107,24 @@ pub(crate) fn push_coloured_line(
     Ok(())
 }
 
-/// Appends the number of a line and a colon, where that is asked for.
+/// Appends the number of a line and a byte behind it, if that is asked for.
 fn push_number(
     alloc: Global,
     text: &mut Vec<u8>,
-    is_numbered: bool,
+    request: SearchRequest<'_>,
+    mark: u8,
     number: usize,
 ) -> Result<(), AllocError>
-    ensures { OnOk result (text.new.items ≡ text.old.items ++ number_before is_numbered number) }
+    ensures { OnOk result (text.new.items
+        ≡ text.old.items ++ number_before request.entry mark number) }
 {
-    if !is_numbered {
+    if !request.is_numbered {
         return Ok(());
     }
+    let has_colours = is_coloured(request.shown);
     let digits = number.to_string(alloc)?;
-    text.extend_from_slice(digits.as_bytes())?;
-    text.push(b':')?;
-    Ok(())
+    push_painted(text, has_colours, GREEN, digits.as_bytes())?;
+    push_painted(text, has_colours, CYAN, &[mark])
 }
 
 /// Appends a printed line: what stands before it, maybe its number, bytes, and what ends it.
@@ -91,8 +139,29 @@ pub(crate) fn push_printed(
         ≡ text.old.items ++ printed_line request.entry number bytes.now) }
 {
     text.extend_from_slice(request.prefix)?;
-    push_number(alloc, text, request.is_numbered, number)?;
+    push_number(alloc, text, request, b':', number)?;
     push_line(text, bytes, request.separator)
+}
+
+/// Appends a line near one that is wanted, as it is printed.
+pub(crate) fn push_beside(
+    alloc: Global,
+    text: &mut Vec<u8>,
+    request: SearchRequest<'_>,
+    number: usize,
+    line: &[u8],
+) -> Result<(), AllocError>
+    ensures { OnOk result (text.new.items
+        ≡ text.old.items ++ line_beside request.entry.shown request.entry number line.now) }
+{
+    match request.shown {
+        Shown::Matches | Shown::ColouredMatches => Ok(()),
+        Shown::Line | Shown::ColouredLine => {
+            text.extend_from_slice(request.beside)?;
+            push_number(alloc, text, request, b'-', number)?;
+            push_line(text, line, request.separator)
+        }
+    }
 }
 
 /// A match as it is shown, by itself.

@@ -32,7 +32,7 @@ fn push_coloured_printed(
 }
 
 /// Appends a line with matches as it is printed.
-fn push_shown(
+pub(crate) fn push_shown(
     alloc: Global,
     text: &mut Vec<u8>,
     request: SearchRequest<'_>,
@@ -152,7 +152,7 @@ pub fn wanted_text(
 }
 
 /// Whether a line is wanted.
-fn wants(
+pub(crate) fn wants(
     alloc: Global,
     searchers: &[Searcher<'_>],
     request: SearchRequest<'_>,

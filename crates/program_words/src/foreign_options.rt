@@ -1,11 +1,12 @@
-//! Options of GNU `sort` that the program doesn't take. It says what to take in their place, or why there is nothing.
+//! Options of GNU `sort` and `grep` that the program doesn't take. It says what to take in their place, or why there is
+//! nothing.
 
 use crate::option_table::{OptionRow, Takes, option_of};
 use clap::{ArgMatches, Command};
 use std::alloc::{AllocError, Global};
 
-/// These options. In the place of help stands what is said of each.
-static FOREIGN: [OptionRow; 8] = [
+/// Those of `sort`. In the place of help stands what is said of each.
+pub static SORT_OPTIONS: [OptionRow; 8] = [
     OptionRow {
         id: "ignore-leading-blanks",
         letter: Some('b'),
@@ -56,7 +57,41 @@ static FOREIGN: [OptionRow; 8] = [
     },
 ];
 
-/// A command that knows the options which it doesn't take. Its help doesn't name them.
+/// Those of `grep`.
+pub static GREP_OPTIONS: [OptionRow; 5] = [
+    OptionRow {
+        id: "extended-regexp",
+        letter: Some('E'),
+        takes: Takes::Nothing,
+        help: "-E isn't taken: a pattern is a text, and no regular expression; several stand behind -e each",
+    },
+    OptionRow {
+        id: "basic-regexp",
+        letter: Some('G'),
+        takes: Takes::Nothing,
+        help: "-G isn't taken: a pattern is a text, and no regular expression",
+    },
+    OptionRow {
+        id: "perl-regexp",
+        letter: Some('P'),
+        takes: Takes::Nothing,
+        help: "-P isn't taken: a pattern is a text, and no regular expression",
+    },
+    OptionRow {
+        id: "byte-offset",
+        letter: Some('b'),
+        takes: Takes::Nothing,
+        help: "-b isn't taken: -n prints the numbers of lines",
+    },
+    OptionRow {
+        id: "dereference-recursive",
+        letter: Some('R'),
+        takes: Takes::Nothing,
+        help: "-R isn't taken: -r reads folders and follows no links",
+    },
+];
+
+/// A command that knows options which it doesn't take. Its help doesn't name them.
 ///
 /// # Errors
 ///
@@ -64,17 +99,18 @@ static FOREIGN: [OptionRow; 8] = [
 pub(crate) fn with_foreign<'a>(
     alloc: Global,
     command: Command<'a>,
+    rows: &[OptionRow],
 ) -> Result<Command<'a>, AllocError> {
     let mut whole = command;
-    for row in FOREIGN.as_slice() {
+    for row in rows {
         whole = whole.arg(option_of(alloc, *row).hide(true))?;
     }
     Ok(whole)
 }
 
-/// What is said of an option of GNU `sort` that words have and that isn't taken, if they have one.
-pub fn foreign_said(matches: &ArgMatches<'_>) -> Option<&'static str> {
-    for row in FOREIGN.as_slice() {
+/// What is said of the first of some options that words have and that isn't taken, if they have one.
+pub fn foreign_said(rows: &[OptionRow], matches: &ArgMatches<'_>) -> Option<&'static str> {
+    for row in rows {
         if matches.get_flag(row.id) {
             return Some(row.help);
         }

@@ -45,13 +45,13 @@ pub(crate) static LOCALES: [OptionRow; 2] = [
         id: "locale",
         letter: Some('l'),
         takes: Takes::Value("TAG"),
-        help: "The language, a type and settings, as in sv, de-u-co-phonebk or en-u-kn-ks-level1",
+        help: "The language, a type and settings, as in sv, de-u-co-phonebk or\nen-u-kn-ks-level1",
     },
     OptionRow {
         id: "rules",
         letter: None,
         takes: Takes::Value("RULES"),
-        help: "Rules of one's own, after those of the language: a file, or rules, which begin with & or [",
+        help: "Rules of one's own, after those of the language: a file, or rules,\nwhich begin with & or [",
     },
 ];
 
@@ -60,7 +60,7 @@ pub const NOTICES: OptionRow = OptionRow {
     id: "quiet",
     letter: Some('q'),
     takes: Takes::Nothing,
-    help: "Says nothing where a language's order isn't just what its tag asks for",
+    help: "Says nothing where a language's order isn't just what its tag asks\nfor",
 };
 
 /// Those for settings of the order.
@@ -69,37 +69,37 @@ pub(crate) static SETTINGS: [OptionRow; 6] = [
         id: "strength",
         letter: None,
         takes: Takes::OneOf("LEVEL", STRENGTHS),
-        help: "How many levels count; tertiary if none is said",
+        help: "How many levels count: 1 to 4 or i, or their names, primary,\nsecondary, tertiary, quaternary or identical; 3 if none is said",
     },
     OptionRow {
         id: "alternate",
         letter: None,
         takes: Takes::OneOf("HOW", HANDLINGS),
-        help: "How spaces and punctuation count",
+        help: "How spaces and punctuation count: non-ignorable, shifted or blanked",
     },
     OptionRow {
         id: "max-variable",
         letter: None,
         takes: Takes::OneOf("GROUP", GROUPS),
-        help: "The last group that the option --alternate is for",
+        help: "The last group that the option --alternate is for: space,\npunctuation, symbol or currency",
     },
     OptionRow {
         id: "case-first",
         letter: None,
         takes: Takes::OneOf("CASE", CASES),
-        help: "Which case comes first",
+        help: "Which case comes first: off, lower or upper",
     },
     OptionRow {
         id: "case-level",
         letter: None,
         takes: Takes::Switch,
-        help: "Case counts on a level of its own, or with off it doesn't",
+        help: "Case counts on a level of its own, or with =off it doesn't",
     },
     OptionRow {
         id: "numeric",
         letter: Some('V'),
         takes: Takes::Switch,
-        help: "Digits count by the value of their number, or with off one by one",
+        help: "Digits count by the value of their number, or with =off one by one",
     },
 ];
 
@@ -112,24 +112,24 @@ pub(crate) static SEPARATORS: [OptionRow; 1] = [OptionRow {
 }];
 
 /// Those for records of CSV, for keys of lines, and for how equal lines and all lines stand.
-pub(crate) static ORDERS: [OptionRow; 9] = [
+pub(crate) static ORDERS: [OptionRow; 10] = [
     OptionRow {
         id: "csv",
         letter: None,
         takes: Takes::Nothing,
-        help: "The input has records of CSV (RFC 4180), and not lines; each keeps its own bytes",
+        help: "The input has records of CSV (RFC 4180), and not lines; each keeps\nits own bytes",
     },
     OptionRow {
         id: "header",
         letter: None,
         takes: Takes::Nothing,
-        help: "The first record of --csv names the columns, and stays first",
+        help: "The first line stays first; with --csv its record names the columns",
     },
     OptionRow {
         id: "column",
         letter: None,
         takes: Takes::Values("NAME|N"),
-        help: "Compares this column of --csv, by its name or its number; further ones where the first are equal",
+        help: "Compares this column of --csv, by its name or its number, with :n as\nnumbers, with :r the greatest first; further ones where the first\nare equal",
     },
     OptionRow {
         id: "delimiter",
@@ -141,13 +141,13 @@ pub(crate) static ORDERS: [OptionRow; 9] = [
         id: "key",
         letter: Some('k'),
         takes: Takes::Values("POS1[,POS2]"),
-        help: "Compares this part of lines, from one place F[.C] up to another; further ones where the first are equal",
+        help: "Compares this part of lines, from one place F[.C] up to another;\nfurther ones where the first are equal",
     },
     OptionRow {
         id: "field-separator",
         letter: Some('t'),
         takes: Takes::AnyValue("C"),
-        help: "Ends a field; where none is said, blanks belong to the field behind them",
+        help: "Ends a field; where none is said, blanks belong to the field behind\nthem",
     },
     OptionRow {
         id: "reverse",
@@ -160,6 +160,12 @@ pub(crate) static ORDERS: [OptionRow; 9] = [
         letter: Some('u'),
         takes: Takes::Nothing,
         help: "Of lines that are equal the first alone",
+    },
+    OptionRow {
+        id: "files0-from",
+        letter: None,
+        takes: Takes::Value("F"),
+        help: "Reads the files that this file names, each with a zero byte behind\nit",
     },
     OptionRow {
         id: "stable",
@@ -214,7 +220,7 @@ pub(crate) static QUIET: [OptionRow; 1] = [OptionRow {
 }];
 
 /// Those of the command `search`.
-pub(crate) static SEARCHES: [OptionRow; 18] = [
+pub(crate) static SEARCHES: [OptionRow; 27] = [
     OptionRow {
         id: "zero-terminated",
         letter: Some('z'),
@@ -231,7 +237,19 @@ pub(crate) static SEARCHES: [OptionRow; 18] = [
         id: "file",
         letter: Some('f'),
         takes: Takes::Values("FILE"),
-        help: "Searches for each line of this file, in place of the first word; further ones too",
+        help: "Searches for each line of this file, in place of the first word;\nfurther ones too",
+    },
+    OptionRow {
+        id: "fixed-strings",
+        letter: Some('F'),
+        takes: Takes::Nothing,
+        help: "Changes nothing, as a pattern is a text",
+    },
+    OptionRow {
+        id: "line-buffered",
+        letter: None,
+        takes: Takes::Nothing,
+        help: "Changes nothing, as what is found in a file is printed at once",
     },
     OptionRow {
         id: "max-count",
@@ -244,6 +262,12 @@ pub(crate) static SEARCHES: [OptionRow; 18] = [
         letter: Some('i'),
         takes: Takes::Nothing,
         help: "Case doesn't count: two levels count where no strength is said",
+    },
+    OptionRow {
+        id: "primary",
+        letter: Some('1'),
+        takes: Takes::Nothing,
+        help: "Letters alone count, as by --strength 1",
     },
     OptionRow {
         id: "count",
@@ -268,6 +292,24 @@ pub(crate) static SEARCHES: [OptionRow; 18] = [
         letter: Some('n'),
         takes: Takes::Nothing,
         help: "Prints the number of each line before it",
+    },
+    OptionRow {
+        id: "after-context",
+        letter: Some('A'),
+        takes: Takes::Value("NUM"),
+        help: "Prints so many lines after each such line, too",
+    },
+    OptionRow {
+        id: "before-context",
+        letter: Some('B'),
+        takes: Takes::Value("NUM"),
+        help: "Prints so many lines before each such line, too",
+    },
+    OptionRow {
+        id: "context",
+        letter: Some('C'),
+        takes: Takes::Value("NUM"),
+        help: "Prints so many lines before and after each such line, too",
     },
     OptionRow {
         id: "only-matching",
@@ -306,6 +348,24 @@ pub(crate) static SEARCHES: [OptionRow; 18] = [
         help: "Says nothing of files that aren't read",
     },
     OptionRow {
+        id: "recursive",
+        letter: Some('r'),
+        takes: Takes::Nothing,
+        help: "Searches the files below folders, too, but for binary ones; links\naren't followed",
+    },
+    OptionRow {
+        id: "include",
+        letter: None,
+        takes: Takes::Values("GLOB"),
+        help: "Of the files below folders those whose names match, as *.txt does",
+    },
+    OptionRow {
+        id: "text",
+        letter: Some('a'),
+        takes: Takes::Nothing,
+        help: "Searches binary files below folders, too",
+    },
+    OptionRow {
         id: "word-regexp",
         letter: Some('w'),
         takes: Takes::Nothing,
@@ -321,7 +381,7 @@ pub(crate) static SEARCHES: [OptionRow; 18] = [
         id: "letters",
         letter: None,
         takes: Takes::Nothing,
-        help: "A match may begin and end within what is one character to a reader, between its letters",
+        help: "A match may begin and end within what is one character to a reader,\nbetween its letters",
     },
 ];
 
@@ -331,12 +391,12 @@ pub(crate) static QUESTIONS: [OptionRow; 2] = [
         id: "version",
         letter: Some('V'),
         takes: Takes::Nothing,
-        help: "Prints the versions of the program, of CLDR, and of Unicode in the root's data",
+        help: "Prints the versions of the program, of CLDR, and of Unicode in the\nroot's data",
     },
     OptionRow {
         id: "list-locales",
         letter: None,
         takes: Takes::Nothing,
-        help: "Prints the locales that there are collations of, with their types, the default one first",
+        help: "Prints the locales that there are collations of, with their types,\nthe default one first",
     },
 ];

@@ -40,7 +40,11 @@ const SWITCHES: &[&str] = &["on", "off"];
 
 /// The option of a row.
 pub fn option_of<'a>(alloc: Global, row: OptionRow) -> Arg<'a> {
-    let plain = Arg::new(alloc, row.id).long(row.id).help(row.help);
+    let plain = Arg::new(alloc, row.id)
+        .long(row.id)
+        .help(row.help)
+        .next_line_help(true)
+        .hide_possible_values(true);
     let arg = match row.letter {
         Some(letter) => plain.short(letter),
         None => plain,

@@ -1,7 +1,9 @@
 //! How lines are to be sorted, by options.
 
 use clap::ArgMatches;
-use line_sorts::{Direction, LineOrder, Repeats, SortRequest, Ties};
+use line_sorts::{Direction, LineOrder, Repeats, SortRequest, Ties, lines_by};
+use program_files::{ProgramError, bytes_of_word, refused};
+use std::alloc::Global;
 
 /// The byte behind each line.
 pub fn separator_of(matches: &ArgMatches<'_>) -> u8 {
@@ -44,6 +46,38 @@ pub fn sort_request_of(matches: &ArgMatches<'_>) -> SortRequest {
         },
         separator: separator_of(matches),
     }
+}
+
+/// The file that a name of a list is, or what is wrong with it.
+fn listed_file(alloc: Global, list: &str, name: &[u8]) -> Result<String, ProgramError> {
+    let Ok(file) = String::from_utf8(Vec::from_slice(alloc, name)?) else {
+        return Err(refused(alloc, list, "a name in it isn't UTF-8"));
+    };
+    if file.is_empty() {
+        return Err(refused(alloc, list, "a name in it is empty"));
+    }
+    if bytes_of_word(alloc, file.as_str())?.as_slice() != name {
+        return Err(refused(alloc, list, "a name in it has a private character"));
+    }
+    Ok(file)
+}
+
+/// The files that a list names, each with a zero byte behind it. A list that names none is refused, and a name that is
+/// empty, isn't UTF-8, or has one of the private characters that stand for bytes in words.
+///
+/// # Errors
+///
+/// Fails where an allocation does, or with a line that names the list and says what is wrong.
+pub fn listed_files(alloc: Global, list: &str, bytes: &[u8]) -> Result<Vec<String>, ProgramError> {
+    let names = lines_by(alloc, bytes, 0)?;
+    if names.is_empty() {
+        return Err(refused(alloc, list, "it names no file"));
+    }
+    let mut files = Vec::new(alloc);
+    for name in names.as_slice() {
+        files.push(listed_file(alloc, list, name)?)?;
+    }
+    Ok(files)
 }
 
 /// Whether lines are to be checked in place of being sorted.

@@ -1,6 +1,6 @@
 //! The commands of the program.
 
-use crate::foreign_options::with_foreign;
+use crate::foreign_options::{GREP_OPTIONS, SORT_OPTIONS, with_foreign};
 use crate::option_rows::{
     CHECKS, DATA, LOCALES, NOTICES, ORDERS, QUESTIONS, QUIET, SEARCHES, SEPARATORS, SETTINGS, SORTS,
 };
@@ -8,38 +8,47 @@ use crate::option_table::{OptionRow, Takes, option_of, with_answers, with_help, 
 use clap::{Arg, ArgAction, ArgMatches, Command};
 use std::alloc::{AllocError, Global};
 
-const ABOUT: &str =
-    "Compares texts, and sorts, checks, searches and shows lines, by the Unicode Collation Algorithm with CLDR's \
-collations: the order of a language, the same on every machine.";
+const ABOUT: &str = "\
+Compares texts, and sorts, checks, searches and shows lines, by the Unicode
+Collation Algorithm with CLDR's collations: the order of a language, the same
+on every machine.";
 
 const AFTER: &str = "\
 Examples:
   collate-cldr sort names.txt                    names in order
-  collate-cldr sort -u --strength 1 -r < words   one of each, whatever accents and case, the last first
-  collate-cldr sort --numeric -o files files     numbers by their value; the file is replaced
-  collate-cldr sort -l de-u-co-phonebk names.txt names as German lists of names have them
+  collate-cldr sort -u --strength 1 -r < words   one of each, the last first
+  collate-cldr sort --numeric -o files files     numbers by value, in place
+  collate-cldr sort -l de-u-co-phonebk names.txt as German lists of names
   collate-cldr compare -l sv ångström zebra      prints >
-  collate-cldr sort -t, -k2,2 -k3nr book.csv     by the second field, then the third as a number, the greatest first
-  collate-cldr sort --csv --header --column surname book.csv   a table by a column, its header first
-  collate-cldr search --strength 1 resume *.txt  lines with résumé, RESUME or the like
-  collate-cldr check list.txt                    status 1 and the first line out of order
-  collate-cldr compile -l sv -o sv.tables        the tables of Swedish, for sort --tables sv.tables names.txt
+  collate-cldr sort -t, -k2,2 -k3nr book.csv     by the second field, then the
+                                                 third as a number, from the top
+  collate-cldr sort --csv --header --column name:r book.csv
+                                                 a table by a column, Z first
+  collate-cldr search -1 resume *.txt            lines with résumé or RESUME
+  collate-cldr search -r -C2 resume notes        in a folder, two lines around
+  collate-cldr check list.txt                    the first line out of order
+  collate-cldr compile -l sv -o sv.tables        the tables of Swedish, for
+                                                 --tables sv.tables
 
-Order: that of the language that --locale names, or else the first of LC_ALL, LC_COLLATE and LANG that is set, as \
-sv_SE.UTF-8; for C and POSIX, and where none is set, the root's order. To sort by bytes is the work of sort.
+Order: that of the language that --locale names, or else the first of LC_ALL,
+LC_COLLATE and LANG that is set, as sv_SE.UTF-8; for C and POSIX, and if none
+is set, the root's order. To sort by bytes is the work of sort.
 
-Data: FractionalUCA.txt of CLDR, which the option --root names, or else stands in common/uca of the folder that the \
-option --cldr or the environment's CLDR_DIR names, or else in /usr/share/unicode/cldr, where Debian's package \
-unicode-cldr-core installs it; the rules of languages stand in common/collation of that folder.
+Data: FractionalUCA.txt of CLDR, which the option --root names, or else stands
+in common/uca of the folder that the option --cldr or the environment's
+CLDR_DIR names, or else in /usr/share/unicode/cldr, where Debian's package
+unicode-cldr-core installs it; the rules of languages stand in
+common/collation of that folder.
 
-Status: 0, 1 (not in order, texts differ, nothing found), 2 (wrong words), 3 (data, memory, input or output).";
+Status: 0, 1 (not in order, texts differ, nothing found), 2 (wrong words), 3
+(data, memory, input or output).";
 
 /// The option for a table file.
 const TABLES: OptionRow = OptionRow {
     id: "tables",
     letter: None,
     takes: Takes::Value("FILE"),
-    help: "A table file that compile wrote, in place of CLDR's data and of a language",
+    help: "A table file that compile wrote, in place of CLDR's data and of a\nlanguage",
 };
 
 /// The option that checks lines in place of sorting them, as GNU sort has it.
@@ -47,7 +56,7 @@ const CHECK: OptionRow = OptionRow {
     id: "check",
     letter: Some('c'),
     takes: Takes::OneOf("HOW", &["diagnose-first", "quiet", "silent"]),
-    help: "As the command check: whether lines are in order, with the first that isn't, or quietly",
+    help: "As the command check: whether lines are in order, with the first\nthat isn't (diagnose-first), or quietly (quiet or silent)",
 };
 
 /// The option for colours.
@@ -55,7 +64,7 @@ const COLOUR: OptionRow = OptionRow {
     id: "colour",
     letter: None,
     takes: Takes::OneOf("WHEN", &["auto", "always", "never"]),
-    help: "Whether matches are in colour; auto, if none is said: on a terminal",
+    help: "Whether matches are in colour: auto, always or never; auto, on a\nterminal, if none is said",
 };
 
 /// The option for the file that tables are written to.
@@ -100,7 +109,7 @@ fn files<'a>(alloc: Global) -> Arg<'a> {
     Arg::new(alloc, "FILE")
         .action(ArgAction::Append)
         .num_args(0..)
-        .help("Where lines are read from; standard input where there is none, or for -")
+        .help("Where lines are read from;\nstandard input if there is none, or for -")
 }
 
 /// A command over lines, by its name.
@@ -115,7 +124,11 @@ fn line_command<'a>(
 /// The command `sort`.
 fn sort_command<'a>(alloc: Global) -> Result<Command<'a>, AllocError> {
     let command = line_command(alloc, "sort", "Prints the lines of files in order")?;
-    let command = with_options(alloc, with_foreign(alloc, command)?, ORDERS.as_slice())?;
+    let command = with_options(
+        alloc,
+        with_foreign(alloc, command, SORT_OPTIONS.as_slice())?,
+        ORDERS.as_slice(),
+    )?;
     let check = option_of(alloc, CHECK)
         .num_args(0..=1)
         .require_equals(true)
@@ -131,9 +144,13 @@ fn check_command<'a>(alloc: Global) -> Result<Command<'a>, AllocError> {
     let command = line_command(
         alloc,
         "check",
-        "Whether lines are in order: status 1 and the first that isn't, if one isn't",
+        "Whether lines are in order:\nstatus 1 and the first that isn't, if one isn't",
     )?;
-    let command = with_options(alloc, with_foreign(alloc, command)?, ORDERS.as_slice())?;
+    let command = with_options(
+        alloc,
+        with_foreign(alloc, command, SORT_OPTIONS.as_slice())?,
+        ORDERS.as_slice(),
+    )?;
     with_answers(alloc, with_options(alloc, command, QUIET.as_slice())?)
 }
 
@@ -146,18 +163,21 @@ fn search_command<'a>(alloc: Global) -> Result<Command<'a>, AllocError> {
     let command = command(
         alloc,
         "search",
-        "Prints the lines that hold a match of a pattern: status 0 if there are some, else 1",
+        "Prints the lines that hold a match of a pattern:\nstatus 0 if there are some, else 1",
     )?
     .arg(pattern)?
     .arg(files(alloc))?;
     let colour = option_of(alloc, COLOUR).visible_alias("color")?;
     let command = with_options(alloc, command, SEARCHES.as_slice())?.arg(colour)?;
-    with_answers(alloc, command)
+    with_answers(
+        alloc,
+        with_foreign(alloc, command, GREP_OPTIONS.as_slice())?,
+    )
 }
 
 /// The command `keys`.
 fn keys_command<'a>(alloc: Global) -> Result<Command<'a>, AllocError> {
-    let about = "Prints each line behind its sort key in hexadecimal digits and a tab";
+    let about = "Prints each line behind its sort key in hexadecimal digits\nand a tab";
     let command = line_command(alloc, "keys", about)?.arg(option_of(alloc, NOTICES))?;
     with_answers(alloc, command)
 }
@@ -166,7 +186,7 @@ fn keys_command<'a>(alloc: Global) -> Result<Command<'a>, AllocError> {
 fn compile_command<'a>(alloc: Global) -> Result<Command<'a>, AllocError> {
     let command = Command::new(alloc, "compile")
         .about(
-            "Writes the tables of a language, checked, to a file that --tables takes, and that is read at once",
+            "Writes the tables of a language, checked, to a file that --tables takes,\nand that is read at once",
         )
         .args_override_self(true);
     let command = with_options(alloc, command, DATA.as_slice())?;
@@ -208,26 +228,26 @@ pub fn program<'a>(alloc: Global) -> Result<Command<'a>, AllocError> {
         .subcommand(text_command(
             alloc,
             "compare",
-            "Prints the order of two texts, <, = or >: status 0 if they are equal, else 1",
+            "Prints the order of two texts, <, = or >:\nstatus 0 if they are equal, else 1",
             &["A", "B"],
         )?)?
         .subcommand(text_command(
             alloc,
             "why",
-            "Prints the order of two texts, and the level that decides: status 0 if they are equal, else 1",
+            "Prints the order of two texts, and the level that decides:\nstatus 0 if they are equal, else 1",
             &["A", "B"],
         )?)?
         .subcommand(search_command(alloc)?)?
         .subcommand(text_command(
             alloc,
             "key",
-            "Prints the sort key of a text, byte by byte in hexadecimal digits",
+            "Prints the sort key of a text, byte by byte in\nhexadecimal digits",
             &["TEXT"],
         )?)?
         .subcommand(text_command(
             alloc,
             "explain",
-            "Prints the characters of a text with their collation elements, and its sort key level by level",
+            "Prints the characters of a text with their collation elements,\nand its sort key level by level",
             &["TEXT"],
         )?)?
         .subcommand(keys_command(alloc)?)?

@@ -12,12 +12,13 @@ use Rattle.line_sorts.specs.declared.sort_request.Repeats.TheVariants as repeats
 use Rattle.line_commands.specs.Disorders.{disorder_behind}
 use Rattle.line_commands.specs.csv_sorts.ColumnDisorders.{first_record_disorder, keys_stand_wrong, record_stands_wrong}
 use Rattle.line_commands.specs.csv_sorts.ColumnOrders.{columns_key, columns_order}
+use Rattle.line_commands.specs.declared.csv_sorts.csv_request.ColumnSort.{ColumnSort}
 use Rattle.line_commands.specs.declared.csv_sorts.csv_request.CsvRequest.{CsvRequest}
 use Rattle.line_sorts.specs.KeyedOrders.{directed}
 use Rattle.line_sorts.specs.declared.line_order.Direction.{Direction}
 
 -- the order of records is that of their keys
-columns_order_by_keys : (c : Collation) (d : ℕ) (columns : List ℕ) (direction : Direction) (x y : List ℕ)
+columns_order_by_keys : (c : Collation) (d : ℕ) (columns : List ColumnSort) (direction : Direction) (x y : List ℕ)
     → columns_order c d columns direction x y ≡ directed direction list_order (columns_key c d columns x) (columns_key c d columns y)
 columns_order_by_keys c d columns directions.Ascending x y = refl
 columns_order_by_keys c d columns directions.Descending x y = refl

@@ -2,6 +2,7 @@
 use Rattle.std.proofs.Common.{◌≡◌, ◌<◌, ◌-◌, ℕ, suc, zero, false, List, [], ◌∷◌, None, get_or, length, refl, arith, ap, ◌∙◌, sym, subst, take, drop, ◌≤◌, Result, Ok, Err, Option}
 use Rattle.std.specs.Prelude.{IfErr}
 use Rattle.std.proofs.lemmas.List.{take_all}
+use Rattle.std.proofs.lemmas.List.Elements.{Contains-get_or}
 use Rattle.std.specs.Borrow.{Bor}
 use Rattle.csv.specs.Reading.{strip_bom}
 use Rattle.csv.specs.Records.{field_at}
@@ -14,22 +15,28 @@ use Rattle.line_commands.specs.csv_sorts.ColumnOrders.{body_of}
 use Rattle.line_commands.specs.csv_sorts.CsvErrors.{ExplainsClosing, ExplainsCsv, ExplainsField, ExplainsFields, ExplainsKeys, ExplainsOpen, LacksAsked, LastIsOpen, SomeLacks, of_fields}
 use Rattle.line_commands.specs.declared.csv_sorts.csv_request.CsvError.{CsvError}
 use Rattle.line_commands.specs.declared.csv_sorts.csv_request.CsvError.TheVariants as csv_errors
+use Rattle.line_commands.specs.declared.csv_sorts.csv_request.ColumnSort.{ColumnSort}
 use Rattle.line_commands.specs.declared.csv_sorts.csv_request.CsvRequest.{CsvRequest}
 
 -- one column of several
-pub fields_explained : (fields : List (List ℕ)) (columns : List ℕ) (i : ℕ) (e : CsvError) → i < length columns
-    → ExplainsField fields (get_or columns i 0) e → ExplainsFields fields columns e
-fields_explained fields columns i csv_errors.NoMemory below is = tt
-fields_explained fields columns i (csv_errors.Lacks index column) below is =
-    record { place = i; within = below; asked = sym is.0; lacks = subst (λ c. field_at fields c ≡ None) (sym is.0) is.1 }
-fields_explained fields columns i csv_errors.ReadFailed below is = absurd is
-fields_explained fields columns i (csv_errors.Open index) below is = absurd is
-fields_explained fields columns i (csv_errors.Unnamed word) below is = absurd is
-fields_explained fields columns i (csv_errors.Ambiguous word) below is = absurd is
-fields_explained fields columns i csv_errors.WriteFailed below is = absurd is
+pub fields_explained : (fields : List (List ℕ)) (columns : List ColumnSort) (i : ℕ) (other : ColumnSort) (e : CsvError) → i < length columns
+    → ExplainsField fields (get_or columns i other).column e → ExplainsFields fields columns e
+fields_explained fields columns i other csv_errors.NoMemory below is = tt
+fields_explained fields columns i other (csv_errors.Lacks index column) below is =
+    record {
+      sort = get_or columns i other;
+      asked = Contains-get_or columns i other below;
+      same = sym is.0;
+      lacks = subst (λ c. field_at fields c ≡ None) (sym is.0) is.1;
+    }
+fields_explained fields columns i other csv_errors.ReadFailed below is = absurd is
+fields_explained fields columns i other (csv_errors.Open index) below is = absurd is
+fields_explained fields columns i other (csv_errors.Unnamed word) below is = absurd is
+fields_explained fields columns i other (csv_errors.Ambiguous word) below is = absurd is
+fields_explained fields columns i other csv_errors.WriteFailed below is = absurd is
 
 -- fields that weren't read
-pub read_explained : (fields : List (List ℕ)) (columns : List ℕ) (e : FieldsError) → ExplainsFields fields columns (of_fields e)
+pub read_explained : (fields : List (List ℕ)) (columns : List ColumnSort) (e : FieldsError) → ExplainsFields fields columns (of_fields e)
 read_explained fields columns fields_errors.NoMemory = tt
 read_explained fields columns fields_errors.ReadFailed = tt
 

@@ -8,29 +8,32 @@ use Rattle.icu_order_levels.specs.ListOrder.{list_order}
 use Rattle.icu_order_texts.specs.weighting.Collations.{Collation}
 use Rattle.line_sorts.specs.KeyedOrders.{ordered_as}
 use Rattle.line_sorts.specs.declared.line_order.Direction.{Direction}
-use Rattle.line_sorts.specs.declared.line_order.Direction.TheVariants.{Ascending}
 use Rattle.line_sorts.specs.declared.line_order.LineOrder.{LineOrder}
 use Rattle.line_sorts.specs.declared.line_order.Ties.TheVariants.{AsTheyCame}
-use Rattle.collate_commands.specs.LineKeys.{key_of_line}
 use Rattle.line_sorts.specs.fields.JoinedKeys.{directed_key}
+use Rattle.line_commands.specs.field_sorts.FieldOrders.{part_key}
+use Rattle.line_commands.specs.declared.csv_sorts.csv_request.ColumnSort.{ColumnSort}
 
--- The key of fields by some columns: their sort keys, one behind another. By the law of keys that are put together the
--- first column that differs decides
-abbrev pub fields_key : Collation → List (List ℕ) → List ℕ → List ℕ
+-- the key of fields by a column
+abbrev pub column_key : Collation → List (List ℕ) → ColumnSort → List ℕ
+column_key c fields sort = part_key c sort.order (unwrap_or (field_at fields sort.column) [])
+
+-- The key of fields by some columns: their keys in their directions, one behind another. The first column that differs
+-- decides, by the law of keys that are put together
+abbrev pub fields_key : Collation → List (List ℕ) → List ColumnSort → List ℕ
 fields_key c fields [] = []
-fields_key c fields (column ∷ columns) =
-    directed_key Ascending (key_of_line c (unwrap_or (field_at fields column) [])) ++ fields_key c fields columns
+fields_key c fields (sort ∷ sorts) = directed_key sort.direction (column_key c fields sort) ++ fields_key c fields sorts
 
 -- the key of a record by some columns
-abbrev pub columns_key : Collation → ℕ → List ℕ → List ℕ → List ℕ
+abbrev pub columns_key : Collation → ℕ → List ColumnSort → List ℕ → List ℕ
 columns_key c delimiter columns record_bytes = fields_key c (csv_fields delimiter record_bytes) columns
 
 -- a record has each of these columns
-abbrev pub HasColumns : ℕ → List ℕ → List ℕ → Type 0
-HasColumns delimiter columns record_bytes = AllByRecursion (λ column. IsSome (field_at (csv_fields delimiter record_bytes) column)) columns
+abbrev pub HasColumns : ℕ → List ColumnSort → List ℕ → Type 0
+HasColumns delimiter columns record_bytes = AllByRecursion (λ sort. IsSome (field_at (csv_fields delimiter record_bytes) sort.column)) columns
 
 -- the order of two records by some columns
-abbrev pub by_columns : Collation → ℕ → List ℕ → List ℕ → List ℕ → Ordering
+abbrev pub by_columns : Collation → ℕ → List ColumnSort → List ℕ → List ℕ → Ordering
 by_columns c delimiter columns x y = list_order (columns_key c delimiter columns x) (columns_key c delimiter columns y)
 
 -- an order in which records stand as they came where neither comes first
@@ -38,7 +41,7 @@ abbrev pub as_they_came : Direction → LineOrder
 as_they_came direction = record { direction = direction; ties = AsTheyCame }
 
 -- the order of records, in a direction
-abbrev pub columns_order : Collation → ℕ → List ℕ → Direction → List ℕ → List ℕ → Ordering
+abbrev pub columns_order : Collation → ℕ → List ColumnSort → Direction → List ℕ → List ℕ → Ordering
 columns_order c delimiter columns direction = ordered_as (as_they_came direction) (by_columns c delimiter columns) list_order
 
 -- the records before those that are sorted: the header, if the first is one

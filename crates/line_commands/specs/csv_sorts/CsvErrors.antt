@@ -9,6 +9,7 @@ use Rattle.line_sorts.specs.declared.csv_records.record_fields.FieldsError.TheVa
 use Rattle.line_commands.specs.csv_sorts.ColumnOrders.{body_of}
 use Rattle.line_commands.specs.declared.csv_sorts.csv_request.CsvError.{CsvError}
 use Rattle.line_commands.specs.declared.csv_sorts.csv_request.CsvError.TheVariants as csv_errors
+use Rattle.line_commands.specs.declared.csv_sorts.csv_request.ColumnSort.{ColumnSort}
 use Rattle.line_commands.specs.declared.csv_sorts.csv_request.CsvRequest.{CsvRequest}
 
 -- what an error of a record's fields comes to
@@ -17,10 +18,10 @@ of_fields fields_errors.NoMemory = csv_errors.NoMemory
 of_fields fields_errors.ReadFailed = csv_errors.ReadFailed
 
 -- a column is one of those that are asked for, and not one of the fields
-pub record LacksAsked (fields : List (List ℕ)) (columns : List ℕ) (column : ℕ) : Type 0 where
-  pub place : ℕ
-  pub within : place < length columns
-  pub asked : get_or columns place 0 ≡ column
+pub record LacksAsked (fields : List (List ℕ)) (columns : List ColumnSort) (column : ℕ) : Type 0 where
+  pub sort : ColumnSort
+  pub asked : Contains columns sort
+  pub same : sort.column ≡ column
   pub lacks : field_at fields column ≡ None
 
 -- why fields have no key by a column: an allocation failed, or they are fewer
@@ -30,7 +31,7 @@ ExplainsField fields column (csv_errors.Lacks index other) = (other ≡ column) 
 ExplainsField fields column _ = ⊥
 
 -- why a record with these fields has no key: an allocation or a read failed, or it lacks a column
-abbrev pub ExplainsFields : List (List ℕ) → List ℕ → CsvError → Type 0
+abbrev pub ExplainsFields : List (List ℕ) → List ColumnSort → CsvError → Type 0
 ExplainsFields fields columns csv_errors.NoMemory = Unit {0}
 ExplainsFields fields columns csv_errors.ReadFailed = Unit {0}
 ExplainsFields fields columns (csv_errors.Lacks index column) = LacksAsked fields columns column

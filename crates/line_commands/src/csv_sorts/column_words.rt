@@ -1,7 +1,9 @@
 //! The columns that words name.
 
-use crate::csv_sorts::csv_request::CsvError;
+use crate::csv_sorts::csv_request::{ColumnSort, CsvError};
+use crate::field_sorts::{FieldOrder, direction_of};
 use csv::ByteRecord;
+use line_sorts::Direction;
 use line_sorts::csv_records::{column_named, csv_fields, csv_records, past_mark};
 use std::alloc::Global;
 
@@ -54,22 +56,83 @@ fn column_of_word(header: &ByteRecord, word: &str, index: usize) -> Result<usize
     }
 }
 
-/// The columns that words name, from 0 on: by a name of the header, or else by a number from 1 on.
+/// What the letters of a column say: `n` that it is compared as a number, and `r` that the greatest comes first.
+#[derive(Clone, Copy)]
+pub(crate) struct ColumnLetters {
+    is_numeric: bool,
+    is_reversed: bool,
+}
+
+/// The letters that a text has, if it has these alone.
+fn letters_of(text: &str) -> Option<ColumnLetters> {
+    let mut letters = ColumnLetters {
+        is_numeric: false,
+        is_reversed: false,
+    };
+    for byte in text.as_bytes() {
+        match *byte {
+            b'n' => letters.is_numeric = true,
+            b'r' => letters.is_reversed = true,
+            _ => return None,
+        }
+    }
+    if letters.is_numeric || letters.is_reversed {
+        Some(letters)
+    } else {
+        None
+    }
+}
+
+/// The name of a column and its letters, if a word has them behind its last colon.
+pub(crate) fn with_letters<'a>(word: &'a str) -> Option<(&'a str, ColumnLetters)> {
+    let (name, letters) = word.rsplit_once(':')?;
+    Some((name, letters_of(letters)?))
+}
+
+/// The column that a word names, without letters or with them, beside a whole order that may be reversed.
+fn sort_of_word(
+    header: &ByteRecord,
+    word: &str,
+    index: usize,
+    is_reversed: bool,
+) -> Result<ColumnSort, CsvError> {
+    let found = column_of_word(header, word, index);
+    match (found, with_letters(word)) {
+        (Err(CsvError::Unnamed { .. }), Some((name, letters))) => Ok(ColumnSort {
+            column: column_of_word(header, name, index)?,
+            order: if letters.is_numeric {
+                FieldOrder::AsNumber
+            } else {
+                FieldOrder::AsText
+            },
+            direction: direction_of(true, letters.is_reversed, is_reversed),
+        }),
+        (found, _) => Ok(ColumnSort {
+            column: found?,
+            order: FieldOrder::AsText,
+            direction: Direction::Ascending,
+        }),
+    }
+}
+
+/// The columns that words name, beside a whole order that may be reversed: by a name of the header, or else by a number
+/// from 1 on. If a word is no name, it may have a colon and letters at its end, `n`, `r` or both.
 ///
 /// # Errors
 ///
-/// Fails where an allocation does, where a word names no column, or where several columns have its name.
+/// Fails if an allocation does, if a word names no column, or if several columns have its name.
 pub fn columns_of_words(
     alloc: Global,
     delimiter: u8,
     has_header: bool,
     text: &[u8],
     words: &[&str],
-) -> Result<Vec<usize>, CsvError> {
+    is_reversed: bool,
+) -> Result<Vec<ColumnSort>, CsvError> {
     let header = header_fields(alloc, delimiter, has_header, text)?;
     let mut columns = Vec::new(alloc);
     for (i, word) in words.iter().enumerate() {
-        columns.push(column_of_word(&header, word, i)?)?;
+        columns.push(sort_of_word(&header, word, i, is_reversed)?)?;
     }
     Ok(columns)
 }

@@ -14,6 +14,7 @@ fn line_said(
     line: usize,
     what: &str,
 ) -> Result<ProgramError, AllocError> {
+    let source = printed_name(alloc, source)?;
     let said = format!(in alloc; "{source}: line {line}: {what}")?;
     Ok(ProgramError::Refused(said))
 }

@@ -2,10 +2,22 @@
 
 ghost use Rattle.std.specs.Prelude.{◌≡◌};
 
+use crate::field_sorts::FieldOrder;
 use line_sorts::csv_records::FieldsError;
 use line_sorts::{Direction, Repeats};
 use std::alloc::{AllocError, AllocFailed};
 use thiserror::Error;
+
+/// A column, and how it is compared.
+#[derive(Clone, Copy, PartialEq, Eq)]
+pub struct ColumnSort {
+    /// Its index, from 0 on.
+    pub column: usize,
+    /// By what.
+    pub order: FieldOrder,
+    /// Which comes first, in a whole order that ascends.
+    pub direction: Direction,
+}
 
 /// How records are sorted.
 #[derive(Clone, Copy)]
@@ -14,8 +26,8 @@ pub struct CsvRequest<'a> {
     pub delimiter: u8,
     /// Whether the first record names the columns. It stays first.
     pub has_header: bool,
-    /// The columns that are compared, from 0 on: the next one where those before it are equal.
-    pub columns: &'a [usize],
+    /// The columns that are compared: the next one if those before it are equal.
+    pub columns: &'a [ColumnSort],
     /// Which of two records comes first. Those of which neither does stand as they came.
     pub direction: Direction,
     /// Which are printed of those that are equal.

@@ -1,5 +1,7 @@
 //! The words that say how records of CSV are sorted.
 
+use crate::csv_sorts::column_words::with_letters;
+use program_files::printed_name;
 use std::alloc::{AllocError, Global};
 
 /// The words for records of CSV, and those that don't go with them.
@@ -38,7 +40,7 @@ pub fn csv_delimiter(word: Option<&str>) -> u8 {
 
 /// Whether an option stands that is for records of CSV alone.
 fn has_csv_option(words: &CsvWords<'_, '_>) -> bool {
-    !words.columns.is_empty() || words.has_header || words.delimiter.is_some()
+    !words.columns.is_empty() || words.delimiter.is_some()
 }
 
 /// What is wrong with options beside `--csv`.
@@ -55,10 +57,14 @@ fn wrong_beside(words: &CsvWords<'_, '_>) -> Option<&'static str> {
     None
 }
 
-/// The first word that is no number, where a name needs a header.
+/// The first word that is no number, if a name needs a header. Letters may stand behind it.
 fn first_name<'a>(words: &[&'a str]) -> Option<&'a str> {
     for word in words {
-        match word.parse::<usize>() {
+        let number = match with_letters(word) {
+            Some((number, _)) => number,
+            None => *word,
+        };
+        match number.parse::<usize>() {
             Ok(number) if number > 0 => {}
             _ => return Some(*word),
         }
@@ -68,6 +74,7 @@ fn first_name<'a>(words: &[&'a str]) -> Option<&'a str> {
 
 /// A text that says of a word what is wrong with it.
 fn word_said(alloc: Global, word: &str, what: &str) -> Result<String, AllocError> {
+    let word = printed_name(alloc, word)?;
     format!(in alloc; "'{word}' {what}")
 }
 
@@ -106,7 +113,7 @@ pub fn wrong_csv_words(
 ) -> Result<Option<String>, AllocError> {
     if !words.is_csv {
         if has_csv_option(words) {
-            let text = "--column, --header and --delimiter are for --csv".to_string(alloc)?;
+            let text = "--column and --delimiter are for --csv".to_string(alloc)?;
             return Ok(Some(text));
         }
         return Ok(None);

@@ -7,55 +7,41 @@ ghost use Rattle.line_sorts.specs.csv_records.CsvFields.{csv_fields};
 ghost use Rattle.icu_collator.specs.Collators.{collation_borrowed};
 ghost use Rattle.line_sorts.specs.KeyBuffers.{keys_in};
 ghost use Rattle.line_sorts.specs.ShownLines.{shown_lines};
-ghost use Rattle.line_sorts.specs.declared.line_order.Direction.TheVariants.{Ascending};
-ghost use Rattle.collate_commands.specs.LineKeys.{key_of_line};
 ghost use Rattle.line_sorts.specs.fields.JoinedKeys.{directed_key};
-ghost use Rattle.line_commands.specs.csv_sorts.ColumnOrders.{HasColumns, columns_key, fields_key};
+ghost use Rattle.line_commands.specs.csv_sorts.ColumnOrders.{HasColumns, column_key, columns_key, fields_key};
 ghost use Rattle.line_commands.specs.csv_sorts.CsvErrors.{ExplainsField, ExplainsFields, ExplainsKeys};
 
-use crate::csv_sorts::csv_request::{CsvError, CsvRequest};
-use collate_commands::sort_keys::write_line_key;
+use crate::csv_sorts::csv_request::{ColumnSort, CsvError, CsvRequest};
+use crate::field_sorts::part_key;
 use csv::ByteRecord;
 use icu_collator::CollatorBorrowed;
+use line_sorts::LineKeys;
 use line_sorts::csv_records::{column_field, csv_fields};
 use line_sorts::fields::push_directed_key;
-use line_sorts::{Direction, LineKeys};
-use std::alloc::{AllocError, Global};
+use std::alloc::Global;
 
-/// Appends the key of a field.
-fn push_field_key(
-    alloc: Global,
-    collator: &CollatorBorrowed<'_>,
-    field: &[u8],
-    key: &mut Vec<u8>,
-) -> Result<(), AllocError>
-    ensures { OnOk result (key.new.items ≡ key.old.items
-        ++ directed_key Ascending (key_of_line (collation_borrowed collator.now) field.now)) }
-{
-    let mut part = Vec::new(alloc);
-    write_line_key(collator, field, &mut part)?;
-    push_directed_key(alloc, key, Direction::Ascending, part.as_slice())
-}
-
-/// Appends the key of a column of the record at an index.
+/// Appends the key of a column of the record at an index, in its direction.
 fn push_column_key(
     alloc: Global,
     collator: &CollatorBorrowed<'_>,
     row: &ByteRecord,
-    column: usize,
+    sort: ColumnSort,
     index: usize,
     key: &mut Vec<u8>,
 ) -> Result<(), CsvError>
-    ensures has { OnOk result (IsSome (field_at (fields_of row.now) column)) }
-    ensures key { OnOk result (key.new.items ≡ key.old.items ++ directed_key Ascending (key_of_line
-        (collation_borrowed collator.now) (unwrap_or (field_at (fields_of row.now) column) []))) }
-    ensures explains { IfErr result (ExplainsField (fields_of row.now) column) }
+    ensures has { OnOk result (IsSome (field_at (fields_of row.now) sort.column)) }
+    ensures key { OnOk result (key.new.items ≡ key.old.items ++ directed_key sort.direction
+        (column_key (collation_borrowed collator.now) (fields_of row.now) sort)) }
+    ensures explains { IfErr result (ExplainsField (fields_of row.now) sort.column) }
 {
-    match column_field(row, column) {
-        Some(field) => Ok(push_field_key(alloc, collator, field, key)?),
+    match column_field(row, sort.column) {
+        Some(field) => {
+            let part = part_key(alloc, collator, sort.order, field)?;
+            Ok(push_directed_key(alloc, key, sort.direction, part.as_slice())?)
+        }
         None => Err(CsvError::Lacks {
             record: index,
-            column,
+            column: sort.column,
         }),
     }
 }
@@ -66,18 +52,18 @@ fn fields_key(
     alloc: Global,
     collator: &CollatorBorrowed<'_>,
     row: &ByteRecord,
-    columns: &[usize],
+    columns: &[ColumnSort],
     index: usize,
 ) -> Result<Vec<u8>, CsvError>
     ensures has { IfOk result (λ key. AllByRecursion
-        (λ column. IsSome (field_at (fields_of row.now) column)) columns.now) }
+        (λ sort. IsSome (field_at (fields_of row.now) sort.column)) columns.now) }
     ensures key { IfOk result (λ key. key.items
         ≡ fields_key (collation_borrowed collator.now) (fields_of row.now) columns.now) }
     ensures explains { IfErr result (ExplainsFields (fields_of row.now) columns.now) }
 {
     let mut key = Vec::new(alloc);
-    for column in columns {
-        push_column_key(alloc, collator, row, *column, index, &mut key)?;
+    for sort in columns {
+        push_column_key(alloc, collator, row, *sort, index, &mut key)?;
     }
     Ok(key)
 }

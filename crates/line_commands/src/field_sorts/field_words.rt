@@ -156,7 +156,11 @@ fn stop_of(position: KeyPosition) -> KeyStop {
 }
 
 /// The direction of a key beside that of the whole order: its own letters say it, or else it is that of the whole.
-fn direction_of(has_letters: bool, is_reversed: bool, is_whole_reversed: bool) -> Direction {
+pub(crate) fn direction_of(
+    has_letters: bool,
+    is_reversed: bool,
+    is_whole_reversed: bool,
+) -> Direction {
     if has_letters && is_reversed != is_whole_reversed {
         Direction::Descending
     } else {

@@ -14,8 +14,8 @@ use line_sorts::LineKeys;
 use line_sorts::fields::{FieldEnds, line_part, push_directed_key, push_number_key};
 use std::alloc::{AllocError, Global};
 
-/// The sort key of a part of a line.
-fn part_key(
+/// The sort key of a part of a line, or of a column.
+pub(crate) fn part_key(
     alloc: Global,
     collator: &CollatorBorrowed<'_>,
     order: FieldOrder,

@@ -6,12 +6,12 @@ use Rattle.icu_collator.specs.Collators.{collation_borrowed}
 use Rattle.line_commands.specs.csv_sorts.ColumnOrders.{fields_key}
 use Rattle.line_commands.proofs.csv_sorts.record_key.fields_key.Given as goal
 
-abbrev pub invariant-loop-column : goal.invariant-loop-column
-invariant-loop-column l =
+abbrev pub invariant-loop-sort : goal.invariant-loop-sort
+invariant-loop-sort l =
     let c = collation_borrowed l.collator in
     let fields = fields_of l.row in
     record {
-      key : l.key.items ++ fields_key c fields (drop l.column-index l.columns) ≡ fields_key c fields l.columns;
-      has : AllByRecursion (λ column. IsSome (field_at fields column)) (drop l.column-index l.columns)
-          → AllByRecursion (λ column. IsSome (field_at fields column)) l.columns;
+      key : l.key.items ++ fields_key c fields (drop l.sort-index l.columns) ≡ fields_key c fields l.columns;
+      has : AllByRecursion (λ sort. IsSome (field_at fields sort.column)) (drop l.sort-index l.columns)
+          → AllByRecursion (λ sort. IsSome (field_at fields sort.column)) l.columns;
     }

@@ -1,0 +1,15 @@
+-- What was counted, and then what is left, is the whole.
+use Rattle.std.proofs.Common.{◌≡◌, ◌++◌, drop, map}
+use Rattle.icu_search.specs.Searchers.{search_of}
+use Rattle.line_sorts.specs.ShownLines.{shown_lines}
+use Rattle.line_searches.specs.inner.WantedCounts.{count_behind, counts_from}
+use Rattle.line_searches.proofs.near_lines.wanted_counts.Given as goal
+
+abbrev pub invariant-loop-line : goal.invariant-loop-line
+invariant-loop-line l =
+    let s = map search_of l.searchers in
+    record {
+      counted : l.before.items ++ counts_from l.request s l.total (shown_lines (drop l.line-index l.lines))
+          ≡ counts_from l.request s 0 (shown_lines l.lines);
+      total : count_behind l.request s l.total (shown_lines (drop l.line-index l.lines)) ≡ count_behind l.request s 0 (shown_lines l.lines);
+    }
