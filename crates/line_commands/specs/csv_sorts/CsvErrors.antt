@@ -1,5 +1,5 @@
 -- Why records aren't sorted.
-use Rattle.std.specs.Prelude.{◌≡◌, ◌<◌, ℕ, suc, false, List, [], None, get_or, length}
+use Rattle.std.specs.Prelude.{◌≡◌, ◌<◌, ℕ, suc, false, List, [], None, Contains, get_or, length}
 use Rattle.csv.specs.Reading.{strip_bom}
 use Rattle.csv.specs.Records.{field_at}
 use Rattle.line_sorts.specs.csv_records.CsvCuts.{HasRecords, is_closed}
