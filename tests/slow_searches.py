@@ -54,11 +54,9 @@ KINDS = {
     "a mark among shifted spaces with it": (["3", "--alternate=shifted"], lambda n: "\u0323", lambda n: repeated(" \u0323", n)),
     "a mark among shifted spaces with many": (["3", "--alternate=shifted"], lambda n: "\u0323", lambda n: repeated(" " + "\u0323" * 9, n)),
     "another mark among shifted spaces, marks and ignored characters": (["3", "--alternate=shifted"], lambda n: "\u0301", lambda n: repeated(" \0\u0323", n)),
-    "another mark among shifted spaces with many": (["3", "--alternate=shifted"], lambda n: "\u0301", lambda n: repeated(" " + "\u0323" * 99, n)),
+    "another mark among shifted spaces with many": (["3", "--alternate=shifted"], lambda n: "\u0301", lambda n: repeated(" " + "\u0323" * 39, n)),
     "another mark among marks and ignored characters": (["3"], lambda n: "\u0301", lambda n: repeated("\u0323\0", n)),
     "an accent in shifted hyphens with marks": (["3", "--alternate=shifted"], lambda n: "á", lambda n: "a" + repeated("-\u0323", n)),
-    "an accent in hyphens at the quaternary level": (["4", "--alternate=shifted"], lambda n: "á", lambda n: "a" + "-" * n),
-    "a mark in hyphens at the quaternary level": (["4", "--alternate=shifted"], lambda n: "\u0301", lambda n: "-" * n),
     "letters in themselves": (["3"], lambda n: "a" * (n // 4), lambda n: "a" * n),
     "a word among words": (["1"], lambda n: "face", lambda n: repeated("a bad cab fed a deaf ace ", n)),
 }
