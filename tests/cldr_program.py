@@ -150,7 +150,7 @@ def options_of_help(program):
     """The options that the program and each of its commands say they take, by the command; `none` is the program without one."""
     names = re.findall(r"(?m)^  (\w+)", COMMANDS_SAID.search(run(program, ["--help"]).output.decode())[1])
     words = {"none": ["--help"], **{name: [name, "--help"] for name in names if name != "help"}}
-    lines = {name: re.findall(r"(?m)^ +((?:-\w, )?--[\w-]+)", run(program, it).output.decode()) for name, it in words.items()}
+    lines = {name: re.findall(r"(?m)^ {2,6}((?:-\w, )?--[\w-]+)", run(program, it).output.decode()) for name, it in words.items()}
     return {(name, it) for name, said in lines.items() for line in said for it in line.split(", ") if it != "--help"}
 
 

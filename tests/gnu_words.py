@@ -57,11 +57,17 @@ def by_gnu(command, words, given):
     return ran.returncode, ran.stdout
 
 
+EMPTY, NONE_COUNTED = "matches of an empty pattern", "a count of at most no lines"
+
+
 def reason_of_search(words, patterns):
     """Why two searches may print unlike things, or none."""
     # GNU grep passes over an empty pattern if it prints matches, and where lines end with zero bytes takes a line feed for no end of a pattern.
     if "-o" in words and "-v" not in words and "" in patterns:
-        return "matches of an empty pattern"
+        return EMPTY
+    # GNU grep prints no count of no lines.
+    if "-m0" in words and "-c" in words:
+        return NONE_COUNTED
     return None
 
 
@@ -107,7 +113,7 @@ def unlike(program, over, letters, room, times, seed=81):
     for _ in range(times):
         for tried in (tried_sort, tried_search):
             said = tried(chance, program, over, letters, room)
-            if said == "matches of an empty pattern":
+            if said in (EMPTY, NONE_COUNTED):
                 reasons[said] += 1
             elif said:
                 found.append(said)
