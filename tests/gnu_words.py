@@ -122,7 +122,8 @@ def unlike(program, over, letters, room, times, seed=81):
 
 def rules():
     """Rules by which each character of ASCII that is printed has a primary weight, in the order of code points."""
-    return "&[last regular]" + "".join(f"<'{it}'" if it != "'" else "<''" for it in ASCII)
+    spelled = {"'": "''", "\\": "'\\\\'"}
+    return "&[last regular]" + "".join("<" + spelled.get(it, "'" + it + "'") for it in ASCII)
 
 
 def main(program=built("collate_cldr"), times="2000", seed="81"):
