@@ -1,5 +1,5 @@
-//! The languages of CLDR, by the files of a folder: what a tag asks for, the rules of its collation, with rules of
-//! one's own after them, and what is said where a tag doesn't get just what it asks for. It knows no table.
+//! The languages of CLDR, by the files of a folder: what a tag asks for, and the rules of its collation, with rules of
+//! one's own after them. It says what is told to a user if a tag doesn't get just what it asks for. It knows no table.
 #![tactic(auto)]
 
 pub mod asked_locale;

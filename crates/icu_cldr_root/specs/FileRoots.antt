@@ -40,10 +40,10 @@ abbrev pub StandsIn : (ℕ → Option ℕ) → CollatorTables → Line → Type 
 StandsIn of_ideograph all (says.Mapping m) = GivesMapping of_ideograph all.tables.root m
 StandsIn of_ideograph all _ = Unit {0}
 
--- The tables say what each line of a file says, where elements `U+X` have the weights of ideographs by the ranges that
--- stand before all others and those that the file's line has, and their special primary weights are those of the lines.
--- A character that no line maps has the weight of an ideograph, or its entry is implicit. What is kept of the file is
--- what its lines say, and one of them is the last of a file, so that the file isn't cut off.
+-- The tables say what each line of a file says. Elements `U+X` have the weights of ideographs, by the ranges that stand
+-- before all others and those of the file's line; their special primary weights are those of the lines. A character
+-- that no line maps has the weight of an ideograph, or its entry is implicit. What is kept of the file is what its
+-- lines say, and one of them is the last of a file, so that the file isn't cut off.
 pub record SaysFile (first : List CharRange) (bytes : List ℕ) (all : CollatorTables) (facts : FileFacts) : Type 0 where
   pub lines : List (List ℕ)
   pub said : List Line

@@ -64,8 +64,8 @@ group_end_by sample _ = None
 abbrev pub group_end_said : ℕ → List Line → Option ℕ
 group_end_said sample said = fold (λ end line. option_or (group_end_by sample line) end) None said
 
--- The special primary weights are those that lines say: each group ends before what its sample stands for, one line has
--- the lead byte of numbers, and the lead bytes that compress are those of lines with COMPRESS and that of implicit
+-- The special primary weights are those that lines say. Each group ends before what its sample stands for, and one line
+-- has the lead byte of numbers. The lead bytes that compress are those of lines with COMPRESS and that of implicit
 -- weights, FE.
 pub record SaysSpecials (special : SpecialPrimaries) (said : List Line) : Type 0 where
   pub ends : (group : MaxVariable) → group_end_said (sample_behind group) said ≡ Some (slice_index special.last (group_index group))

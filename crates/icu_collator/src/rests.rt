@@ -158,8 +158,8 @@ impl<'a> CollatorBorrowed<'a> {
         }
     }
 
-    /// The order of two texts by the characters that they begin with, as far as these may be read by themselves: by the
-    /// first primary weights that differ, or, where three levels are all and the first few tie, on these in step.
+    /// The order of two texts by the characters that they begin with, as far as these may be read by themselves. It is
+    /// by the first primary weights that differ. If three levels are all and the first few tie, it is on these in step.
     #[inline(never)]
     pub(crate) fn order_by_facts<L: CommonUnits<R> + CountedText, R: CountedText>(
         &self,

@@ -110,7 +110,7 @@ fn read_follower(tables: &CursorTables<'_>, c: char) -> Follower
 }
 
 /// Whether the classes of the marks that a text begins with rise from this one, no mapping of a context begins with one
-/// of them, and the text may be cut after them, or no mapping begins with the starter there. False says nothing.
+/// of them, and either the text may be cut after them or no mapping begins with the starter there. False says nothing.
 fn joins_none<T: EncodedText>(
     tables: &CursorTables<'_>,
     context: FoundContext<'_>,

@@ -17,7 +17,7 @@ use Rattle.icu_element_facts.specs.declared.kept_pairs.KeptPair.{KeptPair}
 use Rattle.icu_element_facts.specs.declared.kept_pairs.KeptPairs.{KeptPairs}
 
 -- a character that begins the contractions of a context, and one of this class that decomposes to itself and is a
--- mapping of it by itself, no digit's; no mapping begins with that one and a character that has no bit here
+-- mapping of it by itself, no digit's. No mapping begins with that one and a character that has no bit here
 pub record IsJoined (reading : Reading) (context : Context) (c x k bits : ℕ) : Type 0 where
   pub begins : BeginsContractions reading c context
   pub itself : decompose Nfd x ≡ x ∷ []

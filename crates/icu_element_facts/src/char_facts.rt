@@ -19,8 +19,8 @@ pub enum FactsKind {
     /// no later mark of its run has a lower class.
     Mark,
     /// Its decomposition begins with a character that begins contractions, and its elements are those that it gives as
-    /// a text by itself, whatever stands before it: it may be read by itself at the end of a text, before a character
-    /// before which texts may be cut, and before marks and a starter that go on nothing that it begins.
+    /// a text by itself, whatever stands before it. It may be read by itself at the end of a text and before a
+    /// character before which texts may be cut. So it may before marks and a starter that go on nothing that it begins.
     Base,
 }
 

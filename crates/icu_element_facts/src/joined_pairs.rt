@@ -1,6 +1,6 @@
-//! Which two characters contractions begin with: those that one joins, as "s" and "z" in Hungarian, or a vowel that is
-//! written before its consonant in Thai, and others, as "s" and "s", which "ssz" begins with
-//! (UTS #10, "Produce Collation Element Arrays").
+//! Which two characters contractions begin with (UTS #10, "Produce Collation Element Arrays"). One kind is those that a
+//! contraction joins, as "s" and "z" in Hungarian, or a vowel that is written before its consonant in Thai. The others
+//! are such as "s" and "s", which "ssz" begins with.
 
 ghost use Rattle.std.specs.Prelude.{◌≡◌, ◌≢◌, ◌<◌, ◌∷◌, [], length, IsTrue, IfSome, OnOk};
 ghost use Rattle.ucd_normal.specs.declared.forms.Form.TheVariants.{Nfd};

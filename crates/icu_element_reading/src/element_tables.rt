@@ -82,8 +82,9 @@ impl<'d> ElementTables<'d> {
         }
     }
 
-    /// The entry of a character, with its home: of a conjoining jamo by the table of jamo, whose home is the root; else
-    /// the tailoring's; where there is none, or it is fallback, the root's (UTS #35 part 5, "Collation Tailorings").
+    /// The entry of a character, with its home. That of a conjoining jamo is by the table of jamo, whose home is the
+    /// root. Else it is the tailoring's, and if there is none or it is fallback, the root's (UTS #35 part 5, "Collation
+    /// Tailorings").
     pub(crate) fn entry(self, c: char) -> HomedEntry<'d>
         ensures value { entry_of (element_tables self.entry) c
             ≡ homed (data_of result.home) result.ce32 }

@@ -20,9 +20,9 @@ impl<'d> ElementTables<'d> {
         self.diacritic(c)
     }
 
-    /// The entry of a character, with its home, the table whose lists and contexts it refers to: that of a conjoining
-    /// jamo by their table, whose home is the root, else the tailoring's, and where there is none, or it is fallback,
-    /// the root's (UTS #35 part 5, "Collation Tailorings").
+    /// The entry of a character, with its home, the table whose lists and contexts it refers to. That of a conjoining
+    /// jamo is by their table, whose home is the root. Else it is the tailoring's, and if there is none or it is
+    /// fallback, the root's (UTS #35 part 5, "Collation Tailorings").
     pub fn homed_entry(self, c: char) -> (CollationData<'d>, CollationElement32)
         ensures value { entry_of (element_tables self.entry) c ≡ homed (data_of result.0) result.1 }
         ensures well_formed { IsWellFormedFrom (data_of result.0) c result.1 }

@@ -12,8 +12,9 @@ pub fn tables_are_made<S: Alter>()
 {}
 
 /// Over a database that has the tables of an index, after the statements of steps there are just the names that the
-/// steps leave, as they came in: those that were there and those that were added, without those that were removed, and
-/// a name that got another key under that key. The statements on the fingerprint leave the names as they are.
+/// steps leave, as they came in. They are those that were there and those that were added, without those that were
+/// removed; a name that got another key stands under that key. The statements on the fingerprint leave the names as
+/// they are.
 pub fn steps_leave_names<S: Alter>()
     ensures { StepsLeaveNames S.Store }
 {}
@@ -46,9 +47,9 @@ pub fn failures_leave_names<S: Alter>()
     ensures { FailuresLeaveNames S.Store }
 {}
 
-/// After changes to an index whose names have their keys, as one of no names, the query for all names shows just the
-/// names that were there or were added, and not removed, in order, those that compare Equal as they came in, and the
-/// query for a range just those whose keys stand between its bounds. For any order of names and any keys that compare
+/// After changes to an index whose names have their keys, as one of no names, the query for all names shows just those
+/// that were there or were added, and not removed, in order. Those that compare Equal stand as they came in. The query
+/// for a range shows just those whose keys stand between its bounds. For any order of names and any keys that compare
 /// as it does.
 pub fn changes_are_listed<S: Alter>()
     ensures { ChangesAreListed S.Store }

@@ -314,9 +314,9 @@ fn write_levels<S: CollationKeySink, C: PrimaryCompression, H: HandledSource<Err
     }
 }
 
-/// Writes the key of a text to a sink, and ends it, from the state that keys begin with (UTS #10, "Form Sort Keys"): of
-/// its elements, as variable weighting leaves them, and of all characters of its decomposition, which count at the
-/// identical level alone.
+/// Writes the key of a text to a sink, and ends it, from the state that keys begin with (UTS #10, "Form Sort Keys"). It
+/// is of its elements, as variable weighting leaves them, and of all characters of its decomposition, which count at
+/// the identical level alone.
 ///
 /// `Ok` means that the sink took the whole key, and is what `finish` returned. `Sink` is the sink's own error: what a
 /// write returned after a beginning of the key was taken, or what `finish` returned after the whole key. `NoMemory`

@@ -1,7 +1,7 @@
 //! Sort keys as bytes: where they go, and the writers of each level, over any sink.
 //!
 //! The crate knows no text and no table. A writer is fed the weights of one level one at a time and hands their bytes
-//! to a sink, which says by ghost members what it took; each writer's contract says that this is the level of
+//! to a sink, which says by ghost members what it took. Each writer's contract says that this is the level of
 //! `icu_order_levels`, or a beginning of it and the sink's own error. The levels after the primary one are held until
 //! their end, and then written as parts of the key.
 #![tactic(auto)]

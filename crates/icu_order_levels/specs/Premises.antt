@@ -47,7 +47,7 @@ pub record AreTertiaries (form : TertiaryForm) (IsReachable : ℕ → Type 0) : 
   pub leads : (w : ℕ) → IsReachable w → w ≢ (tertiary_runs form).common → w / 256 ≢ (tertiary_runs form).common / 256
   pub prefix_free : IsPrefixFree (weight_bytes 2) IsReachable
 
--- Tertiaries as a form has them, where those without case bits are reachable: the two high bits are the case, lower 0,
+-- Tertiaries as a form has them, where those without case bits are reachable. The two high bits are the case, lower 0,
 -- mixed 1 and upper 2; with upper case first lower is 3, mixed 2 and upper 1, and what has no secondary is 3
 abbrev pub IsCasedTertiary : TertiaryForm → (ℕ → Type 0) → ℕ → Type 0
 IsCasedTertiary WithoutCase IsReachable w = IsReachable w

@@ -11,8 +11,8 @@ pub fn runs_are_maximal()
     ensures { RunsAreMaximal }
 {}
 
-/// A run of n common weights is written in at most 1 + n / 33 bytes at the secondary level, 1 + n / 97 at the tertiary
-/// level without case bits, and 1 + n / 113 at the quaternary level.
+/// A run of n common weights is written in at most 1 + n / 33 bytes at the secondary level and 1 + n / 113 at the
+/// quaternary level. It takes at most 1 + n / 97 bytes at the tertiary level without case bits.
 pub fn runs_are_short()
     ensures secondary { RunsAreShort SECONDARY_RUNS 33 }
     ensures tertiary { RunsAreShort TERTIARY_RUNS 97 }

@@ -14,9 +14,9 @@ pub fn well_formed_tables_serve_levels()
     ensures { WellFormedTablesServeLevels }
 {}
 
-/// Each level of the keys of two texts by itself, for every collation whose tables meet the conditions: where all
-/// earlier levels tie, its bytes determine the order of its lists, whatever follows them, and the same bytes mean the
-/// same list (UTS #10, "Form Sort Keys").
+/// Each level of the keys of two texts by itself, for every collation whose tables meet the conditions. If all earlier
+/// levels tie, its bytes determine the order of its lists, whatever follows them, and the same bytes mean the same list
+/// (UTS #10, "Form Sort Keys").
 pub fn levels_keep_text_order()
     ensures { LevelsKeepTextOrder }
 {}

@@ -3,7 +3,7 @@
 //! meaning.
 ghost use Rattle.icu_order_texts.specs.text_beginnings.TextBeginningLaws.{BeginningsStandBetweenKeys, EqualTextsBeginTheSame, KeysBeginAsTexts, KeysStandBelowAsTexts, OrderKeepsPrimaryOrder, PrimaryOrderIsOfWeights, TextsBeginWithTheirBeginnings};
 
-/// The order of two texts at the primary level is the dictionary order of their primary weights, and the order at any
+/// The order of two texts at the primary level is the dictionary order of their primary weights. The order at any
 /// strength, with a case level or without, never turns it round: what is not Greater by it is not Greater there.
 pub fn primary_order_is_of_weights()
     ensures weights { PrimaryOrderIsOfWeights }
@@ -11,8 +11,8 @@ pub fn primary_order_is_of_weights()
 {}
 
 /// A text begins with another exactly if its sort key, at any strength, begins with the other's key at the primary
-/// level alone, and exactly if its key stands between that key and the least bytes above all that begin with it. Its
-/// key stands below that key exactly if the text is Less at the primary level.
+/// level alone. It does so exactly if its key stands between that key and the least bytes above all that begin with it.
+/// Its key stands below that key exactly if the text is Less at the primary level.
 pub fn keys_begin_as_texts()
     ensures begin { KeysBeginAsTexts }
     ensures between { BeginningsStandBetweenKeys }

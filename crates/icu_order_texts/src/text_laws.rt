@@ -11,7 +11,7 @@ use smallvec::SmallVec;
 use std::collections::VecDeque;
 
 /// The order of texts is a total order with ties, for every collation (tables and settings together) whose tables meet
-/// the conditions: each text is equal to itself, swapped texts turn the order round, and what comes before one text
+/// the conditions. Each text is equal to itself, swapped texts turn the order round, and what comes before one text
 /// comes before all texts after it.
 pub fn texts_are_ordered()
     ensures { TextsAreOrdered }
@@ -54,9 +54,9 @@ pub fn number_texts_order_by_value()
     ensures different { DifferentNumbersOrderByValue }
 {}
 
-/// However many common weights stand together, keys stay short (UTS #10, "Run-Length Compression"): n of them, whatever
-/// stands before and after, add at most 1 + n / 33 bytes to the secondary level, 1 + n / 97 to the tertiary level
-/// without case bits, and 1 + n / 113 to the quaternary level.
+/// However many common weights stand together, keys stay short (UTS #10, "Run-Length Compression"). Whatever stands
+/// before and after n of them, they add at most 1 + n / 33 bytes to the secondary level. They add at most 1 + n / 97 to
+/// the tertiary level without case bits, and 1 + n / 113 to the quaternary level.
 pub fn common_weights_add_few_bytes()
     ensures secondary { CommonSecondariesAddFew }
     ensures tertiary { CommonTertiariesAddFew }

@@ -22,9 +22,9 @@ use Rattle.icu_rule_laws.specs.tailored_texts.TailoredTexts.{HasPlainDiacritics,
 abbrev pub tables_of_root : CheckedRoot → Tables
 tables_of_root root = (checked_tables (tables_beside root)).tables
 
--- What is asked of tables that rules make over a root, beside what `SaysRules` says of them: that they are accepted, as
--- the tables of each collator are; and that a mark which stands in the root's table of diacritics, and no more in that
--- of the rules, is mapped so by its entry in the root too.
+-- What is asked of tables that rules make over a root, beside what `SaysRules` says of them. They are accepted, as the
+-- tables of each collator are. A mark which stands in the root's table of diacritics, and no more in that of the rules,
+-- is mapped so by its entry in the root too.
 pub record AreRuledTables (root : CheckedRoot) (t : Tailoring) : Type 0 where
   pub accepted : IsWellFormedTables (tailored_tables t)
   pub plain : HasPlainDiacritics (tables_of_root root) (tailored_tables t).tables

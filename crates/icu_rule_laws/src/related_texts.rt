@@ -15,7 +15,7 @@ pub fn no_text_has_variable()
 {}
 
 /// Of texts whose elements have the same weights before a level up to the tertiary one, and lesser ones at it in the
-/// first, by plain settings the first is Less by each strength that has the level, and else both are Equal.
+/// first. By plain settings the first is Less by each strength that has the level, and else both are Equal.
 pub fn related_texts_order()
     ensures { RelatedTextsOrder }
 {}
@@ -37,8 +37,8 @@ pub fn relations_order(root: &CheckedRoot<'_>)
 }
 
 /// By each collation of these tables, two texts that stand in a chain of relations are one apart at its level, if the
-/// relations of that level differ from elements that count there: at each of the four levels, backward, with scripts
-/// reordered, and beside variable elements.
+/// relations of that level differ from elements that count there. It holds at each of the four levels, backward, with
+/// scripts reordered, and beside variable elements.
 pub fn apart_relations_order(root: &CheckedRoot<'_>)
     ensures { ApartRelationsOrder root.now }
 {

@@ -121,8 +121,8 @@ pub record IsWithinStatement (count : ℕ) (text : List ℕ) : Type 0 where
   pub whole : text ≡ mine ++ part ++ rest
   pub placed : count ≡ length mine + length part
 
--- What is wrong at a place of a text, which begins with statements that are read and with the rest: nothing that may
--- stand there begins there; or the last statement lacks its relation; or the fault is within the statement that begins
+-- What is wrong at a place of a text, which begins with statements that are read and with the rest. Nothing that may
+-- stand there begins there, or the last statement lacks its relation, or the fault is within the statement that begins
 -- there.
 abbrev pub IsFault : FaultSort → ℕ → List Statement → List ℕ → List ℕ → List ℕ → Type 0
 IsFault misplaced place stated text front rest =

@@ -44,8 +44,8 @@ TakesShort text c rest = TakesDigits text 2 c rest
 abbrev pub TakesEscape : List ℕ → ℕ → List ℕ → Type 0
 TakesEscape text c rest = (escape : List ℕ) × SpellsEscape c escape × (text ≡ escape ++ rest)
 
--- The text goes on with characters of a string, and then with the rest, within quotes or not, as before and as behind
--- say: whatever characters follow there, with no apostrophe first where the rest has none, the part spells with them.
+-- The text goes on with characters of a string, and then with the rest, within quotes or not, as before and as after
+-- say. Whatever characters follow there, with no apostrophe first if the rest has none, the part spells with them.
 abbrev pub TakesCharacters : Bool → List ℕ → List ℕ → Bool → List ℕ → Type 0
 TakesCharacters before text cs behind rest = (part : List ℕ) × (text ≡ part ++ rest)
     × ((more tail : List ℕ) → (IsNoQuote rest → IsNoQuote tail) → SpellsCharacters behind more tail

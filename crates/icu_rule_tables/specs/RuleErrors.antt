@@ -63,10 +63,10 @@ RefusesStatement root statements place led (NoRoom level) = MakesWeightAt root s
 RefusesStatement root statements place led NoTertiary = (count : ℕ) × GivesNoTertiary root (take count statements) place led
 RefusesStatement root statements place led (Unreordered error) = StatesReordering statements place led
 
--- The error of rules that were read: of the statement by which there are too many relations, or else of the first one
--- that is refused, for want of room of one that makes a weight, for want of a tertiary weight of one that gives its
--- string elements of which one lacks it, and for groups that can't be reordered of a reordering. Which other errors
--- there are is left open.
+-- The error of rules that were read. It is of the statement by which there are too many relations, or else of the first
+-- one that is refused. For lack of room it is of one that makes a weight. For lack of a tertiary weight it is of one
+-- that gives its string elements of which one lacks it. For groups that can't be reordered it is of a reordering. Which
+-- other errors there are is left open.
 abbrev pub IsErrorOfRules : Root → List PlacedStatement → RuleTablesError → Type 0
 IsErrorOfRules root statements (Refused place led kind) = RefusesStatement root statements place led kind
 IsErrorOfRules root statements NoMemory = Unit {0}

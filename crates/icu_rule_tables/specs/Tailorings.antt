@@ -64,8 +64,8 @@ tailored_tables t = record {
   reordering = option_map owned_reordering t.reordering;
 }
 
--- The mappings of a state, as they are kept over this root, by which a tailoring gives each character its entry, a
--- table of jamo, with the root to whose lists it refers, each jamo, and a table of diacritics each mark its weight.
+-- The mappings of a state, as they are kept over this root. By them a tailoring gives each character its entry, a table
+-- of jamo, with the root to whose lists it refers, each jamo, and a table of diacritics each mark its weight.
 pub record GivesState (over : Tables) (numbers : TailoringNumbers) (state : TailoringState) (root : Data) (jamo : List ℕ) (own : Data) (diacritics : List ℕ) : Type 0 where
   pub kept : Mappings CheckedRoot
   pub same : mappings_in mappings_beside kept ≡ state.mappings

@@ -26,8 +26,8 @@ pub enum RuleRefusal {
         level: u8,
     },
     /// It gives its string an element with a quaternary weight or case bits and no tertiary weight, which no table may
-    /// have: a relation of strength identical or quaternary at the first or the last secondary ignorable, where the
-    /// root has none.
+    /// have. That is a relation of strength identical or quaternary at the first or the last secondary ignorable, if
+    /// the root has none.
     #[error("expected something that has a tertiary weight")]
     NoTertiary,
     /// Groups can't be reordered as it says.

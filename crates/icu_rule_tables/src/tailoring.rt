@@ -34,7 +34,7 @@ use std::alloc::Global;
 
 /// The tables of a collation by rules, over the root of checked tables (UTS #35 part 5, "Collation Tailorings"). It is
 /// a `CollationProvider`, which returns them for every locale and type: the root's, with a tailoring, metadata and
-/// diacritics of its own, and with a root and a table of jamo of its own where rules give conjoining jamo mappings.
+/// diacritics of its own. If rules give conjoining jamo mappings, it has a root and a table of jamo of its own.
 #[derive(Drop)]
 pub struct Tailoring<'t> {
     root: &'t CheckedTables,

@@ -1,4 +1,4 @@
--- Which weights may stand in a gap of a level (UTS #35 part 5, "Collation Tailorings"): sort keys write runs of common
+-- Which weights may stand in a gap of a level (UTS #35 part 5, "Collation Tailorings"). Sort keys write runs of common
 -- weights with some lead bytes, and weights of elements without one of the level before stand above all others.
 use Rattle.std.specs.Prelude.{ℕ, ◌≡◌, ◌⊎◌, ◌<◌, ◌≤◌, Bool, true, false, Option, Some, None}
 use Rattle.icu_table_entries.specs.Elements.{common}

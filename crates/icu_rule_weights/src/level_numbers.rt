@@ -22,8 +22,8 @@ fn uses_with_room(root: &[u16], gaps: &[LevelGap], greatest: u8) -> [LeadUse; 25
     uses
 }
 
-/// Weights for all gaps of a level other than the primary one, where the root has others: first each lead byte that the
-/// root has not is one weight, and where a gap has too few, its highest free lead bytes lead weights of two bytes.
+/// Weights for all gaps of a level other than the primary one, if the root has others. First each lead byte that the
+/// root has not is one weight. If a gap has too few, its highest free lead bytes lead weights of two bytes.
 pub fn number_level(
     alloc: Global,
     level: GapLevel,

@@ -108,8 +108,8 @@ impl<'d> CollationData<'d> {
         }
     }
 
-    /// Whether the elements of the entry with the character can be read, if it is final: what it refers to is there,
-    /// the members of its list have one element each, and the character has a weight by its offset data.
+    /// Whether the elements of the entry with the character can be read, if it is final. Then what it refers to is
+    /// there, the members of its list have one element each, and the character has a weight by its offset data.
     #[tactic(auto, unfolding(crate::specs::DataConditions::is_readable))]
     pub fn is_readable(self, c: char, entry: CollationElement32) -> bool
         ensures { result ≡ is_readable (data_of self.entry) c entry }

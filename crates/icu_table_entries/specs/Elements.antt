@@ -1,6 +1,6 @@
--- Collation elements (UTS #10, "Collation Weights, Elements, and Keys"): a primary weight of 32 bits, a secondary
--- of 16, and a lower half of 16 bits with the case in its two highest bits, the tertiary weight under 3F3F, and
--- the quaternary in bits 7 and 6.
+-- Collation elements (UTS #10, "Collation Weights, Elements, and Keys"). An element has a primary weight of 32 bits, a
+-- secondary of 16, and a lower half of 16 bits. That half has the case in its two highest bits, the tertiary weight
+-- under 3F3F, and the quaternary in bits 7 and 6.
 use Rattle.std.specs.Prelude.{ℕ, ◌+◌, ◌*◌, ◌/◌, ◌%◌, ◌^◌}
 
 -- a collation element

@@ -2,7 +2,7 @@
 use Rattle.std.specs.Prelude.{ℕ, ◌+◌, ◌*◌, ◌/◌, ◌%◌, Bool, not, ◌||◌, ◌==◌, nat_le, nat_lt, List, find, Some, None, if◌then◌else◌, slice_index, bit_or}
 
 -- A new lead byte for each lead byte, where it isn't zero. Under a zero the weights with that lead byte go different
--- ways: those from a limit on stay, and the others move by a range, in ascending order: a weight that it ends at, with
+-- ways. Those from a limit on stay, and the others move by a range, in ascending order: a weight that it ends at, with
 -- the distance in its low byte.
 pub record Reordering : Type 0 where
   pub limit : ℕ

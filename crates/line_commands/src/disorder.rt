@@ -87,8 +87,8 @@ fn first_wrong(
     None
 }
 
-/// The index, from 0 on, of the first line of a text that may not stand where it does, if the text isn't in order:
-/// that is less than the one before it, or where no line may be repeated not greater.
+/// The index, from 0 on, of the first line of a text that may not stand where it does, if the text isn't in order. It
+/// is less than the one before it, or if no line may be repeated, not greater.
 ///
 /// # Errors
 ///

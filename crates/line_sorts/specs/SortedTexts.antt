@@ -13,8 +13,8 @@ use Rattle.line_sorts.specs.declared.sort_request.SortRequest.{SortRequest}
 abbrev pub by_key : (List ℕ → List ℕ) → List ℕ → List ℕ → Ordering
 by_key key x y = list_order (key x) (key y)
 
--- The text has these lines in the order of their keys, and then of their bytes where that is asked for, in a direction,
--- those of which neither comes first as they stood; where no line is repeated, of those with one key the first alone
+-- The text has these lines in the order of their keys, and then of their bytes if that is asked for, in a direction.
+-- Those of which neither comes first stand as they stood; if no line is repeated, of those with one key the first alone
 pub record SortsByKey (key : List ℕ → List ℕ) (r : SortRequest) (lines : List (List ℕ)) (text : List ℕ) : Type 0 where
   pub sorted : List (List ℕ)
   pub permutation : IsPermutation lines sorted

@@ -1,6 +1,6 @@
 //! Prints what each language tag of standard input resolves to, by the files of collations in a folder of CLDR's data,
-//! the only argument: the tag, the locale of the file, the type, and `exact` where it is what the tag asks for, with
-//! tabs between; `root` and an empty type for the root's order, and `refused` alone behind what is no tag.
+//! the only argument. A line has the tag, the locale of the file, the type, and `exact` if it is what the tag asks for,
+//! with tabs between. It has `root` and an empty type for the root's order, and `refused` alone after what is no tag.
 #![tactic(auto)]
 
 use anyhow::Result;

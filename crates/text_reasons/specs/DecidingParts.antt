@@ -98,9 +98,9 @@ abbrev pub character_apart : List ℕ → List ℕ → List ℕ
 character_apart text other = take 1 (drop (common_length (nfd text) (nfd other)) (nfd text))
 
 -- The characters of a text that decide at a level, where the levels before it tie, beside another text. At the primary
--- and the quaternary level they bear the first weight that differs, or there are none where the text has ended; at
--- those between, where accents and case belong to letters, they are the letter of each; at the identical level the
--- first decomposed character that differs. A text is taken whole, also where a backward level parts it by U+FFFE
+-- and the quaternary level they bear the first weight that differs, or there are none if the text has ended. At those
+-- between, where accents and case belong to letters, they are the letter of each; at the identical level the first
+-- decomposed character that differs. A text is taken whole, also where a backward level parts it by U+FFFE
 abbrev pub deciding_part : Reading → Weighing → List ℕ → List ℕ → List ℕ
 deciding_part reading w text other = elim w.level [
   | levels.Primary ↦ part_apart reading w text other

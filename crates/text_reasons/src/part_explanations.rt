@@ -58,9 +58,9 @@ fn explained<I: Iterator<Item = char> + Drop>(
 }
 
 /// A line for each part of a text between its places: characters that are read together, a tab, their numbers, a tab,
-/// and the collation elements that they have in the text (UTS #10, "Produce Collation Element Arrays"), as `[2B, 05,
-/// 05]`: primary, secondary and tertiary weight by their bytes in hexadecimal digits, with the case, and the quaternary
-/// bits where there are some.
+/// and the collation elements that they have in the text (UTS #10, "Produce Collation Element Arrays"). An element is
+/// as `[2B, 05, 05]`: primary, secondary and tertiary weight by their bytes in hexadecimal digits, with the case, and
+/// the quaternary bits if there are some.
 ///
 /// # Errors
 ///

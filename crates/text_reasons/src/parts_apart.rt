@@ -283,9 +283,9 @@ fn character_apart(alloc: Global, text: &[char], other: &[char]) -> Result<Vec<c
 }
 
 /// The characters of a text that decide at a level, where the levels before it tie, beside another text. At the primary
-/// and the quaternary level they bear the first weight that differs, or there are none where the text has ended; at
-/// those between, where accents and case belong to letters, they are the letter of each; at the identical level the
-/// first decomposed character that differs. A text is taken whole, also where a backward level parts it by U+FFFE.
+/// and the quaternary level they bear the first weight that differs, or there are none if the text has ended. At those
+/// between, where accents and case belong to letters, they are the letter of each; at the identical level the first
+/// decomposed character that differs. A text is taken whole, also where a backward level parts it by U+FFFE.
 ///
 /// # Errors
 ///

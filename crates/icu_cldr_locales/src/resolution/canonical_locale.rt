@@ -136,9 +136,9 @@ fn with_script<'t>(lists: &'t LocaleData, parts: TagParts<'t>) -> TagParts<'t>
     }
 }
 
-/// The parts of a tag's subtags with today's codes in place of old ones, of which a replacement fills only what the tag
-/// leaves out, and with the script in which its region writes the language, if that isn't the language's own.
-/// Cantonese is Chinese (UTS #35 part 1, "BCP 47 Conformance", "Likely Subtags").
+/// The parts of a tag's subtags with today's codes in place of old ones (UTS #35 part 1, "BCP 47 Conformance", "Likely
+/// Subtags"). A replacement fills only what the tag leaves out. The script in which its region writes the language is
+/// put in, if that isn't the language's own. Cantonese is Chinese.
 #[tactic(auto, unfolding(crate::specs::resolution::CanonicalParts::canonical_parts))]
 pub fn canonical_parts<'t>(lists: &'t LocaleData, subtags: &'t [Subtag]) -> TagParts<'t>
     ensures { said_parts result ≡ canonical_parts lists.now subtags.now }

@@ -43,10 +43,10 @@ pub fn lower_bound_key(
     Ok(key)
 }
 
-/// The least bytes above the keys of all texts that begin with a text at the primary level, if there are such: those
-/// keys are the ones that are not less than the lower bound and less than this one, compared byte by byte. `None`
-/// where no bytes are above, as for a text that has no primary weights, with which each text begins. The text is
-/// bytes in UTF-8 that may be damaged, as in `lower_bound_key`. Fails only where an allocation does.
+/// The least bytes above the keys of all texts that begin with a text at the primary level, if there are such. Those
+/// keys are the ones that are not less than the lower bound and less than this one, compared byte by byte. `None` if no
+/// bytes are above, as for a text that has no primary weights, with which each text begins. The text is bytes in UTF-8
+/// that may be damaged, as in `lower_bound_key`. Fails only if an allocation does.
 pub fn upper_bound_key(
     alloc: Global,
     collator: &CollatorBorrowed<'_>,

@@ -22,8 +22,8 @@ pub fn lone_starters_are_read_alone()
     ensures syllables { SyllablesAreReadAlone }
 {}
 
-/// A character whose decomposition stays where it is and stands alone is read by itself: a letter and its marks before
-/// marks that go after them or before a starter, a mark that none of its run goes before (UAX #15).
+/// A character whose decomposition stays where it is and stands alone is read by itself (UAX #15). It is a letter and
+/// its marks before marks that go after them or before a starter, or a mark that none of its run goes before.
 pub fn unmoved_letters_are_read_alone()
     ensures all { UnmovedLettersAreReadAlone }
     ensures composed { ComposedLettersAreReadAlone }

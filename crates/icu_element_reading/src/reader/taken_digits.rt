@@ -61,8 +61,8 @@ fn stands_alone(found: &Matched, text: &ClassedText) -> bool
     !found.suffix.is_empty() || begins_with_mark(text)
 }
 
-/// Takes the characters of a number, at a digit whose match is done, and gives the number's digits: the digit and the
-/// run of digits after it, or the digit alone where its match consumed a suffix or a mark follows.
+/// Takes the characters of a number, at a digit whose match is done, and gives the number's digits. They are the digit
+/// and the run of digits after it, or the digit alone if its match consumed a suffix or a mark follows.
 pub(crate) fn take_number(
     tables: ElementTables<'_>,
     at: &mut Position,

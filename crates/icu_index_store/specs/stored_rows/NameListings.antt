@@ -63,8 +63,8 @@ ShowInOrder order names rows = (listed : List Named) × IsNameListing order name
 
 module _ {S : Type 0} (g : Ghosts S) where
   -- After changes to an index whose names have their keys, the query for all names shows just those that were there or
-  -- were added, and not removed, in order, those that compare Equal as they came in; and the query for a range just
-  -- those whose keys stand between its bounds.
+  -- were added, and not removed, in order. Those that compare Equal stand as they came in. The query for a range shows
+  -- just those whose keys stand between its bounds.
   pub record ChangesAreListed : Type 0 where
     pub all : (key : List ℕ → List ℕ) (order : List ℕ → List ℕ → Ordering) → KeysOrder key order
         → (kept : List KeptName) (changes : List Change) (old mid new : Held S) (rows : List Row)

@@ -16,8 +16,8 @@ use Rattle.icu_order_texts.specs.TextOrder.{handled_elements, reading_by}
 use Rattle.icu_order_texts.specs.text_laws.OrderLaws.{strength_rank}
 use Rattle.icu_rule_laws.specs.apart_elements.UpperWeights.{weight_on, upper_weights, upper_lists}
 
--- Elements are one apart at a level: before one element the levels up to this one compare the same weights; that
--- element is the lesser one at the level, and the same before it; and of what follows, the same counts before the
+-- Elements are one apart at a level: before one element the levels up to this one compare the same weights. That
+-- element is the lesser one at the level, and the same before it. Of what follows, there are the same counts before the
 -- level.
 pub record AreOneApart (n : ℕ) (xs ys : List Element) : Type 0 where
   pub front : List Element

@@ -62,8 +62,8 @@ DifferFromWeights root numbering earlier (relation strength prefix string extens
 DifferFromWeights root numbering earlier (_ ∷ rules) = Unit {0}
 
 -- Texts stand in a chain of relations: by all rules the left one has the elements before these relations, and the right
--- one those after them, with the same elements before both, as of a prefix, and after both, as of an extension. So no
--- later rule moved them. If something comes after both, what the relations differ from has a weight at their levels.
+-- one those after them. Both have the same elements before them, as of a prefix, and after them, as of an extension. So
+-- no later rule moved them. If something comes after both, what the relations differ from has a weight at their levels.
 pub record StandInChain (root : Root) (placed : List PlacedStatement) (numbering : Numbering) (chain : List Rule) (left right : List ℕ) : Type 0 where
   pub earlier : List Rule
   pub later : List Rule
@@ -74,10 +74,10 @@ pub record StandInChain (root : Root) (placed : List PlacedStatement) (numbering
   pub of_right : elements_by_all root placed right ≡ front ++ (elements_at root (earlier ++ chain) ++ behind)
   pub counts : behind ≢ [] → DifferFromWeights root numbering earlier chain
 
--- By a collation of the tables of rules two texts that stand in a chain of relations order by the level of the chain:
--- by plain settings the left one is Less by each strength that has the level, and else they are Equal, if neither has
--- a variable element. At the quaternary level, and if there is no difference, strengths up to the tertiary one are
--- spoken of.
+-- By a collation of the tables of rules two texts that stand in a chain of relations order by the level of the chain.
+-- By plain settings the left one is Less by each strength that has the level. Else they are Equal, if neither has a
+-- variable element. At the quaternary level, and if there is no difference, strengths up to the tertiary one are spoken
+-- of.
 abbrev pub RelationsOrder : CheckedRoot → Type 0
 RelationsOrder root = (placed : List PlacedStatement) (t : Tailoring) (says : SaysRules root placed t) → AreRuledTables root t
     → (c : Collation) → c.tables ≡ tailored_tables t

@@ -48,9 +48,8 @@ HasPlainDiacritics over tables = (c secondary : ℕ) → IsScalarCode c → diac
     → diacritic_of over c ≡ Some secondary
     → entry_mappings over.root c (root_entry over c) ≡ diacritic_mapping secondary ∷ []
 
--- What is asked of these tables: that contexts ascend, that elements have lower halves of 16 bits, that the root's
--- entries refer to what is there, and that a mark which only the root's table of diacritics has is mapped so by its
--- entry too.
+-- What is asked of these tables: contexts ascend, elements have lower halves of 16 bits, and the root's entries refer
+-- to what is there. A mark which only the root's table of diacritics has is mapped so by its entry too.
 pub record AreLegible {R : Type 0} (mappings_of : R → ℕ → List RootMapping) (m : Mappings R) (over : Tables) (own : Data) (tables : Tables) : Type 0 where
   pub ascending : HasAscendingContexts own
   pub ascending_root : HasAscendingContexts tables.root

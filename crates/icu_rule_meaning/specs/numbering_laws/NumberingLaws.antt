@@ -28,9 +28,9 @@ pub record StandsInTree (tree : WeightTree) (e : SymbolicElement) : Type 0 where
 abbrev pub StandInTree : WeightTree → List SymbolicElement → Type 0
 StandInTree tree = AllByRecursion (StandsInTree tree)
 
--- Numbers of a tree by which its elements may be ordered: they ascend among siblings, none but the weight 0 has the
--- number 0, and the weights of elements that have none at the level before are above those of all others (UTS #10,
--- "Well-Formedness of Collation Element Tables").
+-- Numbers of a tree by which its elements may be ordered (UTS #10, "Well-Formedness of Collation Element Tables"). They
+-- ascend among siblings, and none but the weight 0 has the number 0. The weights of elements that have none at the
+-- level before are above those of all others.
 pub record OrdersElements (tree : WeightTree) (numbering : Numbering) : Type 0 where
   pub numbers : NumbersTree tree numbering
   pub counts : (above : List SymbolicWeight) (w : SymbolicWeight) → IsAmongWeights w (tree above) → w ≢ Rooted 0

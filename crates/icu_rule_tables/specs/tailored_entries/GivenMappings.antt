@@ -63,9 +63,9 @@ pub record StandsForMappings (t : TailoringNumbers) (d : Data) (c : ℕ) (mappin
   pub leads : LeadsJust Contraction d e found
   pub stands : (after : List ℕ) → StandsFor t d c after (mapping_with mappings after) (found after)
 
--- The entry e of a character gives just its mappings: behind the prefix of each of them, and behind none, the nearest
--- character first, it comes to an entry; and behind whatever it does, this stands for those that count there. No weight
--- of their elements is too great for its level.
+-- The entry e of a character gives just its mappings: after the prefix of each of them, and after none, the nearest
+-- character first, it comes to an entry. After whatever it does, this stands for those that count there. No weight of
+-- their elements is too great for its level.
 pub record GivesMappings (t : TailoringNumbers) (d : Data) (c : ℕ) (mappings : List SymbolicMapping) (e : ℕ) : Type 0 where
   pub behind : List ℕ → Option ℕ
   pub prefix : LeadsJust Prefix d e behind

@@ -20,8 +20,8 @@ abbrev pub IsJamoEntry : {R : Type 0} → (R → ℕ → List RootMapping) → T
 IsJamoEntry mappings_of t m d c rooted e =
     MatchBool (has_own_mappings mappings_of m c) (GivesMappings t d c (mappings_in mappings_of m c) e) (e ≡ rooted)
 
--- A root and a table of jamo in place of others: the root has the lists of the one before, maybe with more behind them,
--- and the same entries of characters; and each jamo has an entry of its mappings, or the one that it had.
+-- A root and a table of jamo in place of others. The root has the lists of the one before, maybe with more after them,
+-- and the same entries of characters. Each jamo has an entry of its mappings, or the one that it had.
 pub record TailorsJamo {R : Type 0} (mappings_of : R → ℕ → List RootMapping) (t : TailoringNumbers) (m : Mappings R) (root : Data) (jamo : List ℕ) (new_root : Data) (new_jamo : List ℕ) : Type 0 where
   pub extends : Extends root new_root
   pub count : length new_jamo ≡ jamo_count

@@ -145,9 +145,9 @@ fn set_suppressed<R: RootMappings>(
     Ok(())
 }
 
-/// The lists of a tailoring: an entry for each character that has mappings of its own, since a relation touched it or
-/// it lost contexts, in place of all that the root has for it, and the root's entries for all others. The root is that
-/// of the mappings.
+/// The lists of a tailoring, over the root of the mappings. Each character that has mappings of its own, since a
+/// relation touched it or it lost contexts, has an entry in place of all that the root has for it. All others have the
+/// root's entries.
 pub fn tailored_data<R: RootMappings>(
     alloc: Global,
     _root: &R,

@@ -289,9 +289,9 @@ fn count_among(tables: TableSet<'_>, together: bool, before_too: bool, weights: 
     count
 }
 
-/// Whether weights with a lead byte may begin an implicit one once both are reordered, and before that, where it is
-/// asked: some may unless reordering takes the first and the last weight for each second byte to other lead bytes.
-/// Where it takes all of them to one, the least shows it.
+/// Whether weights with a lead byte may begin an implicit one once both are reordered, and before that, if it is asked.
+/// Some may unless reordering takes the first and the last weight for each second byte to other lead bytes. If it takes
+/// all of them to one, the least shows it.
 fn may_begin_with_lead(tables: TableSet<'_>, together: bool, before_too: bool, lead: u8) -> bool {
     let least = u32::from(lead) << 24;
     if takes_whole(tables, lead) {

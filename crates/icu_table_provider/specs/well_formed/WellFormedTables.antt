@@ -145,8 +145,8 @@ abbrev pub table_of_lead : LeadCondition → DataTable
 table_of_lead of_lead.NumericWhole = tables.SpecialPrimaries
 table_of_lead _ = tables.Reordering
 
--- The table by which an overlap of a primary weight of one table and one of another is named: the later one of the two
--- where the weights overlap as they stand, and the reordering where they overlap only by it.
+-- The table by which an overlap of a primary weight of one table and one of another is named. It is the later one of
+-- the two if the weights overlap as they stand, and the reordering if they overlap only by it.
 pub record IsOverlapTable (first second : DataTable) (p q : ℕ) (table : DataTable) : Type 0 where
   pub before : AreOverlapping p q → table ≡ later first second
   pub after : (AreOverlapping p q → ⊥) → table ≡ tables.Reordering

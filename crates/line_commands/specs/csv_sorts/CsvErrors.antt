@@ -67,7 +67,7 @@ abbrev pub ExplainsClosing : ℕ → List (List ℕ) → CsvError → Type 0
 ExplainsClosing delimiter records (csv_errors.Open index) = LastIsOpen delimiter records index
 ExplainsClosing delimiter records _ = ⊥
 
--- Why the records of a text aren't sorted, where nothing was written yet: an allocation or a read failed, one of those
+-- Why the records of a text aren't sorted, if nothing was written yet. An allocation or a read failed, one of those
 -- that are sorted lacks a column that is asked for, or the quotes of the last one aren't closed.
 abbrev pub ExplainsCsv : CsvRequest → List ℕ → CsvError → Type 0
 ExplainsCsv r text csv_errors.NoMemory = Unit {0}

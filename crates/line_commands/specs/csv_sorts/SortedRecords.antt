@@ -19,9 +19,9 @@ use Rattle.line_commands.specs.declared.csv_sorts.csv_request.CsvRequest.{CsvReq
 abbrev pub front_mark : List ℕ → List ℕ
 front_mark text = take (length text - length (strip_bom text)) text
 
--- The output has the byte order mark and the header of the input, if it has them, and then its other records in the
+-- The output has the byte order mark and the header of the input, if it has them. Then it has its other records in the
 -- order of their columns, which each of them has, with its own bytes and a line feed. Those of which neither comes
--- first stand as they stood; where none is repeated, of those whose columns compare equal the first stands alone.
+-- first stand as they stood; if none is repeated, of those whose columns compare equal the first stands alone.
 pub record SortsCsv (c : Collation) (r : CsvRequest) (input output : List ℕ) : Type 0 where
   pub records : List (List ℕ)
   pub cut : HasRecords r.delimiter (strip_bom input) records

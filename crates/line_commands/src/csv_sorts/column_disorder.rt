@@ -72,9 +72,8 @@ fn first_wrong(
     Ok(None)
 }
 
-/// The index, from 0 on and among the records behind the header, of the first that may not stand where it does, if they
-/// aren't in the order of their columns: it is less than the one before it, or where none may be repeated not
-/// greater.
+/// The index, from 0 on and among the records after the header, of the first that may not stand where it does, if they
+/// aren't in the order of their columns. It is less than the one before it, or if none may be repeated, not greater.
 ///
 /// # Errors
 ///

@@ -50,9 +50,9 @@ fn first_wrong(
     Ok(None)
 }
 
-/// The index, from 0 on, of the first line of a text that may not stand where it does, if the lines aren't in the order
-/// of their fields, and then of their bytes where that is asked for: that is less than the one before it, or where no
-/// line may be repeated not greater.
+/// The index, from 0 on, of the first line of a text that may not stand where it does. The lines are not in the order
+/// of their fields, and then of their bytes if that is asked for. It is less than the one before it, or if no line may
+/// be repeated, not greater.
 ///
 /// # Errors
 ///

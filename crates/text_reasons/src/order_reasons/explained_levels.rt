@@ -94,9 +94,9 @@ pub(crate) fn characters(alloc: Global, text: &str) -> Result<Vec<char>, AllocEr
     text.chars().collect(alloc)
 }
 
-/// A line for each part of a text whose characters are read together, with their numbers and their collation elements,
-/// and then a line for each level that counts: its name, a tab, and its bytes in the sort key, with those that part it
-/// from its neighbours.
+/// A line for each part of a text whose characters are read together, with their numbers and their collation elements.
+/// Then a line for each level that counts: its name, a tab, and its bytes in the sort key, with those that part it from
+/// its neighbours.
 ///
 /// # Errors
 ///
