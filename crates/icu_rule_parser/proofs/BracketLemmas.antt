@@ -13,7 +13,7 @@ use Rattle.icu_rule_parser.specs.declared.set_parts.CharacterProperty.{Character
 use Rattle.icu_rule_parser.specs.declared.set_parts.SetPart.{SetPart}
 use Rattle.icu_rule_parser.specs.declared.open_sets.OpenSet.{OpenSet}
 use Rattle.icu_rule_parser.specs.declared.open_sets.TakenPart.TheVariants as taken_parts
-use Rattle.icu_rule_parser.specs.CharacterSets.{have_character, SetStep, goes_on, is_over, fails, if_last, set_has, IsSet, IsSetOf, is_member, IsNoProperty, HasNo, NamesProperty, other_property, SpellsCharacter, SpellsParts}
+use Rattle.icu_rule_parser.specs.CharacterSets.{have_character, SetStep, goes_on, is_over, fails, if_last, parts_have, IsSet, IsSetOf, is_member, IsNoProperty, HasNo, NamesProperty, other_property, SpellsCharacter, SpellsParts}
 use Rattle.icu_rule_parser.specs.Tokens.{Token, bracket, set_bracket, SpellsToken, SpellsWords, IsBracketWord, IsNoWord}
 use Rattle.icu_rule_parser.specs.TakenText.{SkipsWhite, SkipsWord, TakesWords, TakesMember, TakesRange, TakesPart, TakesParts, SkipsOthers, EndsAtSign, TakesBody, TakesProperty, TakesSet, TakesBracket, TakesEscape, LeadsTo, Takes}
 use Rattle.icu_rule_parser.specs.TakenStatements.{TakesStatement}
@@ -224,7 +224,7 @@ part_text : (a w i after : List ℕ) → a ++ (w ++ (i ++ after)) ≡ (a ++ w ++
 part_text a w i after = simp append_assoc
 
 abbrev then_has : ℕ → SetStep → List SetPart → Option Bool
-then_has c step more = elim step [ goes_on next ↦ set_has c next more | is_over has ↦ if_last has more | fails ↦ None ]
+then_has c step more = elim step [ goes_on next ↦ parts_have c next more | is_over has ↦ if_last has more | fails ↦ None ]
 
 -- one more part, and the white space behind it
 pub parts_step : {text rest behind next : List ℕ} (old new : List OpenSet) (part : SetPart) → TakesParts text old rest → TakesPart rest part behind → SkipsWhite behind next → LeadsTo part old new taken_parts.GoesOn → TakesParts text new next

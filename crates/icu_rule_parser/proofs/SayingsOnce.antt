@@ -21,7 +21,7 @@ use Rattle.icu_rule_parser.specs.declared.statement.RuleSetting.{RuleSetting}
 use Rattle.icu_rule_parser.specs.declared.statement.RuleSetting.TheVariants as settings
 use Rattle.icu_rule_parser.specs.declared.statement.Statement.{Statement}
 use Rattle.icu_rule_parser.specs.declared.statement.Statement.TheVariants as statements
-use Rattle.icu_rule_parser.specs.CharacterSets.{have_character, set_has}
+use Rattle.icu_rule_parser.specs.CharacterSets.{have_character, parts_have}
 use Rattle.icu_rule_parser.specs.Tokens.{Token, reset_sign, relation_sign, prefix_sign, extension_sign, range_sign, vowel_sign, string, bracket, set_bracket}
 use Rattle.icu_rule_parser.specs.RuleWords.{position_words, NamesPosition, level_word, IsAlternateWord}
 use Rattle.icu_rule_parser.specs.Statements.{AreBefore, AreAnchor, prefix_tokens, extension_tokens, single, dashed_tokens, NameRanges, WriteWords, AreSetting, AreStatement, AreStatements}
@@ -405,7 +405,7 @@ both_parts e = (ap (λ (p : Saying × List Token). p.0) e, ap (λ (p : Saying ×
 
 -- whether the set that tokens begin with has a character
 abbrev first_has : List Token → ℕ → Option Bool
-first_has (set_bracket word stated ∷ more) c = set_has c [] stated
+first_has (set_bracket word stated ∷ more) c = parts_have c [] stated
 first_has tokens c = Some false
 
 setting_has : (setting : RuleSetting) (mine more : List Token) (c : ℕ) → IsScalar c → AreSetting setting mine → first_has (mine ++ more) c ≡ Some (have_character (ranges_of_setting setting) c)

@@ -13,7 +13,7 @@ use Rattle.icu_rule_parser.specs.declared.set_parts.SetPart.{SetPart}
 use Rattle.icu_rule_parser.specs.declared.set_parts.SetPart.TheVariants as parts
 use Rattle.icu_rule_parser.specs.declared.open_sets.SetPlace.TheVariants as places
 use Rattle.icu_rule_parser.specs.RuleCharacters.{is_white, IsWhite}
-use Rattle.icu_rule_parser.specs.CharacterSets.{is_in_range, lacks_set, SetReading, SetStep, goes_on, is_over, fails, set_step, if_last, set_has, sign_code, is_member, IsNoProperty, SpellsCharacter, SpellsRange, HasNo, BeginsOtherwise, NamesSet, NamesProperty, other_property, SpellsProperty, SpellsPart, SpellsParts}
+use Rattle.icu_rule_parser.specs.CharacterSets.{is_in_range, lacks_set, SetReading, SetStep, goes_on, is_over, fails, set_step, if_last, parts_have, sign_code, is_member, IsNoProperty, SpellsCharacter, SpellsRange, HasNo, BeginsNotWith, NamesSet, NamesProperty, other_property, SpellsProperty, SpellsPart, SpellsParts}
 use Rattle.icu_rule_parser.proofs.StringOnce.{head_same, tail_same, not_both, escape_once}
 use Rattle.icu_rule_parser.proofs.WordsOnce.{StopsAt, span_once, three, white_at, white_45, white_92}
 
@@ -52,20 +52,20 @@ member_stops {c} {m} r (inl (h, e)) = subst (λ t. StopsAt is_white (t ++ r)) (s
 member_stops {c} {m} r (inr (escape, h, o, e)) = subst (λ t. StopsAt is_white (t ++ r)) (sym e) white_92
 
 -- and neither a dash nor a closing bracket
-member_otherwise : (k : ℕ) {c : ℕ} {m : List ℕ} (r : List ℕ) → is_member k ≡ false → k ≢ 92 → SpellsCharacter c m → BeginsOtherwise k (m ++ r)
+member_otherwise : (k : ℕ) {c : ℕ} {m : List ℕ} (r : List ℕ) → is_member k ≡ false → k ≢ 92 → SpellsCharacter c m → BeginsNotWith k (m ++ r)
 member_otherwise k {c} {m} r p q (inl (h, e)) =
-    subst (λ t. BeginsOtherwise k (t ++ r)) (sym e) (λ f. not_both (subst (λ i. is_member i ≡ true) f h) p)
+    subst (λ t. BeginsNotWith k (t ++ r)) (sym e) (λ f. not_both (subst (λ i. is_member i ≡ true) f h) p)
 member_otherwise k {c} {m} r p q (inr (escape, h, o, e)) =
-    subst (λ t. BeginsOtherwise k (t ++ r)) (sym e) (λ f. q (sym f))
+    subst (λ t. BeginsNotWith k (t ++ r)) (sym e) (λ f. q (sym f))
 
 -- text that doesn't go on with a dash, behind white space
 abbrev pub NoDash : List ℕ → Type 0
-NoDash text = (white rest : List ℕ) × IsWhite white × StopsAt is_white rest × BeginsOtherwise 45 rest × (text ≡ white ++ rest)
+NoDash text = (white rest : List ℕ) × IsWhite white × StopsAt is_white rest × BeginsNotWith 45 rest × (text ≡ white ++ rest)
 
 dash_stands : {text : List ℕ} (before more : List ℕ) → NoDash text → IsWhite before → text ≡ before ++ 45 ∷ more → ⊥
 dash_stands before more (white, rest, w, s, d, e) b f =
     let p = span_once is_white white before w b s white_45 (sym e ∙ f) in
-    let h : BeginsOtherwise 45 (45 ∷ more) = subst (BeginsOtherwise 45) p.1 d in h refl
+    let h : BeginsNotWith 45 (45 ∷ more) = subst (BeginsNotWith 45) p.1 d in h refl
 
 pub five : (f b a l x : List ℕ) {whole : List ℕ} → whole ≡ f ++ b ++ 45 ∷ a ++ l → whole ++ x ≡ f ++ (b ++ 45 ∷ (a ++ (l ++ x)))
 five f b a l x e =
@@ -96,12 +96,12 @@ range_once r s {xs} {ys} (inr (fa, ba, aa, la, ca, wa, va, da, ia, ea)) (inr (fb
     let t = span_once is_white aa ab va vb (member_stops xs da) (member_stops ys db) (tail_same q.1) in
     let u = member_once da db t.1 in (range_same r s p.0 u.0, u.1)
 
-first_of_range : (k : ℕ) (r : CharacterRange) {m : List ℕ} (x : List ℕ) → is_member k ≡ false → k ≢ 92 → SpellsRange r m → StopsAt is_white (m ++ x) × BeginsOtherwise k (m ++ x)
+first_of_range : (k : ℕ) (r : CharacterRange) {m : List ℕ} (x : List ℕ) → is_member k ≡ false → k ≢ 92 → SpellsRange r m → StopsAt is_white (m ++ x) × BeginsNotWith k (m ++ x)
 first_of_range k r x p q (inl (a, c)) = (member_stops x c, member_otherwise k x p q c)
 first_of_range k r x p q (inr (f, b, a, l, c, w, v, d, i, e)) =
     let s = five f b a l x e in (
       subst (StopsAt is_white) (sym s) (member_stops (b ++ 45 ∷ (a ++ (l ++ x))) c),
-      subst (BeginsOtherwise k) (sym s) (member_otherwise k (b ++ 45 ∷ (a ++ (l ++ x))) p q c),
+      subst (BeginsNotWith k) (sym s) (member_otherwise k (b ++ 45 ∷ (a ++ (l ++ x))) p q c),
     )
 
 -- ---- signs
@@ -174,9 +174,9 @@ property_same p q e f =
 name_once : (p q : CharacterProperty) (a b : List ℕ) → a ≡ b → NamesProperty p a → NamesProperty q b → p ≡ q
 name_once p q a b e (inl (c, o, n)) (inl (d, u, m)) = property_same p q (set_name_once p.set q.set a b e n m) (c ∙ sym d)
 name_once p q a b e (inl (c, o, n)) (inr (named, d, f, m)) =
-    let h : BeginsOtherwise 94 (94 ∷ named) = subst (BeginsOtherwise 94) (e ∙ f) o in absurd (h refl)
+    let h : BeginsNotWith 94 (94 ∷ named) = subst (BeginsNotWith 94) (e ∙ f) o in absurd (h refl)
 name_once p q a b e (inr (named, c, f, n)) (inl (d, u, m)) =
-    let h : BeginsOtherwise 94 (94 ∷ named) = subst (BeginsOtherwise 94) (sym e ∙ f) u in absurd (h refl)
+    let h : BeginsNotWith 94 (94 ∷ named) = subst (BeginsNotWith 94) (sym e ∙ f) u in absurd (h refl)
 name_once p q a b e (inr (na, c, f, n)) (inr (nb, d, g, m)) =
     property_same p q (set_name_once p.set q.set na nb (tail_same (sym f ∙ e ∙ g)) n m) (c ∙ sym d)
 
@@ -254,16 +254,16 @@ IsNoSign k (parts.Sign sign) = sign_code sign ≢ k
 IsNoSign k (parts.Range range) = Unit {0}
 IsNoSign k (parts.Property property) = Unit {0}
 
-property_otherwise : (k : ℕ) (text : List ℕ) → k ≢ 91 → k ≢ 92 → BeginsProperty text → StopsAt is_white text × BeginsOtherwise k text
+property_otherwise : (k : ℕ) (text : List ℕ) → k ≢ 91 → k ≢ 92 → BeginsProperty text → StopsAt is_white text × BeginsNotWith k text
 property_otherwise k text a b (inl (rest, e)) =
-    (subst (StopsAt is_white) (sym e) white_91, subst (BeginsOtherwise k) (sym e) (λ f. a (sym f)))
+    (subst (StopsAt is_white) (sym e) white_91, subst (BeginsNotWith k) (sym e) (λ f. a (sym f)))
 property_otherwise k text a b (inr (rest, letter, one, e)) =
-    (subst (StopsAt is_white) (sym e) white_92, subst (BeginsOtherwise k) (sym e) (λ f. b (sym f)))
+    (subst (StopsAt is_white) (sym e) white_92, subst (BeginsNotWith k) (sym e) (λ f. b (sym f)))
 
-first_of_part : (k : ℕ) (part : SetPart) (m x : List ℕ) → is_member k ≡ false → k ≢ 91 → k ≢ 92 → IsNoSign k part → SpellsPart part m → StopsAt is_white (m ++ x) × BeginsOtherwise k (m ++ x)
+first_of_part : (k : ℕ) (part : SetPart) (m x : List ℕ) → is_member k ≡ false → k ≢ 91 → k ≢ 92 → IsNoSign k part → SpellsPart part m → StopsAt is_white (m ++ x) × BeginsNotWith k (m ++ x)
 first_of_part k (parts.Sign sign) m x p a b n e = (
   subst (λ t. StopsAt is_white (t ++ x)) (sym e) (sign_white sign),
-  subst (λ t. BeginsOtherwise k (t ++ x)) (sym e) n,
+  subst (λ t. BeginsNotWith k (t ++ x)) (sym e) n,
 )
 first_of_part k (parts.Range range) m x p a b n s = first_of_range k range x p b s
 first_of_part k (parts.Property property) m x p a b n s = property_otherwise k (m ++ x) a b (property_begins property x s)
@@ -286,7 +286,7 @@ no_truth : {a : Bool} → None ≡ Some a → ⊥
 no_truth e = cc
 
 abbrev FollowsSign : SetSign → List ℕ → Type 0
-FollowsSign Opens text = BeginsOtherwise 58 text
+FollowsSign Opens text = BeginsNotWith 58 text
 FollowsSign Closes text = Unit {0}
 FollowsSign Complement text = Unit {0}
 FollowsSign Intersection text = Unit {0}
@@ -297,18 +297,18 @@ FollowsPart (parts.Sign sign) text = FollowsSign sign text
 FollowsPart (parts.Range range) text = NoDash text
 FollowsPart (parts.Property property) text = Unit {0}
 
-no_colon_behind : (part : SetPart) (white mine rest : List ℕ) → IsWhite white → SpellsPart part mine → BeginsOtherwise 58 (white ++ (mine ++ rest))
+no_colon_behind : (part : SetPart) (white mine rest : List ℕ) → IsWhite white → SpellsPart part mine → BeginsNotWith 58 (white ++ (mine ++ rest))
 no_colon_behind part [] mine rest w s = (first_of_part 58 part mine rest member_58 (omega arith) (omega arith) (no_colon part) s).1
 no_colon_behind part (c ∷ white) mine rest w s = white_at 58 (and_parts (is_white c) (list_all is_white white) w).0 white_58
 
-opens_followed : (sets : List SetReading) (has : Bool) (more : List SetPart) (m white xs : List ℕ) → set_has 0 sets more ≡ Some has → SpellsParts more m → IsWhite white → BeginsOtherwise 58 (white ++ (m ++ xs))
+opens_followed : (sets : List SetReading) (has : Bool) (more : List SetPart) (m white xs : List ℕ) → parts_have 0 sets more ≡ Some has → SpellsParts more m → IsWhite white → BeginsNotWith 58 (white ++ (m ++ xs))
 opens_followed sets has [] m white xs h s w = absurd (no_truth h)
 opens_followed sets has (part ∷ more) m white xs h (mine, behind, rest, p, v, t, e) w =
-    subst (λ t. BeginsOtherwise 58 (white ++ t)) (sym (three mine behind rest xs e))
+    subst (λ t. BeginsNotWith 58 (white ++ t)) (sym (three mine behind rest xs e))
     (no_colon_behind part white mine (behind ++ (rest ++ xs)) w p)
 
 -- behind a range stands no dash
-no_dash_behind : (n h : Bool) (outer : List SetReading) (has : Bool) (part : SetPart) (more : List SetPart) → set_has 0 (record { is_complement = n; place = places.BehindRange; has = h } ∷ outer) (part ∷ more) ≡ Some has → IsNoSign 45 part
+no_dash_behind : (n h : Bool) (outer : List SetReading) (has : Bool) (part : SetPart) (more : List SetPart) → parts_have 0 (record { is_complement = n; place = places.BehindRange; has = h } ∷ outer) (part ∷ more) ≡ Some has → IsNoSign 45 part
 no_dash_behind n h outer has (parts.Sign Opens) more e = omega arith
 no_dash_behind n h outer has (parts.Sign Closes) more e = omega arith
 no_dash_behind n h outer has (parts.Sign Complement) more e = omega arith
@@ -317,21 +317,21 @@ no_dash_behind n h outer has (parts.Sign Difference) more e = absurd (no_truth e
 no_dash_behind n h outer has (parts.Range range) more e = tt
 no_dash_behind n h outer has (parts.Property property) more e = tt
 
-range_followed : (n h : Bool) (outer : List SetReading) (has : Bool) (more : List SetPart) (m white xs : List ℕ) → set_has 0 (record { is_complement = n; place = places.BehindRange; has = h } ∷ outer) more ≡ Some has → SpellsParts more m → IsWhite white → NoDash (white ++ (m ++ xs))
+range_followed : (n h : Bool) (outer : List SetReading) (has : Bool) (more : List SetPart) (m white xs : List ℕ) → parts_have 0 (record { is_complement = n; place = places.BehindRange; has = h } ∷ outer) more ≡ Some has → SpellsParts more m → IsWhite white → NoDash (white ++ (m ++ xs))
 range_followed n h outer has [] m white xs e s w = absurd (no_truth e)
 range_followed n h outer has (part ∷ more) m white xs e (mine, behind, rest, p, v, t, f) w =
     let first = first_of_part 45 part mine (behind ++ (rest ++ xs)) member_45 (omega arith) (omega arith) (no_dash_behind n h outer has part more e) p in
     (white, mine ++ (behind ++ (rest ++ xs)), w, first.0, first.1, ap (λ t. white ++ t) (three mine behind rest xs f))
 
 abbrev then_has : SetStep → List SetPart → Option Bool
-then_has step more = elim step [ goes_on next ↦ set_has 0 next more | is_over h ↦ if_last h more | fails ↦ None ]
+then_has step more = elim step [ goes_on next ↦ parts_have 0 next more | is_over h ↦ if_last h more | fails ↦ None ]
 
-ranged : (b : Bool) (next : List SetReading) (more : List SetPart) (a : Bool) → then_has (cond b fails (goes_on next)) more ≡ Some a → set_has 0 next more ≡ Some a
+ranged : (b : Bool) (next : List SetReading) (more : List SetPart) (a : Bool) → then_has (cond b fails (goes_on next)) more ≡ Some a → parts_have 0 next more ≡ Some a
 ranged true next more a e = absurd (no_truth e)
 ranged false next more a e = e
 
 -- what stands behind a part that leads to a closed set
-part_followed : (sets : List SetReading) (has : Bool) (part : SetPart) (more : List SetPart) (m white xs : List ℕ) → set_has 0 sets (part ∷ more) ≡ Some has → SpellsParts more m → IsWhite white → FollowsPart part (white ++ (m ++ xs))
+part_followed : (sets : List SetReading) (has : Bool) (part : SetPart) (more : List SetPart) (m white xs : List ℕ) → parts_have 0 sets (part ∷ more) ≡ Some has → SpellsParts more m → IsWhite white → FollowsPart part (white ++ (m ++ xs))
 part_followed [] has (parts.Sign Opens) more m white xs e s w = opens_followed _ has more m white xs e s w
 part_followed (now ∷ outer) has (parts.Sign Opens) more m white xs e s w = opens_followed _ has more m white xs e s w
 part_followed sets has (parts.Sign Closes) more m white xs e s w = tt
@@ -347,13 +347,13 @@ part_followed sets has (parts.Property property) more m white xs e s w = tt
 
 sign_and_range : (s : SetSign) (r : CharacterRange) {n : List ℕ} (xs ys : List ℕ) → SpellsRange r n → sign_code s ∷ xs ≡ n ++ ys → ⊥
 sign_and_range s r xs ys t e =
-    let h : BeginsOtherwise (sign_code s) (sign_code s ∷ xs) =
-    subst (BeginsOtherwise (sign_code s)) (sym e) (first_of_range (sign_code s) r ys (sign_member s) (sign_other s).0 t).1 in h refl
+    let h : BeginsNotWith (sign_code s) (sign_code s ∷ xs) =
+    subst (BeginsNotWith (sign_code s)) (sym e) (first_of_range (sign_code s) r ys (sign_member s) (sign_other s).0 t).1 in h refl
 
 bracket_and_property : (s : SetSign) (xs : List ℕ) {rest : List ℕ} → s ≡ Opens → FollowsSign s xs → xs ≡ 58 ∷ rest → ⊥
 bracket_and_property s xs {rest} o f e =
-    let k : BeginsOtherwise 58 xs = subst (λ t. FollowsSign t xs) o f in
-    let h : BeginsOtherwise 58 (58 ∷ rest) = subst (BeginsOtherwise 58) e k in h refl
+    let k : BeginsNotWith 58 xs = subst (λ t. FollowsSign t xs) o f in
+    let h : BeginsNotWith 58 (58 ∷ rest) = subst (BeginsNotWith 58) e k in h refl
 
 sign_and_property : (s : SetSign) (xs text : List ℕ) → FollowsSign s xs → BeginsProperty text → sign_code s ∷ xs ≡ text → ⊥
 sign_and_property s xs text f (inl (rest, e)) g =
@@ -369,7 +369,7 @@ escape_and_property (k ∷ escape) x rest letter one n e = no_such_letter letter
 
 member_and_property : (c : ℕ) {m : List ℕ} (x text : List ℕ) → SpellsCharacter c m → BeginsProperty text → m ++ x ≡ text → ⊥
 member_and_property c x text s (inl (rest, e)) g =
-    let h : BeginsOtherwise 91 (91 ∷ 58 ∷ rest) = subst (BeginsOtherwise 91) (g ∙ e) (member_otherwise 91 x member_91 (omega arith) s) in h refl
+    let h : BeginsNotWith 91 (91 ∷ 58 ∷ rest) = subst (BeginsNotWith 91) (g ∙ e) (member_otherwise 91 x member_91 (omega arith) s) in h refl
 member_and_property c x text (inl (h, f)) (inr (rest, letter, one, e)) g =
     not_both (subst (λ i. is_member i ≡ true) (head_same (ap (λ t. t ++ x) (sym f) ∙ g ∙ e)) h) member_backslash
 member_and_property c x text (inr (escape, h, n, f)) (inr (rest, letter, one, e)) g =
@@ -403,14 +403,14 @@ part_once (parts.Property p) (parts.Property q) m n xs ys e f h k g =
 
 -- ---- parts, up to the end of the outermost set
 
-rest_once : (step : SetStep) (us bs : List SetPart) (a b : Bool) (m n xs ys : List ℕ) → ((next : List SetReading) → set_has 0 next us ≡ Some a → set_has 0 next bs ≡ Some b → (us ≡ bs) × (xs ≡ ys)) → then_has step us ≡ Some a → then_has step bs ≡ Some b → SpellsParts us m → SpellsParts bs n → m ++ xs ≡ n ++ ys → (us ≡ bs) × (xs ≡ ys)
+rest_once : (step : SetStep) (us bs : List SetPart) (a b : Bool) (m n xs ys : List ℕ) → ((next : List SetReading) → parts_have 0 next us ≡ Some a → parts_have 0 next bs ≡ Some b → (us ≡ bs) × (xs ≡ ys)) → then_has step us ≡ Some a → then_has step bs ≡ Some b → SpellsParts us m → SpellsParts bs n → m ++ xs ≡ n ++ ys → (us ≡ bs) × (xs ≡ ys)
 rest_once (goes_on next) us bs a b m n xs ys again h k s t e = again next h k
 rest_once (is_over has) [] [] a b m n xs ys again h k s t e = (refl, ap (λ t. t ++ xs) (sym s) ∙ e ∙ ap (λ u. u ++ ys) t)
 rest_once (is_over has) [] (q ∷ bs) a b m n xs ys again h k s t e = absurd (no_truth k)
 rest_once (is_over has) (p ∷ us) bs a b m n xs ys again h k s t e = absurd (no_truth h)
 rest_once fails us bs a b m n xs ys again h k s t e = absurd (no_truth h)
 
-pub parts_once : (sets : List SetReading) (us bs : List SetPart) (a b : Bool) (m n xs ys : List ℕ) → set_has 0 sets us ≡ Some a → set_has 0 sets bs ≡ Some b → SpellsParts us m → SpellsParts bs n → StopsAt is_white xs → StopsAt is_white ys → m ++ xs ≡ n ++ ys → (us ≡ bs) × (xs ≡ ys)
+pub parts_once : (sets : List SetReading) (us bs : List SetPart) (a b : Bool) (m n xs ys : List ℕ) → parts_have 0 sets us ≡ Some a → parts_have 0 sets bs ≡ Some b → SpellsParts us m → SpellsParts bs n → StopsAt is_white xs → StopsAt is_white ys → m ++ xs ≡ n ++ ys → (us ≡ bs) × (xs ≡ ys)
 parts_once sets [] bs a b m n xs ys h k s t v w e = absurd (no_truth h)
 parts_once sets (p ∷ us) [] a b m n xs ys h k s t v w e = absurd (no_truth k)
 parts_once sets (p ∷ us) (q ∷ bs) a b m n xs ys h k (ma, wa, ra, sa, va, ta, ea) (mb, wb, rb, sb, vb, tb, eb) v w e =
@@ -434,7 +434,7 @@ begins_then : {a text : List ℕ} → a ≡ text → BeginsSet text → BeginsSe
 begins_then e (inl (rest, f)) = inl (rest, e ∙ f)
 begins_then e (inr (rest, f)) = inr (rest, e ∙ f)
 
-pub set_begins : (stated : List SetPart) (has : Bool) (m xs : List ℕ) → set_has 0 [] stated ≡ Some has → SpellsParts stated m → BeginsSet (m ++ xs)
+pub set_begins : (stated : List SetPart) (has : Bool) (m xs : List ℕ) → parts_have 0 [] stated ≡ Some has → SpellsParts stated m → BeginsSet (m ++ xs)
 set_begins [] has m xs h s = absurd (no_truth h)
 set_begins (parts.Sign Opens ∷ more) has m xs h (mine, white, rest, s, w, t, e) =
     inl (white ++ (rest ++ xs), three mine white rest xs e ∙ ap (λ t. t ++ (white ++ (rest ++ xs))) s)

@@ -130,21 +130,21 @@ if_last has (part ∷ more) = None
 
 -- whether a set has a character, by the sets that are open, the innermost first, and the parts that follow. There is
 -- no truth if a part may not stand where it stands, or if the last one doesn't close the outermost set.
-abbrev pub set_has : ℕ → List SetReading → List SetPart → Option Bool
-set_has c open' [] = None
-set_has c open' (part ∷ more) = elim (set_step c open' part) [
-  | goes_on next ↦ set_has c next more
+abbrev pub parts_have : ℕ → List SetReading → List SetPart → Option Bool
+parts_have c open' [] = None
+parts_have c open' (part ∷ more) = elim (set_step c open' part) [
+  | goes_on next ↦ parts_have c next more
   | is_over has ↦ if_last has more
   | fails ↦ None
 ]
 
 -- the parts are those of a set: each may stand where it stands, and the last one closes it
 abbrev pub IsSet : List SetPart → Type 0
-IsSet stated = (has : Bool) × (set_has 0 [] stated ≡ Some has)
+IsSet stated = (has : Bool) × (parts_have 0 [] stated ≡ Some has)
 
 -- the ranges have the characters of the set that the parts write
 abbrev pub IsSetOf : List SetPart → List CharacterRange → Type 0
-IsSetOf stated ranges = (c : ℕ) → IsScalar c → set_has c [] stated ≡ Some (have_character ranges c)
+IsSetOf stated ranges = (c : ℕ) → IsScalar c → parts_have c [] stated ≡ Some (have_character ranges c)
 
 -- ---- how parts are spelled
 
@@ -183,9 +183,9 @@ abbrev pub HasNo : ℕ → List ℕ → Type 0
 HasNo sign text = IsTrue (list_all (λ c. not (c == sign)) text)
 
 -- the text doesn't begin with this character
-abbrev pub BeginsOtherwise : ℕ → List ℕ → Type 0
-BeginsOtherwise k [] = Unit {0}
-BeginsOtherwise k (c ∷ text) = c ≢ k
+abbrev pub BeginsNotWith : ℕ → List ℕ → Type 0
+BeginsNotWith k [] = Unit {0}
+BeginsNotWith k (c ∷ text) = c ≢ k
 
 -- a property of Unicode, by its name, or by its name and a value of it
 abbrev pub NamesSet : Set → List ℕ → Type 0
@@ -195,7 +195,7 @@ NamesSet set body = (HasNo 61 body × (by_name (normalize body) ≡ Some set))
 
 -- such a property, or behind `^` what lacks it
 abbrev pub NamesProperty : CharacterProperty → List ℕ → Type 0
-NamesProperty property body = ((property.is_complement ≡ false) × BeginsOtherwise 94 body × NamesSet property.set body)
+NamesProperty property body = ((property.is_complement ≡ false) × BeginsNotWith 94 body × NamesSet property.set body)
     ⊎ ((named : List ℕ) × (property.is_complement ≡ true) × (body ≡ 94 ∷ named) × NamesSet property.set named)
 
 -- what lacks a property

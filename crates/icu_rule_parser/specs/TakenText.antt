@@ -4,7 +4,7 @@ use Rattle.std.specs.List.{list_all}
 use Rattle.std.specs.Char.{IsScalar}
 use Rattle.icu_rule_parser.specs.RuleCharacters.{is_line_end, is_word_character, IsWhite}
 use Rattle.icu_rule_parser.specs.RuleStrings.{WritesInHex, IsNoQuote, SpellsEscape, SpellsCharacters}
-use Rattle.icu_rule_parser.specs.CharacterSets.{SetReading, HasNo, have_character, set_step, goes_on, is_over, set_has, IsSetOf, SpellsCharacter, SpellsRange, SpellsProperty, SpellsPart, SpellsParts}
+use Rattle.icu_rule_parser.specs.CharacterSets.{SetReading, HasNo, have_character, set_step, goes_on, is_over, parts_have, IsSetOf, SpellsCharacter, SpellsRange, SpellsProperty, SpellsPart, SpellsParts}
 use Rattle.icu_rule_parser.specs.declared.set_parts.SetPart.{SetPart}
 use Rattle.icu_rule_parser.specs.declared.set_parts.CharacterProperty.{CharacterProperty}
 use Rattle.icu_rule_parser.specs.declared.open_sets.OpenSet.{OpenSet}
@@ -103,8 +103,8 @@ abbrev pub TakesProperty : List ℕ → CharacterProperty → List ℕ → Type 
 TakesProperty text property rest = (mine : List ℕ) × SpellsProperty property mine × (text ≡ mine ++ rest)
 
 -- what is read of an open set, if a character is asked for
-abbrev pub reading_of : ℕ → OpenSet → SetReading
-reading_of c set = record {
+abbrev pub open_reading : ℕ → OpenSet → SetReading
+open_reading c set = record {
   is_complement = set.is_complement;
   place = set.place;
   has = have_character set.ranges.items c;
@@ -112,7 +112,7 @@ reading_of c set = record {
 
 -- what is read of open sets, the innermost first
 abbrev pub readings_of : ℕ → List OpenSet → List SetReading
-readings_of c sets = reverse (map (reading_of c) sets)
+readings_of c sets = reverse (map (open_reading c) sets)
 
 -- what a part of a set led to
 abbrev pub LeadsTo : SetPart → List OpenSet → List OpenSet → TakenPart → Type 0
@@ -127,7 +127,7 @@ LeadsTo part old new taken_parts.Fails = Unit {0}
 abbrev pub TakesParts : List ℕ → List OpenSet → List ℕ → Type 0
 TakesParts text sets rest = (more : List SetPart) (inside after : List ℕ) → rest ≡ inside ++ after
     → SpellsParts more inside → (all : List SetPart) × (whole : List ℕ) × SpellsParts all whole
-    × (text ≡ whole ++ after) × ((c : ℕ) → IsScalar c → set_has c [] all ≡ set_has c (readings_of c sets) more)
+    × (text ≡ whole ++ after) × ((c : ℕ) → IsScalar c → parts_have c [] all ≡ parts_have c (readings_of c sets) more)
 
 -- what stands in a bracket has this token
 abbrev pub IsBracketToken : Bracket → Token → Type 0

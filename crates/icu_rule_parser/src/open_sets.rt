@@ -2,7 +2,7 @@
 ghost use Rattle.std.specs.Prelude.{◌≡◌, ◌&&◌, ◌||◌, ◌∷◌, ◌++◌, [], ℕ, List, not, IfOk, IfSome};
 ghost use Rattle.std.specs.Char.{IsScalar};
 ghost use Rattle.icu_rule_parser.specs.CharacterSets.{SetReading, begun, closed_has, goes_on, has_with_set, have_character, lacks_set, set_step, sign_step, with_set};
-ghost use Rattle.icu_rule_parser.specs.TakenText.{LeadsTo, reading_of};
+ghost use Rattle.icu_rule_parser.specs.TakenText.{LeadsTo, open_reading};
 
 use crate::code_ranges::{complement, property_ranges};
 use crate::set_parts::{SetPart, SetSign};
@@ -49,7 +49,7 @@ pub enum TakenPart {
 impl OpenSet {
     /// A set of which nothing is read.
     fn new(alloc: Global) -> OpenSet
-        ensures { (x : ℕ) → reading_of x result ≡ begun }
+        ensures { (x : ℕ) → open_reading x result ≡ begun }
     {
         OpenSet {
             is_complement: false,
@@ -71,7 +71,7 @@ impl OpenSet {
     /// The characters of the set, once it is closed.
     fn closed(self, alloc: Global) -> Result<Vec<CharacterRange>, AllocError>
         ensures { IfOk result (λ ranges. (x : ℕ) → IsScalar x →
-            have_character ranges.items x ≡ closed_has (reading_of x self)) }
+            have_character ranges.items x ≡ closed_has (open_reading x self)) }
     {
         if self.is_complement {
             complement(alloc, self.ranges.as_slice())
@@ -140,7 +140,7 @@ fn joined(
 /// A set with another one behind.
 fn with_set(alloc: Global, set: OpenSet, inner: &[CharacterRange]) -> Result<OpenSet, AllocError>
     ensures { IfOk result (λ new. (x : ℕ) → IsScalar x →
-        reading_of x new ≡ with_set (reading_of x set) (have_character inner.now x)) }
+        open_reading x new ≡ with_set (open_reading x set) (have_character inner.now x)) }
 {
     let ranges = joined(alloc, set.place, set.ranges, inner)?;
     Ok(OpenSet {
@@ -153,8 +153,8 @@ fn with_set(alloc: Global, set: OpenSet, inner: &[CharacterRange]) -> Result<Ope
 /// A set with a range behind, if that may stand there.
 fn with_range(mut set: OpenSet, range: CharacterRange) -> Result<Option<OpenSet>, AllocError>
     ensures { IfOk result (λ found. IfSome found (λ new. (x : ℕ) (outer : List SetReading) →
-        set_step x (reading_of x set ∷ outer) (SetPart.Range range)
-        ≡ goes_on (reading_of x new ∷ outer))) }
+        set_step x (open_reading x set ∷ outer) (SetPart.Range range)
+        ≡ goes_on (open_reading x new ∷ outer))) }
 {
     if set.lacks_set() {
         return Ok(None);
@@ -167,7 +167,7 @@ fn with_range(mut set: OpenSet, range: CharacterRange) -> Result<Option<OpenSet>
 /// A set with `^` or an operator behind, if that may stand there.
 fn with_sign(set: OpenSet, sign: SetSign) -> Option<OpenSet>
     ensures { IfSome result (λ new. (x : ℕ) (outer : List SetReading) →
-        sign_step sign (reading_of x set) outer ≡ goes_on (reading_of x new ∷ outer)) }
+        sign_step sign (open_reading x set) outer ≡ goes_on (open_reading x new ∷ outer)) }
 {
     match (sign, set.place) {
         (SetSign::Complement, SetPlace::Beginning) => Some(OpenSet {
@@ -192,8 +192,8 @@ fn with_sign(set: OpenSet, sign: SetSign) -> Option<OpenSet>
 /// A set with a part behind that neither opens nor closes one, if that may stand there.
 fn with_part(alloc: Global, set: OpenSet, part: SetPart) -> Result<Option<OpenSet>, AllocError>
     ensures { IfOk result (λ found. IfSome found (λ new. (x : ℕ) (outer : List SetReading) →
-        IsScalar x → set_step x (reading_of x set ∷ outer) part
-        ≡ goes_on (reading_of x new ∷ outer))) }
+        IsScalar x → set_step x (open_reading x set ∷ outer) part
+        ≡ goes_on (open_reading x new ∷ outer))) }
 {
     match part {
         SetPart::Sign(sign) => Ok(with_sign(set, sign)),
