@@ -1,3 +1,4 @@
 pub mod LineFields
 pub mod NumberKeys
 pub mod JoinedKeys
+pub mod ShownParts

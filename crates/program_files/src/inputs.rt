@@ -14,17 +14,75 @@ use std::rt::{Clock, Files};
 /// The name of standard input in messages.
 const STANDARD: &str = "standard input";
 
+/// An input whose lines were read.
+#[derive(Drop)]
+struct InputPart {
+    /// The word that names it, `-` for standard input.
+    word: String,
+    /// Where its lines end in those of all inputs.
+    end: usize,
+}
+
+/// Where a line is in one of several inputs.
+#[derive(Clone, Copy)]
+pub struct LineOfInput<'i> {
+    /// The word that names the input, `-` for standard input.
+    pub word: &'i str,
+    /// The index of the line in it, from 0 on.
+    pub index: usize,
+}
+
+/// How many times a byte stands among others.
+fn count_of(bytes: &[u8], byte: u8) -> usize {
+    let mut count = 0usize;
+    for other in bytes {
+        if *other == byte {
+            count = count.saturating_add(1);
+        }
+    }
+    count
+}
+
 /// Lines that were read from one input or from several.
 #[derive(Drop)]
 pub struct InputText {
     bytes: Vec<u8>,
     is_marked: bool,
+    parts: Vec<InputPart>,
 }
 
 impl InputText {
     /// The lines. Each has its end.
     pub fn as_slice(&self) -> &[u8] {
         self.bytes.as_slice()
+    }
+
+    /// How many inputs were read.
+    pub fn inputs(&self) -> usize {
+        self.parts.len()
+    }
+
+    /// The input that has a line, by the index of the line among all, from 0 on, and its index there.
+    pub fn place_of(&self, separator: u8, index: usize) -> Option<LineOfInput<'_>> {
+        let mut start = 0usize;
+        let mut left = index;
+        for part in self.parts.as_slice() {
+            let (before, _) = self
+                .bytes
+                .as_slice()
+                .split_at(part.end.min(self.bytes.len()));
+            let (_, lines) = before.split_at(start.min(before.len()));
+            let count = count_of(lines, separator);
+            if left < count {
+                return Some(LineOfInput {
+                    word: part.word.as_str(),
+                    index: left,
+                });
+            }
+            left -= count;
+            start = part.end;
+        }
+        None
     }
 
     /// The byte order mark with which the first input began, if it did: it goes before the lines if they are printed.
@@ -64,23 +122,24 @@ fn read_watched<R: Clock + AllocGlobal, I: Read, E: Write>(
 /// Why a file isn't opened whose name isn't UTF-8, and what to do.
 const NOT_TEXT: &str = "its name isn't UTF-8; give it as standard input";
 
-/// Reads a file by its name.
-fn read_file_by_word<R: Files + Clock + AllocGlobal, E: Write>(
-    rt: &R,
-    word: &str,
-    progress: &mut RunProgress,
-    errors: &mut E,
-) -> Result<Vec<u8>, ProgramError> {
+/// Opens a file by its name.
+///
+/// # Errors
+///
+/// Fails where an allocation does, or with a line that names the file and says why it isn't opened.
+pub fn open_input<R: Files + AllocGlobal>(rt: &R, word: &str) -> Result<R::File, ProgramError> {
     let Some(name) = name_of_word(rt.alloc(), word)? else {
         return Err(refused(rt.alloc(), word, NOT_TEXT));
     };
     match fs::open(rt, name.as_str()) {
-        Ok(opened) => {
-            let mut opened = opened;
-            read_watched(rt, word, &mut opened, progress, errors)
-        }
+        Ok(opened) => Ok(opened),
         Err(error) => Err(refused_by_system(rt.alloc(), word, &error)),
     }
+}
+
+/// How an input is named in messages.
+pub fn input_name<'f>(word: &'f str) -> &'f str {
+    if word == "-" { STANDARD } else { word }
 }
 
 /// Reads a file by its name, or standard input for the name `-`.
@@ -94,7 +153,8 @@ fn read_named<R: Files + Clock + AllocGlobal, I: Read, E: Write>(
     if word == "-" {
         read_watched(rt, STANDARD, standard, progress, errors)
     } else {
-        read_file_by_word(rt, word, progress, errors)
+        let mut opened = open_input(rt, word)?;
+        read_watched(rt, word, &mut opened, progress, errors)
     }
 }
 
@@ -130,16 +190,22 @@ fn read_files<R: Files + Clock + AllocGlobal, I: Read, E: Write>(
     errors: &mut E,
 ) -> Result<InputText, ProgramError> {
     let mut input = Vec::new(rt.alloc());
+    let mut parts = Vec::new(rt.alloc());
     let mut is_marked = false;
     for (index, word) in words.iter().enumerate() {
         let mut bytes = read_named(rt, word, standard, progress, errors)?;
         let has_mark = take_mark(&mut bytes);
         is_marked = is_marked || has_mark && index == 0;
         append_input(&mut input, bytes, separator)?;
+        parts.push(InputPart {
+            word: word.to_string(rt.alloc())?,
+            end: input.len(),
+        })?;
     }
     Ok(InputText {
         bytes: input,
         is_marked,
+        parts,
     })
 }
 

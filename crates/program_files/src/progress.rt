@@ -62,8 +62,8 @@ impl RunProgress {
         }
     }
 
-    /// So many more bytes were read.
-    fn read_more<R: Clock + AllocGlobal, E: Write>(
+    /// So many more bytes were read: that is said, if a second has passed.
+    pub fn read_more<R: Clock + AllocGlobal, E: Write>(
         &mut self,
         rt: &R,
         count: usize,
@@ -76,6 +76,14 @@ impl RunProgress {
             self.is_open = true;
             self.say(rt, "", errors);
         }
+    }
+
+    /// Takes away what was said last, as far as a terminal does, before something else is printed there.
+    pub fn give_way<E: Write>(&mut self, errors: &mut E) {
+        if self.is_open {
+            let _ = errors.write_all(b"\r\x1b[K");
+        }
+        self.is_open = false;
     }
 
     /// An input was read, and the work on it begins: that is said where a second has passed, or will.

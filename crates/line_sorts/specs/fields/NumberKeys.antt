@@ -60,3 +60,20 @@ number_key text =
     let number = drop_while is_blank_byte text in
     let digits = without_first 45 number in
     signed_key (begins_with_byte 45 number) (whole_digits digits) (fraction_digits digits)
+
+-- ---- the number as it stands
+
+-- whether bytes begin with a digit
+abbrev pub is_digit_first : List ℕ → Bool
+is_digit_first [] = false
+is_digit_first (b ∷ bs) = is_digit b
+
+-- whether a digit stands at the beginning of bytes, or behind a point there
+abbrev pub has_digits : List ℕ → Bool
+has_digits bs = is_digit_first (without_first 46 bs)
+
+-- what stands behind digits, a point and digits
+abbrev pub behind_digits : List ℕ → List ℕ
+behind_digits bs =
+    let rest = drop_while is_digit bs in
+    if begins_with_byte 46 rest then drop_while is_digit (drop 1 rest) else rest

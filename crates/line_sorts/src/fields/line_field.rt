@@ -65,7 +65,7 @@ fn past_some_blanks(skips: bool, line: &[u8]) -> &[u8]
 }
 
 /// A line from a place on.
-fn from_place(ends: FieldEnds, place: KeyPlace, line: &[u8]) -> &[u8]
+pub(crate) fn from_place(ends: FieldEnds, place: KeyPlace, line: &[u8]) -> &[u8]
     ensures { result.now ≡ from_place ends place line.entry.now }
 {
     let field = from_field(ends, place.fields, line);

@@ -9,14 +9,14 @@ use crate::fields::passing::{past_blanks, past_byte};
 use std::alloc::{AllocError, Global};
 
 /// Whether a byte is a digit.
-fn is_digit(byte: u8) -> bool
+pub(crate) fn is_digit(byte: u8) -> bool
     ensures { result ≡ is_digit byte }
 {
     b'0' <= byte && byte <= b'9'
 }
 
 /// Bytes from the first on that is no digit.
-fn past_digits(bytes: &[u8]) -> &[u8]
+pub(crate) fn past_digits(bytes: &[u8]) -> &[u8]
     ensures { result.now ≡ drop_while is_digit bytes.entry.now }
 {
     let mut left = bytes;
@@ -66,7 +66,7 @@ fn without_end_zeros(digits: &[u8]) -> &[u8]
 }
 
 /// Whether bytes begin with this one.
-fn begins_with_byte(byte: u8, bytes: &[u8]) -> bool
+pub(crate) fn begins_with_byte(byte: u8, bytes: &[u8]) -> bool
     ensures { result ≡ begins_with_byte byte bytes.now }
 {
     match bytes {
@@ -76,7 +76,7 @@ fn begins_with_byte(byte: u8, bytes: &[u8]) -> bool
 }
 
 /// Bytes without this one, if they begin with it.
-fn without_first(byte: u8, bytes: &[u8]) -> &[u8]
+pub(crate) fn without_first(byte: u8, bytes: &[u8]) -> &[u8]
     ensures { result.now ≡ without_first byte bytes.entry.now }
 {
     if begins_with_byte(byte, bytes) {
