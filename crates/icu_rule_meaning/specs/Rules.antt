@@ -13,7 +13,6 @@ use Rattle.icu_rule_parser.specs.declared.statement.StarredRelation.{StarredRela
 use Rattle.icu_rule_parser.specs.declared.statement.Statement.{Statement}
 use Rattle.icu_rule_parser.specs.declared.statement.Statement.TheVariants as statements
 use Rattle.icu_rule_parser.specs.declared.rules.PlacedStatement.{PlacedStatement}
-
 pub use Rattle.icu_rule_parser.specs.CharacterSets.{have_character}
 
 -- where a reset goes

@@ -6,7 +6,7 @@ use thiserror::Error;
 #[derive(Debug, Clone, Copy, PartialEq, Eq, Error)]
 pub enum TailoringErrorKind {
     /// `[last implicit]`, `[first trailing]` or `[last trailing]`: nothing is tailored there.
-    #[error("expected a position that can be tailored")]
+    #[error("expected a position that can be tailored, not [last implicit] or one among trailing weights")]
     Position,
     /// A reset to a string of more than 31 elements, or a relation that gives its string, with its extension, as many.
     #[error("expected at most 31 elements")]

@@ -11,7 +11,6 @@ use Rattle.icu_rule_steps.specs.symbolic_mappings.KeptMappings.{mappings_in}
 use Rattle.icu_rule_steps.specs.symbolic_mappings.TouchedCharacters.{has_root_context, touched_in}
 use Rattle.icu_rule_steps.specs.declared.symbolic_mappings.kept_mappings.Mappings.{Mappings}
 use Rattle.icu_rule_tables.specs.tailored_entries.GivenMappings.{GivesMappings}
-
 pub use Rattle.icu_rule_parser.specs.CharacterSets.{is_in_range}
 
 -- no relation touched the character, and the root has mappings of it that depend on what stands around it
