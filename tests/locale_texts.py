@@ -167,7 +167,7 @@ def files(folder):
     names = [
         ("REGION_LANGUAGES", "Regions, and the language that is likely there.", region_languages(folder)),
         ("LANGUAGE_NAMES", "The English names of languages, and the language.", name_rows(folder))]
-    note = "written by tests/locale_texts.py from CLDR's data.\n"
+    note = "written by `locale_texts.py` of the tests from CLDR's data.\n"
     return {
         "alias_lists.rt": "//! Lists of codes and of what replaces them (`supplementalMetadata.xml`),\n//! " + note + "\n"
         + "\n".join(constant(n, a, row_lines(r)) for n, a, r in aliases),

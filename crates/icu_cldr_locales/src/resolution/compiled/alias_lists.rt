@@ -1,5 +1,5 @@
 //! Lists of codes and of what replaces them (`supplementalMetadata.xml`),
-//! written by tests/locale_texts.py from CLDR's data.
+//! written by `locale_texts.py` of the tests from CLDR's data.
 
 /// Old languages, the variant that stands with them or nothing, and the language.
 pub(crate) const LANGUAGE_ALIASES: &str = "\

@@ -1,4 +1,4 @@
-//! The languages of CLDR (`validity/language.xml`), written by tests/locale_texts.py from CLDR's data.
+//! The languages of CLDR (`validity/language.xml`), written by `locale_texts.py` of the tests from CLDR's data.
 
 /// The codes of languages that are in use.
 pub(crate) const LANGUAGES: &str = "\

@@ -1,4 +1,4 @@
-//! Lists of likely subtags (`likelySubtags.xml`), written by tests/locale_texts.py from CLDR's data.
+//! Lists of likely subtags (`likelySubtags.xml`), written by `locale_texts.py` of the tests from CLDR's data.
 
 /// Languages, a region or nothing, and the script that is likely there.
 pub(crate) const LIKELY_SCRIPTS: &str = "\

@@ -1,5 +1,5 @@
 //! What people write for a language: a region (`likelySubtags.xml`) or a name in English (`en.xml`),
-//! written by tests/locale_texts.py from CLDR's data.
+//! written by `locale_texts.py` of the tests from CLDR's data.
 
 /// Regions, and the language that is likely there.
 pub(crate) const REGION_LANGUAGES: &str = "\
