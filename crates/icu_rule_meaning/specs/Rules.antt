@@ -1,6 +1,6 @@
 -- Rules one by one: what a list of statements says of the order (UTS #35 part 5, "Collation Tailorings").
-use Rattle.std.specs.Prelude.{ℕ, Bool, ◌+◌, ◌-◌, ◌||◌, ◌&&◌, nat_le, nat_lt, List, [], ◌∷◌, map, filter, flat_map, Option}
-use Rattle.std.specs.List.{list_any, range_with_len}
+use Rattle.std.specs.Prelude.{ℕ, Bool, ◌+◌, ◌-◌, ◌||◌, nat_lt, List, [], ◌∷◌, map, filter, flat_map, Option}
+use Rattle.std.specs.List.{range_with_len}
 use Rattle.icu_options.specs.declared.settings.Strength.{Strength}
 use Rattle.icu_options.specs.declared.settings.Strength.TheVariants.{Primary, Secondary, Tertiary, Quaternary, Identical}
 use Rattle.icu_rule_parser.specs.declared.statement.CharacterRange.{CharacterRange}
@@ -13,6 +13,8 @@ use Rattle.icu_rule_parser.specs.declared.statement.StarredRelation.{StarredRela
 use Rattle.icu_rule_parser.specs.declared.statement.Statement.{Statement}
 use Rattle.icu_rule_parser.specs.declared.statement.Statement.TheVariants as statements
 use Rattle.icu_rule_parser.specs.declared.rules.PlacedStatement.{PlacedStatement}
+
+pub use Rattle.icu_rule_parser.specs.CharacterSets.{have_character}
 
 -- where a reset goes
 pub data ResetPlace : Type 0 where
@@ -50,10 +52,6 @@ is_scalar c = nat_lt c 0xD800 || nat_lt 0xDFFF c
 -- the characters of a range
 abbrev pub characters_of : CharacterRange → List ℕ
 characters_of range = filter is_scalar (range_with_len range.first (range.last + 1 - range.first))
-
--- one of the ranges has the character
-abbrev pub have_character : List CharacterRange → ℕ → Bool
-have_character ranges c = list_any (λ (range : CharacterRange). nat_le range.first c && nat_le c range.last) ranges
 
 -- a relation of one character
 abbrev pub lone_relation : Strength → ℕ → Rule

@@ -84,9 +84,9 @@ first_of_setting (settings.Normalization on) tokens e = first_bracket tokens e
 first_of_setting settings.HiraganaQuaternaryOff tokens e = first_bracket tokens e
 first_of_setting settings.VowelSign tokens e = (vowel_sign, [], inr refl, e)
 first_of_setting (settings.Reorder groups) tokens (words, w, n, e) = first_bracket tokens e
-first_of_setting (settings.SuppressContractions ranges) tokens e =
-    (set_bracket (codes "suppressContractions") ranges.items, [], inl refl, e)
-first_of_setting (settings.Optimize ranges) tokens e = (set_bracket (codes "optimize") ranges.items, [], inl refl, e)
+first_of_setting (settings.SuppressContractions ranges) tokens (stated, of, e) =
+    (set_bracket (codes "suppressContractions") stated, [], inl refl, e)
+first_of_setting (settings.Optimize ranges) tokens (stated, of, e) = (set_bracket (codes "optimize") stated, [], inl refl, e)
 
 first_of : (s : Statement) (tokens : List Token) → AreStatement s tokens → First s tokens
 first_of (statements.Reset reset) tokens (before, anchor, b, a, e) = (reset_sign, before ++ anchor, refl, e)

@@ -1,7 +1,6 @@
 -- Where a part of a statement is at fault.
 use Rattle.std.proofs.Common.{ℕ, Bool, true, false, ◌≡◌, inl, inr, List, [], ◌∷◌, ◌++◌, ap, ◌∙◌, sym, refl, subst, arith}
 use Rattle.std.proofs.lemmas.List.{append-nil}
-use Rattle.std.proofs.lemmas.Bool.{not-true}
 use Rattle.icu_rule_parser.specs.declared.relations.Sign.{Sign}
 use Rattle.icu_rule_parser.specs.declared.resets.Said.{Said}
 use Rattle.icu_rule_parser.specs.declared.resets.Said.TheVariants as said_by

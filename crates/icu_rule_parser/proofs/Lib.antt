@@ -2,6 +2,8 @@ pub mod SkipLemmas
 pub mod EscapeLemmas
 pub mod StringLemmas
 pub mod BracketLemmas
+pub mod CodeRangeLemmas
+pub mod OpenSetLemmas
 pub mod StatementLemmas
 pub mod ParsingLemmas
 pub mod StarredLemmas
@@ -10,6 +12,7 @@ pub mod ImportLemmas
 pub mod FaultPlaceLemmas
 pub mod StringOnce
 pub mod WordsOnce
+pub mod SetsOnce
 pub mod TokensOnce
 pub mod StatementsOnce
 pub mod SayingsOnce

@@ -1,7 +1,7 @@
 -- Statements, taken one at a time.
 use Rattle.std.proofs.Common.{ℕ, true, false, ◌≡◌, inl, inr, List, [], ◌∷◌, ◌++◌, ap, ◌∙◌, sym, refl, subst, append_assoc}
 use Rattle.std.specs.Prelude.{codes}
-use Rattle.std.proofs.lemmas.List.{append-nil, nil_from_length}
+use Rattle.std.proofs.lemmas.List.{append-nil}
 use Rattle.icu_options.specs.declared.settings.Strength.{Strength}
 use Rattle.icu_rule_parser.specs.declared.chain.Chain.{Chain}
 use Rattle.icu_rule_parser.specs.declared.chain.Chain.TheVariants as chains

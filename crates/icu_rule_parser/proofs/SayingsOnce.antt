@@ -1,5 +1,7 @@
 -- Tokens say one thing: what the statements say, whose tokens they are.
 use Rattle.std.proofs.Common.{ℕ, Bool, true, false, cond, nat_eq, ◌&&◌, Option, Some, None, String, List, [], ◌∷◌, ◌++◌, map, ◌≡◌, inl, inr, ap, ◌∙◌, sym, refl, subst, append_assoc}
+use Rattle.std.specs.Char.{IsScalar}
+use Rattle.std.specs.List.{AllZip}
 use Rattle.std.specs.Prelude.{codes, string_bytes, encode_utf8_all}
 use Rattle.std.specs.declared.alloc.Global.{Global}
 use Rattle.icu_options.specs.declared.settings.Strength.{Strength}
@@ -19,10 +21,11 @@ use Rattle.icu_rule_parser.specs.declared.statement.RuleSetting.{RuleSetting}
 use Rattle.icu_rule_parser.specs.declared.statement.RuleSetting.TheVariants as settings
 use Rattle.icu_rule_parser.specs.declared.statement.Statement.{Statement}
 use Rattle.icu_rule_parser.specs.declared.statement.Statement.TheVariants as statements
+use Rattle.icu_rule_parser.specs.CharacterSets.{have_character, parts_have}
 use Rattle.icu_rule_parser.specs.Tokens.{Token, reset_sign, relation_sign, prefix_sign, extension_sign, range_sign, vowel_sign, string, bracket, set_bracket}
 use Rattle.icu_rule_parser.specs.RuleWords.{position_words, NamesPosition, level_word, IsAlternateWord}
 use Rattle.icu_rule_parser.specs.Statements.{AreBefore, AreAnchor, prefix_tokens, extension_tokens, single, dashed_tokens, NameRanges, WriteWords, AreSetting, AreStatement, AreStatements}
-use Rattle.icu_rule_parser.specs.Sayings.{Target, at_string, at_position, Saying, resets_to, relates, relates_each, sets, reorders, suppresses, optimizes, imports, target, setting_saying, saying}
+use Rattle.icu_rule_parser.specs.Sayings.{Target, at_string, at_position, Saying, resets_to, relates, relates_each, sets, reorders, suppresses, optimizes, imports, target, setting_saying, saying, ranges_of_setting, ranges_of_set, SetsAgree}
 
 -- ---- words
 
@@ -140,8 +143,7 @@ first_saying (relation_sign k false ∷ more) = relation_by k more
 first_saying (relation_sign k true ∷ string s ∷ more) = starred_by k (ranges_by s more)
 first_saying (vowel_sign ∷ more) = (sets settings.VowelSign, more)
 first_saying (bracket words ∷ more) = (words_saying words, more)
-first_saying (set_bracket word ranges ∷ more) =
-    (cond (same_text word (codes "optimize")) (optimizes ranges) (suppresses ranges), more)
+first_saying (set_bracket word stated ∷ more) = (cond (same_text word (codes "optimize")) optimizes suppresses, more)
 first_saying more = (sets settings.VowelSign, more)
 
 -- what a statement begins with, or nothing
@@ -327,8 +329,8 @@ setting_says settings.VowelSign mine more e = ap (λ t. first_saying (t ++ more)
 setting_says (settings.Reorder groups) mine more (words, w, n, e) =
     one_bracket (codes "reorder" ∷ words) mine more (reorders (map string_bytes groups.items)) e
     (ap reorders (groups_say groups.items words w))
-setting_says (settings.SuppressContractions ranges) mine more e = ap (λ t. first_saying (t ++ more)) e
-setting_says (settings.Optimize ranges) mine more e = ap (λ t. first_saying (t ++ more)) e
+setting_says (settings.SuppressContractions ranges) mine more (stated, of, e) = ap (λ t. first_saying (t ++ more)) e
+setting_says (settings.Optimize ranges) mine more (stated, of, e) = ap (λ t. first_saying (t ++ more)) e
 
 statement_says : (statement : Statement) (mine more : List Token) → AreStatement statement mine → Opens more → first_saying (mine ++ more) ≡ (saying statement, more)
 statement_says (statements.Reset reset) mine more (first, second, b, a, e) o =
@@ -377,8 +379,8 @@ setting_starts (settings.Normalization on) mine more e = subst (λ t. Starts (t 
 setting_starts settings.HiraganaQuaternaryOff mine more e = subst (λ t. Starts (t ++ more)) (sym e) tt
 setting_starts settings.VowelSign mine more e = subst (λ t. Starts (t ++ more)) (sym e) tt
 setting_starts (settings.Reorder groups) mine more (words, w, n, e) = subst (λ t. Starts (t ++ more)) (sym e) tt
-setting_starts (settings.SuppressContractions ranges) mine more e = subst (λ t. Starts (t ++ more)) (sym e) tt
-setting_starts (settings.Optimize ranges) mine more e = subst (λ t. Starts (t ++ more)) (sym e) tt
+setting_starts (settings.SuppressContractions ranges) mine more (stated, of, e) = subst (λ t. Starts (t ++ more)) (sym e) tt
+setting_starts (settings.Optimize ranges) mine more (stated, of, e) = subst (λ t. Starts (t ++ more)) (sym e) tt
 
 statement_starts : (statement : Statement) (mine more : List Token) → AreStatement statement mine → Starts (mine ++ more)
 statement_starts (statements.Reset reset) mine more (first, second, b, a, e) = subst (λ t. Starts (t ++ more)) (sym e) tt
@@ -399,9 +401,41 @@ nothing_stated statement mine rest a e =
 both_parts : {p q : Saying × List Token} → p ≡ q → (p.0 ≡ q.0) × (p.1 ≡ q.1)
 both_parts e = (ap (λ (p : Saying × List Token). p.0) e, ap (λ (p : Saying × List Token). p.1) e)
 
--- Statements that have the same tokens say the same.
-pub says_once : (first second : List Statement) (tokens others : List Token) → AreStatements first tokens → AreStatements second others → tokens ≡ others → map saying first ≡ map saying second
-says_once [] [] tokens others e f h = refl
+-- ---- sets
+
+-- whether the set that tokens begin with has a character
+abbrev first_has : List Token → ℕ → Option Bool
+first_has (set_bracket word stated ∷ more) c = parts_have c [] stated
+first_has tokens c = Some false
+
+setting_has : (setting : RuleSetting) (mine more : List Token) (c : ℕ) → IsScalar c → AreSetting setting mine → first_has (mine ++ more) c ≡ Some (have_character (ranges_of_setting setting) c)
+setting_has (settings.Strength level) mine more c k e = ap (λ t. first_has (t ++ more) c) e
+setting_has (settings.Alternate handling) mine more c k (word, w, e) = ap (λ t. first_has (t ++ more) c) e
+setting_has (settings.MaxVariable group) mine more c k e = ap (λ t. first_has (t ++ more) c) e
+setting_has (settings.CaseFirst first) mine more c k e = ap (λ t. first_has (t ++ more) c) e
+setting_has (settings.CaseLevel level) mine more c k e = ap (λ t. first_has (t ++ more) c) e
+setting_has (settings.NumericOrdering ordering) mine more c k e = ap (λ t. first_has (t ++ more) c) e
+setting_has settings.Backwards mine more c k e = ap (λ t. first_has (t ++ more) c) e
+setting_has (settings.Normalization on) mine more c k e = ap (λ t. first_has (t ++ more) c) e
+setting_has settings.HiraganaQuaternaryOff mine more c k e = ap (λ t. first_has (t ++ more) c) e
+setting_has settings.VowelSign mine more c k e = ap (λ t. first_has (t ++ more) c) e
+setting_has (settings.Reorder groups) mine more c k (words, w, n, e) = ap (λ t. first_has (t ++ more) c) e
+setting_has (settings.SuppressContractions ranges) mine more c k (stated, of, e) = ap (λ t. first_has (t ++ more) c) e ∙ of c k
+setting_has (settings.Optimize ranges) mine more c k (stated, of, e) = ap (λ t. first_has (t ++ more) c) e ∙ of c k
+
+statement_has : (statement : Statement) (mine more : List Token) (c : ℕ) → IsScalar c → AreStatement statement mine → first_has (mine ++ more) c ≡ Some (have_character (ranges_of_set statement) c)
+statement_has (statements.Reset reset) mine more c k (first, second, b, a, e) = ap (λ t. first_has (t ++ more) c) e
+statement_has (statements.Relation r) mine more c k (context, e) = ap (λ t. first_has (t ++ more) c) e
+statement_has (statements.Starred r) mine more c k (first, others, n, inert, e) = ap (λ t. first_has (t ++ more) c) e
+statement_has (statements.Setting setting) mine more c k a = setting_has setting mine more c k a
+statement_has (statements.Import tag) mine more c k (word, w, e) = ap (λ t. first_has (t ++ more) c) e
+
+some_truth : {a b : Bool} → Some a ≡ Some b → a ≡ b
+some_truth e = cc
+
+-- Statements that have the same tokens say the same, and their sets have the same characters.
+pub says_once : (first second : List Statement) (tokens others : List Token) → AreStatements first tokens → AreStatements second others → tokens ≡ others → (map saying first ≡ map saying second) × AllZip SetsAgree first second
+says_once [] [] tokens others e f h = (refl, tt)
 says_once [] (s ∷ second) tokens others e (mine, rest, a, m, f) h =
     absurd (nothing_stated s mine rest a (sym e ∙ h ∙ f))
 says_once (s ∷ first) [] tokens others (mine, rest, a, m, e) f h =
@@ -409,5 +443,12 @@ says_once (s ∷ first) [] tokens others (mine, rest, a, m, e) f h =
 says_once (s ∷ first) (t ∷ second) tokens others (ma, ra, aa, na, ea) (mb, rb, ab, nb, eb) h =
     let p = statement_says s ma ra aa (statements_open first ra na) in
     let q = statement_says t mb rb ab (statements_open second rb nb) in
-    let r = both_parts (sym p ∙ ap first_saying (sym ea ∙ h ∙ eb) ∙ q) in
-    ap (λ k. k ∷ map saying first) r.0 ∙ ap (λ k. saying t ∷ k) (says_once first second ra rb na nb r.1)
+    let same : ma ++ ra ≡ mb ++ rb = sym ea ∙ h ∙ eb in
+    let r = both_parts (sym p ∙ ap first_saying same ∙ q) in
+    let more = says_once first second ra rb na nb r.1 in (
+      ap (λ k. k ∷ map saying first) r.0 ∙ ap (λ k. saying t ∷ k) more.0,
+      (
+        λ c k. some_truth (sym (statement_has s ma ra c k aa) ∙ ap (λ u. first_has u c) same ∙ statement_has t mb rb c k ab),
+        more.1,
+      ),
+    )

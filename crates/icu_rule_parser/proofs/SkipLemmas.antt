@@ -61,7 +61,7 @@ token_nonempty vowel_sign text e s = cc
 token_nonempty (string cs) text e (some, spelled, allowed) = some (no_characters cs text e spelled)
 token_nonempty (bracket words) text e (inl (inside, each, same)) = let h : [] ≡ 91 ∷ (inside ++ 93 ∷ []) = sym e ∙ same in cc
 token_nonempty (bracket words) text e (inr (same, named)) = cc
-token_nonempty (set_bracket word set) text e (named, inside, after, n, s, w, same) = cc
+token_nonempty (set_bracket word set) text e (named, inside, n, c, s, same) = let h : [] ≡ 91 ∷ (named ++ inside ++ 93 ∷ []) = sym e ∙ same in cc
 
 blank_white : (c : ℕ) (b : List ℕ) → nat_eq c 35 ≡ false → is_white c ≡ true → IsBlank b → IsBlank (c ∷ b)
 unfolding is_blank

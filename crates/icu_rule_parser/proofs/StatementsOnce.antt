@@ -66,9 +66,9 @@ setting_stands (settings.Normalization on) mine e more h = bracket_stands e more
 setting_stands settings.HiraganaQuaternaryOff mine e more h = bracket_stands e more h
 setting_stands settings.VowelSign mine e more h = subst (λ t. Stands (t ++ more)) (sym e) ((tt, h.0), tt)
 setting_stands (settings.Reorder groups) mine (words, w, n, e) more h = bracket_stands e more h
-setting_stands (settings.SuppressContractions ranges) mine e more h =
+setting_stands (settings.SuppressContractions ranges) mine (stated, of, e) more h =
     subst (λ t. Stands (t ++ more)) (sym e) ((tt, h.0), tt)
-setting_stands (settings.Optimize ranges) mine e more h = subst (λ t. Stands (t ++ more)) (sym e) ((tt, h.0), tt)
+setting_stands (settings.Optimize ranges) mine (stated, of, e) more h = subst (λ t. Stands (t ++ more)) (sym e) ((tt, h.0), tt)
 
 statement_stands : (statement : Statement) (mine : List Token) → AreStatement statement mine → (more : List Token) → Stands more → Stands (mine ++ more)
 statement_stands (statements.Reset reset) mine a more h = reset_stands reset mine a more h

@@ -5,12 +5,13 @@ use Rattle.std.proofs.lemmas.Bool.{and_parts, cases_Bool}
 use Rattle.std.proofs.lemmas.Bool.Decides.{nat_tests}
 use Rattle.icu_options.specs.declared.settings.Strength.{Strength}
 use Rattle.icu_options.specs.declared.settings.Strength.TheVariants.{Primary, Secondary, Tertiary, Quaternary, Identical}
-use Rattle.icu_rule_parser.specs.declared.statement.CharacterRange.{CharacterRange}
+use Rattle.icu_rule_parser.specs.declared.set_parts.SetPart.{SetPart}
 use Rattle.icu_rule_parser.specs.RuleCharacters.{is_white, is_line_end, is_syntax, is_plain, is_word_character, is_blank, IsBlank, IsTrail}
 use Rattle.icu_rule_parser.specs.RuleStrings.{SpellsCharacters, ends, plain, apostrophe, escaped, opens}
 use Rattle.icu_rule_parser.specs.Tokens.{Token, reset_sign, relation_sign, prefix_sign, extension_sign, range_sign, vowel_sign, string, bracket, set_bracket, IsRelationSign, SpellsToken, SpellsTokens}
 use Rattle.icu_rule_parser.proofs.StringOnce.{head_same, tail_same, not_both, EndsString, characters_once}
-use Rattle.icu_rule_parser.proofs.WordsOnce.{StopsAt, white_at, white_apart, span_once, words_once, set_once, plain_not_white}
+use Rattle.icu_rule_parser.proofs.WordsOnce.{StopsAt, white_at, white_apart, span_once, EndsWords, words_once, plain_not_white}
+use Rattle.icu_rule_parser.proofs.SetsOnce.{BeginsSet, parts_once, set_begins}
 
 -- ---- blanks
 
@@ -191,8 +192,8 @@ starts vowel_sign text e = (33, [], refl, refl, omega arith, e)
 starts (string cs) text (n, s, a) = string_starts cs (string_begins n s)
 starts (bracket words) text (inl (inside, s, e)) = (91, inside ++ 93 ∷ [], refl, refl, omega arith, e)
 starts (bracket words) text (inr (e, w)) = (64, [], refl, refl, omega arith, e)
-starts (set_bracket word set) text (named, inside, after, n, s, w, e) =
-    (91, named ++ 91 ∷ inside ++ 93 ∷ after ++ 93 ∷ [], refl, refl, omega arith, e)
+starts (set_bracket word set) text (named, inside, n, c, s, e) =
+    (91, named ++ inside ++ 93 ∷ [], refl, refl, omega arith, e)
 
 token_visible : (token : Token) (text rest : List ℕ) → SpellsToken token text → IsVisible (text ++ rest)
 token_visible token text rest s =
@@ -357,7 +358,7 @@ View spans token = token ≡ range_sign
 View marks_vowels token = token ≡ vowel_sign
 View spells token = (cs : List ℕ) × (token ≡ string cs)
 View brackets token = ((words : List (List ℕ)) × (token ≡ bracket words))
-    ⊎ ((word : List ℕ) × (set : List CharacterRange) × (token ≡ set_bracket word set))
+    ⊎ ((word : List ℕ) × (set : List SetPart) × (token ≡ set_bracket word set))
 
 view : (token : Token) → View (kind token) token
 view reset_sign = refl
@@ -388,11 +389,18 @@ at_token b c n e s = subst (λ t. SpellsToken t n) e s
 bracket_opens : (inside x : List ℕ) {text : List ℕ} → text ≡ 91 ∷ inside ++ 93 ∷ [] → text ++ x ≡ 91 ∷ (inside ++ 93 ∷ x)
 bracket_opens inside x e = ap (λ t. t ++ x) e ∙ append_assoc (91 ∷ inside) (93 ∷ []) x
 
-set_opens : (named inside after x : List ℕ) {text : List ℕ} → text ≡ 91 ∷ named ++ 91 ∷ inside ++ 93 ∷ after ++ 93 ∷ [] → text ++ x ≡ 91 ∷ (named ++ 91 ∷ (inside ++ 93 ∷ (after ++ 93 ∷ x)))
-set_opens named inside after x e =
-    ap (λ t. t ++ x) e ∙ append_assoc (91 ∷ named ++ 91 ∷ inside ++ 93 ∷ after) (93 ∷ []) x
-    ∙ append_assoc (91 ∷ named ++ 91 ∷ inside) (93 ∷ after) (93 ∷ x)
-    ∙ append_assoc (91 ∷ named) (91 ∷ inside) (93 ∷ (after ++ 93 ∷ x))
+set_opens : (named inside x : List ℕ) {text : List ℕ} → text ≡ 91 ∷ named ++ inside ++ 93 ∷ [] → text ++ x ≡ 91 ∷ (named ++ (inside ++ 93 ∷ x))
+set_opens named inside x e =
+    ap (λ t. t ++ x) e ∙ append_assoc (91 ∷ named ++ inside) (93 ∷ []) x ∙ append_assoc (91 ∷ named) inside (93 ∷ x)
+
+set_ends_words : (text : List ℕ) → BeginsSet text → EndsWords text
+unfolding is_white is_word_character is_plain is_syntax
+set_ends_words text (inl (rest, e)) = subst EndsWords (sym e) (refl, refl)
+set_ends_words text (inr (rest, e)) = subst EndsWords (sym e) (refl, refl)
+
+no_set_closes : (text : List ℕ) {xs : List ℕ} → BeginsSet text → 93 ∷ xs ≡ text → ⊥
+no_set_closes text (inl (rest, e)) f = let h = head_same (f ∙ e) in absurd (omega (arith, h))
+no_set_closes text (inr (rest, e)) f = let h = head_same (f ∙ e) in absurd (omega (arith, h))
 
 words_bracket : (us bs : List (List ℕ)) (m n : List ℕ) {xs ys : List ℕ} → SpellsToken (bracket us) m → SpellsToken (bracket bs) n → m ++ xs ≡ n ++ ys → (bracket us ≡ bracket bs) × (xs ≡ ys)
 unfolding is_white is_word_character is_plain is_syntax
@@ -405,26 +413,27 @@ words_bracket us bs m n {xs} {ys} (inr (f, w)) (inl (i, s, e)) g =
     let h = head_same (ap (λ t. t ++ xs) (sym f) ∙ g ∙ bracket_opens i ys e) in absurd (omega (arith, h))
 words_bracket us bs m n (inr (e, w)) (inr (f, v)) g = (ap bracket (w ∙ sym v), one_sign 64 e f g)
 
-words_and_set : (us : List (List ℕ)) (word : List ℕ) (set : List CharacterRange) (m n xs ys : List ℕ) → SpellsToken (bracket us) m → SpellsToken (set_bracket word set) n → m ++ xs ≡ n ++ ys → ⊥
+words_and_set : (us : List (List ℕ)) (word : List ℕ) (set : List SetPart) (m n xs ys : List ℕ) → SpellsToken (bracket us) m → SpellsToken (set_bracket word set) n → m ++ xs ≡ n ++ ys → ⊥
 unfolding is_white is_word_character is_plain is_syntax
-words_and_set us word set m n xs ys (inl (i, s, e)) (named, inside, after, k, t, w, f) g =
-    let p = words_once us (word ∷ []) i named s k (refl, refl) (refl, refl)
-    (tail_same (sym (bracket_opens i xs e) ∙ g ∙ set_opens named inside after ys f)) in
-    let h = head_same p.1 in omega (arith, h)
-words_and_set us word set m n xs ys (inr (e, v)) (named, inside, after, k, t, w, f) g =
-    let h = head_same (ap (λ t. t ++ xs) (sym e) ∙ g ∙ set_opens named inside after ys f) in omega (arith, h)
+words_and_set us word set m n xs ys (inl (i, s, e)) (named, inside, k, c, t, f) g =
+    let b = set_begins set c.0 inside (93 ∷ ys) c.1 t in
+    let p = words_once us (word ∷ []) i named s k (refl, refl) (set_ends_words (inside ++ 93 ∷ ys) b)
+    (tail_same (sym (bracket_opens i xs e) ∙ g ∙ set_opens named inside ys f)) in
+    no_set_closes (inside ++ 93 ∷ ys) b p.1
+words_and_set us word set m n xs ys (inr (e, v)) (named, inside, k, c, t, f) g =
+    let h = head_same (ap (λ t. t ++ xs) (sym e) ∙ g ∙ set_opens named inside ys f) in omega (arith, h)
 
 same_word : {a b : List ℕ} → a ∷ [] ≡ b ∷ [] → a ≡ b
 same_word e = cc
 
-set_and_set : (a b : List ℕ) (us bs : List CharacterRange) (m n : List ℕ) {xs ys : List ℕ} → SpellsToken (set_bracket a us) m → SpellsToken (set_bracket b bs) n → m ++ xs ≡ n ++ ys → (set_bracket a us ≡ set_bracket b bs) × (xs ≡ ys)
+set_and_set : (a b : List ℕ) (us bs : List SetPart) (m n : List ℕ) {xs ys : List ℕ} → SpellsToken (set_bracket a us) m → SpellsToken (set_bracket b bs) n → m ++ xs ≡ n ++ ys → (set_bracket a us ≡ set_bracket b bs) × (xs ≡ ys)
 unfolding is_white is_word_character is_plain is_syntax
-set_and_set a b us bs m n {xs} {ys} (na, ia, aa, sa, ta, wa, ea) (nb, ib, ab, sb, tb, wb, eb) g =
-    let p = words_once (a ∷ []) (b ∷ []) na nb sa sb (refl, refl) (refl, refl)
-    (tail_same (sym (set_opens na ia aa xs ea) ∙ g ∙ set_opens nb ib ab ys eb)) in
-    let q = set_once us bs ia ib ta tb (tail_same p.1) in
-    let r = span_once is_white aa ab {xs = 93 ∷ xs} {ys = 93 ∷ ys} wa wb refl refl q.1 in
-    (ap (λ w. set_bracket w us) (same_word p.0) ∙ ap (λ s. set_bracket b s) q.0, tail_same r.1)
+set_and_set a b us bs m n {xs} {ys} (na, ia, sa, ca, ta, ea) (nb, ib, sb, cb, tb, eb) g =
+    let p = words_once (a ∷ []) (b ∷ []) na nb sa sb (set_ends_words (ia ++ 93 ∷ xs) (set_begins us ca.0 ia (93 ∷ xs) ca.1 ta))
+    (set_ends_words (ib ++ 93 ∷ ys) (set_begins bs cb.0 ib (93 ∷ ys) cb.1 tb))
+    (tail_same (sym (set_opens na ia xs ea) ∙ g ∙ set_opens nb ib ys eb)) in
+    let q = parts_once [] us bs ca.0 cb.0 ia ib (93 ∷ xs) (93 ∷ ys) ca.1 cb.1 ta tb refl refl p.1 in
+    (ap (λ w. set_bracket w us) (same_word p.0) ∙ ap (λ s. set_bracket b s) q.0, tail_same q.1)
 
 back : {a b c : Token} {xs ys : List ℕ} → b ≡ c → (a ≡ c) × (xs ≡ ys) → (a ≡ b) × (xs ≡ ys)
 back e p = (p.0 ∙ sym e, p.1)

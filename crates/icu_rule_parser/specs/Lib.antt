@@ -1,5 +1,6 @@
 pub mod RuleCharacters
 pub mod RuleStrings
+pub mod CharacterSets
 pub mod Tokens
 pub mod RuleWords
 pub mod Statements

@@ -1,5 +1,5 @@
 -- How strings are spelled, with quotes and escapes (UTS #35 part 5, "Collation Tailorings").
-use Rattle.std.specs.Prelude.{ℕ, Bool, true, false, ◌+◌, ◌*◌, ◌≤◌, ◌<◌, List, [], ◌∷◌, ◌++◌, length, IsTrue, ◌≡◌, ◌≢◌, ◌⊎◌}
+use Rattle.std.specs.Prelude.{ℕ, Bool, true, false, ◌+◌, ◌*◌, ◌≤◌, ◌<◌, List, [], ◌∷◌, ◌++◌, length, IsTrue, ◌≡◌, ◌≢◌}
 use Rattle.std.specs.List.{AllByRecursion}
 use Rattle.std.specs.Char.{IsScalar, digit_value}
 use Rattle.icu_rule_parser.specs.RuleCharacters.{is_plain}
@@ -45,8 +45,3 @@ pub data SpellsCharacters : Bool → List ℕ → List ℕ → Type 0 where
       → SpellsCharacters true cs text → SpellsCharacters false cs (39 ∷ text)
   closes : {cs text : List ℕ} → IsNoQuote text
       → SpellsCharacters false cs text → SpellsCharacters true cs (39 ∷ text)
-
--- a character in a set: as itself, or by an escape
-abbrev pub SpellsCharacter : ℕ → List ℕ → Type 0
-SpellsCharacter c text = (IsTrue (is_plain c) × (text ≡ c ∷ []))
-    ⊎ ((escape : List ℕ) × SpellsEscape c escape × (text ≡ 92 ∷ escape))

@@ -20,6 +20,8 @@ use Rattle.icu_rule_parser.specs.declared.statement.RuleSetting.TheVariants as s
 use Rattle.icu_rule_parser.specs.declared.statement.Statement.{Statement}
 use Rattle.icu_rule_parser.specs.declared.statement.Statement.TheVariants as statements
 use Rattle.icu_rule_parser.specs.Tokens.{Token, reset_sign, relation_sign, prefix_sign, extension_sign, range_sign, vowel_sign, string, bracket, set_bracket, SpellsTokens}
+use Rattle.icu_rule_parser.specs.declared.set_parts.SetPart.{SetPart}
+use Rattle.icu_rule_parser.specs.CharacterSets.{IsSetOf}
 use Rattle.icu_rule_parser.specs.RuleWords.{NamesPosition, level_word, case_level_word, case_first_word, numeric_word, max_variable_word, IsAlternateWord, switch_word}
 
 -- `[before n]` or nothing
@@ -114,6 +116,10 @@ WriteWords (word ∷ words) texts = (text : List ℕ) × (rest : List (List ℕ)
 abbrev pub setting_tokens : List ℕ → List ℕ → List Token
 setting_tokens name value = bracket (name ∷ value ∷ []) ∷ []
 
+-- a name in brackets, and a set that has the characters of the ranges
+abbrev pub AreSetTokens : List ℕ → List CharacterRange → List Token → Type 0
+AreSetTokens name ranges tokens = (stated : List SetPart) × IsSetOf stated ranges × (tokens ≡ set_bracket name stated ∷ [])
+
 -- the tokens of a setting (UTS #35 part 5, "Setting Options")
 abbrev pub AreSetting : RuleSetting → List Token → Type 0
 AreSetting (settings.Strength strength) tokens = tokens ≡ setting_tokens (codes "strength") (level_word strength)
@@ -130,9 +136,8 @@ AreSetting settings.HiraganaQuaternaryOff tokens = tokens ≡ setting_tokens (co
 AreSetting settings.VowelSign tokens = tokens ≡ vowel_sign ∷ []
 AreSetting (settings.Reorder groups) tokens = (words : List (List ℕ)) × WriteWords groups.items words × (words ≢ [])
     × (tokens ≡ bracket (codes "reorder" ∷ words) ∷ [])
-AreSetting (settings.SuppressContractions ranges) tokens =
-    tokens ≡ set_bracket (codes "suppressContractions") ranges.items ∷ []
-AreSetting (settings.Optimize ranges) tokens = tokens ≡ set_bracket (codes "optimize") ranges.items ∷ []
+AreSetting (settings.SuppressContractions ranges) tokens = AreSetTokens (codes "suppressContractions") ranges.items tokens
+AreSetting (settings.Optimize ranges) tokens = AreSetTokens (codes "optimize") ranges.items tokens
 
 -- the tokens of a statement
 abbrev pub AreStatement : Statement → List Token → Type 0

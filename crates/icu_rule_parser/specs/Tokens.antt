@@ -1,12 +1,13 @@
 -- The signs, strings and brackets that rules are written in, and how each is spelled (UTS #35 part 5, "Collation
 -- Tailorings").
-use Rattle.std.specs.Prelude.{ℕ, Bool, true, false, not, ◌+◌, ◌==◌, if◌then◌else◌, ◌≤◌, List, [], ◌∷◌, ◌++◌, IsTrue, ◌≡◌, ◌≢◌, ◌⊎◌, codes}
+use Rattle.std.specs.Prelude.{ℕ, Bool, true, false, not, ◌+◌, ◌==◌, if◌then◌else◌, List, [], ◌∷◌, ◌++◌, IsTrue, ◌≡◌, ◌≢◌, ◌⊎◌, codes}
 use Rattle.std.specs.List.{list_all}
 use Rattle.icu_options.specs.declared.settings.Strength.{Strength}
 use Rattle.icu_options.specs.declared.settings.Strength.TheVariants.{Primary, Secondary, Tertiary, Quaternary, Identical}
-use Rattle.icu_rule_parser.specs.declared.statement.CharacterRange.{CharacterRange}
+use Rattle.icu_rule_parser.specs.declared.set_parts.SetPart.{SetPart}
 use Rattle.icu_rule_parser.specs.RuleCharacters.{is_word_character, is_reserved, IsWhite, IsBlank, IsTrail}
-use Rattle.icu_rule_parser.specs.RuleStrings.{SpellsCharacters, SpellsCharacter}
+use Rattle.icu_rule_parser.specs.RuleStrings.{SpellsCharacters}
+use Rattle.icu_rule_parser.specs.CharacterSets.{IsSet, SpellsParts}
 
 -- what rules are written in
 pub data Token : Type 0 where
@@ -27,7 +28,7 @@ pub data Token : Type 0 where
   -- words in brackets
   bracket : List (List ℕ) → Token
   -- a word and a set in brackets
-  set_bracket : List ℕ → List CharacterRange → Token
+  set_bracket : List ℕ → List SetPart → Token
 
 -- the sign of a strength (UTS #35 part 5, "Collation Tailorings")
 abbrev pub relation_sign_text : Strength → List ℕ
@@ -82,19 +83,6 @@ SpellsWords [] text = IsWhite text
 SpellsWords (word ∷ words) text = (white rest : List ℕ) × IsWhite white × IsBracketWord word × IsNoWord rest
     × SpellsWords words rest × (text ≡ white ++ word ++ rest)
 
--- a range of a set: two characters with a dash between, or one
-abbrev pub SpellsRange : CharacterRange → List ℕ → Type 0
-SpellsRange range text = ((range.first ≡ range.last) × SpellsCharacter range.first text)
-    ⊎ ((first before after last : List ℕ) × SpellsCharacter range.first first × IsWhite before × IsWhite after
-    × SpellsCharacter range.last last × (range.first ≤ range.last)
-    × (text ≡ first ++ before ++ 45 ∷ after ++ last))
-
--- the ranges of a set, with white space round them
-abbrev pub SpellsSet : List CharacterRange → List ℕ → Type 0
-SpellsSet [] text = IsWhite text
-SpellsSet (range ∷ ranges) text = (white mine rest : List ℕ) × IsWhite white × SpellsRange range mine
-    × SpellsSet ranges rest × (text ≡ white ++ mine ++ rest)
-
 -- the text of a token. `@` is an older form of `[backwards 2]`
 abbrev pub SpellsToken : Token → List ℕ → Type 0
 SpellsToken reset_sign text = text ≡ codes "&"
@@ -107,8 +95,8 @@ SpellsToken (string cs) text = (cs ≢ []) × SpellsCharacters false cs text × 
 SpellsToken (bracket words) text =
     ((inside : List ℕ) × SpellsWords words inside × (text ≡ 91 ∷ inside ++ 93 ∷ []))
     ⊎ ((text ≡ codes "@") × (words ≡ codes "backwards" ∷ codes "2" ∷ []))
-SpellsToken (set_bracket word set) text = (named inside after : List ℕ) × SpellsWords (word ∷ []) named
-    × SpellsSet set inside × IsWhite after × (text ≡ 91 ∷ named ++ 91 ∷ inside ++ 93 ∷ after ++ 93 ∷ [])
+SpellsToken (set_bracket word stated) text = (named inside : List ℕ) × SpellsWords (word ∷ []) named × IsSet stated
+    × SpellsParts stated inside × (text ≡ 91 ∷ named ++ inside ++ 93 ∷ [])
 
 -- the tokens one after another with blanks before each, and blanks behind the last
 abbrev pub SpellsTokens : List Token → List ℕ → Type 0

@@ -1,6 +1,8 @@
 //! Statements in brackets.
-ghost use Rattle.std.specs.Prelude.{◌≡◌, ◌≤◌, [], ◌∷◌, length, map, codes, IfOk, IfErr};
+ghost use Rattle.std.specs.Prelude.{◌≡◌, ◌≤◌, [], ◌∷◌, List, length, map, codes, IfOk, IfErr};
 ghost use Rattle.icu_rule_parser.specs.Tokens.{bracket, set_bracket};
+ghost use Rattle.icu_rule_parser.specs.declared.set_parts.SetPart.{SetPart};
+ghost use Rattle.icu_rule_parser.specs.CharacterSets.{IsSetOf};
 ghost use Rattle.icu_rule_parser.specs.Statements.{AreStatement, WritesWord, WriteWords, setting_tokens};
 ghost use Rattle.icu_rule_parser.specs.TakenStatements.{TakesStatement, IsUnrelated};
 ghost use Rattle.icu_rule_parser.specs.TakenFaults.{IsHere, IsInBracket};
@@ -105,7 +107,8 @@ fn of_set(
     word: &[char],
     ranges: Vec<CharacterRange>,
 ) -> Result<Statement, UnplacedError>
-    ensures says { IfOk result (λ s. AreStatement s (set_bracket word.now ranges.items ∷ [])) }
+    ensures says { IfOk result (λ s. (stated : List SetPart) → IsSetOf stated ranges.items →
+        AreStatement s (set_bracket word.now stated ∷ [])) }
     ensures unrelated { IfOk result IsUnrelated }
     ensures fault { IfErr result (λ e. IsHere e text.now) }
 {

@@ -1,16 +1,15 @@
-//! Words and sets in brackets.
+//! Words in brackets, and sets behind a word.
 ghost use Rattle.std.specs.Prelude.{◌≡◌, ◌+◌, ◌<◌, ◌≤◌, [], ◌∷◌, ◌++◌, length, map, MatchOption, IsTrue, IfOk, IfErr, IfSome};
 ghost use Rattle.std.specs.List.{list_all};
 ghost use Rattle.icu_rule_parser.specs.RuleCharacters.{is_word_character};
 ghost use Rattle.icu_rule_parser.specs.Tokens.{IsNoWord};
-ghost use Rattle.icu_rule_parser.specs.TakenText.{SkipsWord, TakesWords, TakesMember, TakesRange, TakesSet, Takes, bracket_token};
-ghost use Rattle.icu_rule_parser.specs.TakenFaults.{IsHere, IsInBracket};
-ghost use Rattle.icu_rule_parser.specs.RulePlaces.{sort_of, of_part};
+ghost use Rattle.icu_rule_parser.specs.TakenText.{SkipsWord, TakesWords, TakesBracket};
+ghost use Rattle.icu_rule_parser.specs.TakenFaults.{IsInBracket};
 
-use crate::blanks::{is_plain, is_word_character, skip_white};
-use crate::escapes::read_escape;
+use crate::blanks::{is_word_character, skip_white};
 use crate::first::{behind, split_first};
 use crate::rules_error::RulesErrorKind;
+use crate::sets::read_set;
 use crate::statement::CharacterRange;
 use crate::unplaced_error::UnplacedError;
 use std::alloc::{AllocError, Global};
@@ -104,83 +103,12 @@ pub enum Bracket<'t> {
     Set(&'t [char], Vec<CharacterRange>),
 }
 
-/// The character of a set that a text begins with, and what follows it.
-fn read_member(text: &[char]) -> Option<(char, &[char])>
-    ensures len { IfSome result (λ r. length r.1.now < length text.now) }
-    ensures taken { IfSome result (λ r. TakesMember text.now r.0 r.1.now) }
-{
-    let (c, after) = split_first(text)?;
-    if c == '\\' {
-        read_escape(after)
-    } else if is_plain(c) {
-        Some((c, after))
-    } else {
-        None
-    }
-}
-
-/// Why what a text begins with isn't read in a set, if it is a string, a complement, a property or another set.
-fn unread_member(text: &[char]) -> Option<RulesErrorKind>
-    ensures { IfSome result (λ kind. sort_of kind ≡ of_part) }
-{
+/// Whether a text begins as a set does.
+fn begins_set(text: &[char]) -> bool {
     match text {
-        ['{', ..] => Some(RulesErrorKind::StringInSet),
-        ['^' | '[' | ':', ..] | ['\\', 'p' | 'P' | 'N', '{', ..] => Some(
-            RulesErrorKind::UnlistedSet,
-        ),
-        _ => None,
+        ['[', ..] | ['\\', 'p' | 'P', '{', ..] => true,
+        _ => false,
     }
-}
-
-/// The range of a set that a text begins with, and what follows it.
-fn read_range(text: &[char]) -> Result<(CharacterRange, &[char]), RulesErrorKind>
-    ensures len { IfOk result (λ r. length r.1.now < length text.now) }
-    ensures taken { IfOk result (λ r. TakesRange text.now r.0 r.1.now) }
-    ensures part { IfErr result (λ kind. sort_of kind ≡ of_part) }
-{
-    if let Some(kind) = unread_member(text) {
-        return Err(kind);
-    }
-    let Some((first, after)) = read_member(text) else {
-        return Err(RulesErrorKind::CharacterSet);
-    };
-    let Some(dashed) = behind(skip_white(after), '-') else {
-        return Ok((CharacterRange { first, last: first }, after));
-    };
-    let Some((last, after)) = read_member(skip_white(dashed)) else {
-        return Err(RulesErrorKind::RangeWithoutEnd);
-    };
-    if last < first {
-        return Err(RulesErrorKind::DescendingRange);
-    }
-    Ok((CharacterRange { first, last }, after))
-}
-
-/// The set behind its opening bracket, and what follows its closing one. An error has the place of the opening bracket.
-fn read_set<'t>(
-    alloc: Global,
-    bracket: &[char],
-    inside: &'t [char],
-) -> Result<(Vec<CharacterRange>, &'t [char]), UnplacedError>
-    ensures len { IfOk result (λ r. length r.1.now ≤ length inside.now) }
-    ensures taken { IfOk result (λ r. TakesSet inside.now r.0.items r.1.now) }
-    ensures fault { IfErr result (λ e. IsHere e bracket.now) }
-{
-    let mut ranges = Vec::new(alloc);
-    let mut rest = skip_white(inside);
-    while !rest.is_empty() {
-        if let Some(after) = behind(rest, ']') {
-            return Ok((ranges, after));
-        }
-        match read_range(rest) {
-            Ok((range, after)) => {
-                ranges.push(range)?;
-                rest = skip_white(after);
-            }
-            Err(kind) => return Err(UnplacedError::at(bracket, kind)),
-        }
-    }
-    Err(UnplacedError::at(bracket, RulesErrorKind::UnclosedBracket))
 }
 
 /// What stands in the bracket that a text begins with, and what follows it. The text begins with `[`, and `inside` is
@@ -192,18 +120,21 @@ pub(crate) fn read_bracket<'t>(
 ) -> Result<(Bracket<'t>, &'t [char]), UnplacedError>
     requires opened { text.now ≡ 91 ∷ inside.now }
     ensures len { IfOk result (λ r. length r.1.now ≤ length inside.now) }
-    ensures taken { IfOk result (λ r. Takes text.now (bracket_token r.0 ∷ []) r.1.now) }
+    ensures taken { IfOk result (λ r. TakesBracket text.now r.0 r.1.now) }
     ensures fault { IfErr result (λ e. IsInBracket e text.now) }
 {
     let (words, rest) = read_words(alloc, inside)?;
     if let Some(after) = behind(rest, ']') {
         return Ok((Bracket::Words(words), after));
     }
-    let (Some(set), Some(word)) = (behind(rest, '['), only_word(words.as_slice())) else {
+    let Some(word) = only_word(words.as_slice()) else {
         return Err(UnplacedError::at(text, RulesErrorKind::UnclosedBracket));
     };
-    let (ranges, after) = read_set(alloc, rest, set)?;
-    match behind(skip_white(after), ']') {
+    if !begins_set(rest) {
+        return Err(UnplacedError::at(text, RulesErrorKind::UnclosedBracket));
+    }
+    let (ranges, after) = read_set(alloc, rest)?;
+    match behind(after, ']') {
         Some(after) => Ok((Bracket::Set(word, ranges), after)),
         None => Err(UnplacedError::at(text, RulesErrorKind::UnclosedBracket)),
     }

@@ -74,15 +74,24 @@ pub enum RulesErrorKind {
     /// A setting without a value, or with one that it hasn't.
     #[error("expected a value of the setting")]
     UnknownValue,
-    /// A set of something else than characters and ranges.
-    #[error("expected a set of characters and ranges")]
+    /// A set of something else than characters, ranges, sets and properties, or with a sign that may not stand there.
+    #[error("expected a set of characters, ranges, sets and properties, with `^` at its beginning and `&` and `-` between sets")]
     CharacterSet,
     /// A string in a set: contractions are suppressed by their first characters.
     #[error("expected no string in a set: a contraction is suppressed by its first character")]
     StringInSet,
-    /// A complement, a property or another set in a set.
-    #[error("expected a set that lists characters and ranges: `^`, properties and sets within it aren't read")]
-    UnlistedSet,
+    /// A name of a character in a set.
+    #[error("expected no name of a character in a set: its number is written, as \\u0301 or \\x{{301}}")]
+    NamedCharacter,
+    /// A property without its end.
+    #[error("expected `:]` or a closing brace at the end of a property's name")]
+    UnclosedProperty,
+    /// A property that isn't known, or a value that it hasn't.
+    #[error("expected the name of a binary property, a general category or a script, or a property, `=` and its value: others aren't known here")]
+    UnknownProperty,
+    /// More than 100 sets and properties in one set.
+    #[error("expected at most 100 sets and properties in a set")]
+    ManySets,
     /// An import of rules that there aren't.
     #[error("expected a tag of rules")]
     UnknownRules,

@@ -1,10 +1,9 @@
 -- Sets of characters, and which of them have entries of their mappings.
-use Rattle.std.specs.Prelude.{ℕ, ◌≡◌, ◌<◌, Bool, not, ◌&&◌, ◌||◌, nat_le, List}
+use Rattle.std.specs.Prelude.{ℕ, ◌≡◌, ◌<◌, Bool, not, ◌&&◌, ◌||◌, List}
 use Rattle.std.specs.Bool.{MatchBool}
 use Rattle.icu_table_entries.specs.Entries.{fallback_entry}
 use Rattle.icu_table_data.specs.Data.{Data}
 use Rattle.icu_table_data.specs.CodePointTables.{code_point_count}
-use Rattle.icu_rule_parser.specs.declared.statement.CharacterRange.{CharacterRange}
 use Rattle.icu_rule_meaning.specs.Rules.{is_scalar}
 use Rattle.icu_rule_meaning.specs.TailoredRoots.{RootMapping}
 use Rattle.icu_rule_weights.specs.declared.tailoring_numbers.tailoring_numbers.TailoringNumbers.{TailoringNumbers}
@@ -13,9 +12,7 @@ use Rattle.icu_rule_steps.specs.symbolic_mappings.TouchedCharacters.{has_root_co
 use Rattle.icu_rule_steps.specs.declared.symbolic_mappings.kept_mappings.Mappings.{Mappings}
 use Rattle.icu_rule_tables.specs.tailored_entries.GivenMappings.{GivesMappings}
 
--- the range has the character
-abbrev pub is_in_range : CharacterRange → ℕ → Bool
-is_in_range range x = nat_le range.first x && nat_le x range.last
+pub use Rattle.icu_rule_parser.specs.CharacterSets.{is_in_range}
 
 -- no relation touched the character, and the root has mappings of it that depend on what stands around it
 abbrev pub may_lose_contexts : {R : Type 0} → (R → ℕ → List RootMapping) → Mappings R → ℕ → Bool

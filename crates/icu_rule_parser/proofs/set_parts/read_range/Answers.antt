@@ -1,6 +1,6 @@
 use Rattle.std.proofs.Common.{refl}
 use Rattle.icu_rule_parser.proofs.BracketLemmas.{range_pair}
-use Rattle.icu_rule_parser.proofs.brackets.read_range.Goals as goal
+use Rattle.icu_rule_parser.proofs.set_parts.read_range.Goals as goal
 
 pub returns-clause-taken : goal.returns-clause-taken
 returns-clause-taken c =
