@@ -8,8 +8,9 @@ before.) The program is asked for the sort keys at each strength, which have to 
 compares the texts so. FOLDER is that of CLDR's data. A row with `proposed` behind the name is of rules that are a proposal
 (`alt="proposed"`), which no tag asks for: it is asked of a copy of the files in which these rules are accepted.
 
-tests/cldr_pairs.txt has the pairs of ICU4C's own tests of languages, Spanish, Finnish, German, Japanese, Thai, Turkish and of currencies: a tag
-with its settings, two texts, and whether the first is less or they are equal. The program is asked for the sort keys by each tag.
+tests/cldr_pairs.txt has the pairs of ICU4C's own tests of languages, Spanish, Finnish, German, Japanese, Thai, Turkish and of currencies,
+and after these pairs of more languages and tags in the order that ICU 72 gives them: a tag with its settings, two texts, and whether the first
+is less or they are equal. The program is asked for the sort keys by each tag.
 
 It prints each type that is refused with what is said of it, each row that isn't in order, and counts and times. TABLE is written:
 for each locale what its types take, in seconds of processor and in memory at most, from start to end of a comparison. Its status is 1

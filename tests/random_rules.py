@@ -37,6 +37,7 @@ POSITIONS = (
 SETTINGS = (
     "alternate shifted", "alternate non-ignorable", "maxVariable space", "maxVariable punct", "maxVariable symbol", "maxVariable currency",
     "caseFirst upper", "caseFirst lower", "caseFirst off", "backwards 2", "suppressContractions [и]", "suppressContractions [a-c и]",
+    "suppressContractions [^a]", "suppressContractions [[:Cyrl:]-[а-и]]", "suppressContractions [[:L:]&[^и æ]]",
     "optimize [a]", "hiraganaQ off",
 )
 RELATIONS = ("<", "<<", "<<<", "<<<<", "=")
