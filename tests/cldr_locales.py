@@ -442,6 +442,42 @@ def wrong_sorts(program):
     return found
 
 
+# Searches for ab in a-b, which are equal by the types search alone, of Swedish and of the root: variables, words, and whether the line is found.
+TYPES_OF_SEARCHES = [
+    ({}, ["-l", "sv"], True),
+    ({}, ["-l", "sv_SE.UTF-8@euro"], True),
+    ({"LANG": "sv_SE.UTF-8"}, [], True),
+    ({}, ["-l", "sv-u-kn"], True),
+    ({}, ["-l", "sv-u-ks-level2-x-u-a"], True),
+    ({}, ["-l", "sv-x-u-co"], True),
+    ({}, ["-l", "sv-t-de-u-kn"], True),
+    ({}, ["-l", "sv-u-kn-t-de"], True),
+    ({}, ["-l", "sv", "-1"], True),
+    ({}, ["-l", "sv-u-co-search"], True),
+    ({}, ["-l", "sv-u-co-standard"], False),
+    ({}, ["-l", "sv-u-co-reformed"], False),
+    # A language that has the root's, the root, and no language.
+    ({}, ["-l", "da"], True),
+    ({}, ["-l", "und"], False),
+    ({"LANG": "C"}, [], False),
+]
+
+
+def wrong_types(program, room):
+    """Searches by another type than that of the language for searches, if the tag has none; and by a table file."""
+    found, tables = [], os.path.join(room, "types.tables")
+    for tag, is_found in (("sv", False), ("sv-u-co-search", True)):
+        run_in(program, ["compile", "--cldr", FOLDER, "-l", tag, "-o", tables])
+        ran = run_in(program, ["search", "--tables", tables, "ab"], {}, b"a-b\n")
+        if ran.came_to() != (int(not is_found), b"a-b\n" * is_found, b""):
+            found.append(f"search by tables of {tag}: {ran}; wanted: {is_found}")
+    for variables, words, is_found in TYPES_OF_SEARCHES:
+        ran = run_in(program, ["search", "--cldr", FOLDER, *words, "ab"], variables, b"a-b\n")
+        if ran.came_to() != (int(not is_found), b"a-b\n" * is_found, b""):
+            found.append(f"search {variables} {words}: {ran}; wanted: {is_found}")
+    return found
+
+
 def check_locales(report, room, program):
     report.say("collate-cldr: languages and their settings", wrong_signs(program),
                len(SIGNED) + 2 * len(WRITTEN) + len(NOTICED) + len(ENVIRONMENTS))
@@ -453,3 +489,4 @@ def check_locales(report, room, program):
     report.say("collate-cldr: files in other forms of text", wrong_texts(program, room), 4)
     report.say("collate-cldr: locales that are listed", wrong_lists(program), 1)
     report.say("collate-cldr: lines by languages", wrong_sorts(program), 3)
+    report.say("collate-cldr: types by which is searched", wrong_types(program, room), len(TYPES_OF_SEARCHES) + 2)

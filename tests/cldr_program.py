@@ -168,9 +168,11 @@ def wrong_manual(program, page):
     """Options of commands that the manual page has and no --help, or the other way round."""
     said = options_of_help(program)
     listed = options_of_page(page, {name for name, _ in said})
+    wide = [f"--help of {name} has {len(line)} columns: {line}" for name in {name for name, _ in said}
+            for line in run(program, [name, "--help"] if name != "none" else ["--help"]).output.decode().splitlines() if len(line) > 80]
     unlisted = [f"the synopsis hasn't {name}" for name, _ in said if name != "none" and f"\n    collate-cldr {name} [OPTIONS]" not in page]
     return ([f"no --help of {name} has {it}" for name, it in sorted(listed - said)]
-            + [f"the manual hasn't {it} of {name}" for name, it in sorted(said - listed)] + sorted(set(unlisted)))
+            + [f"the manual hasn't {it} of {name}" for name, it in sorted(said - listed)] + sorted(set(unlisted)) + wide)
 
 
 def wrong_files(program, room):
@@ -362,7 +364,38 @@ COMMANDS = [
     (over("sort", "3", "--csv", "--column", "1"), NAMES, lambda at, count, after: at > count - LAST_ONES),
     (over("sort", "3", "-k1,1nr", "-k2"), NAMES, lambda at, count, after: at > count - LAST_ONES),
     (CHECK, b"a\nb\n", lambda at, count, after: at > count - LAST_ONES),
+    (over("sort", "3", "-n"), b"10\n9\n", lambda at, count, after: at > count - LAST_ONES),
+    (over("sort", "3", "--debug", "-k1,1"), NAMES, lambda at, count, after: at > count - LAST_ONES),
+    (over("search", "1", "--line-buffered", "-nb", "a"), NAMES, lambda at, count, after: at > count - LAST_ONES),
 ]
+# What is said of a request that is refused while several files are read.
+READ_REASONS = (b": no memory", b": write failed", b": Input/output error", b": Resource temporarily unavailable", b": read failed")
+
+
+def loses_files(plain, refused, ran):
+    """Whether a run over several files did right where a request was refused: its whole answer, or status 3, a line that says what was
+    refused, and of its answer as many lines as it could, in their order."""
+    if not refused.is_error() or refused.request == "allocation" and not refused.also_after and not ran.status:
+        return ran.came_to() == plain.came_to()
+    left, said = iter(plain.output.splitlines()), ran.faults.splitlines()
+    is_said = all(it.startswith(b"collate-cldr: ") and it.endswith(READ_REASONS) for it in said)
+    is_silent = refused.request == "write" and refused.also_after
+    return ran.status == 3 and is_said and (is_silent or bool(said)) and all(it in left for it in ran.output.splitlines())
+
+
+def check_refused_folders(report, room, program, shim):
+    """Each request refused of a search below a folder, and of a sort of files that a list names."""
+    top, names = os.path.join(room, "below"), os.path.join(room, "names0")
+    files = [os.path.join(top, it) for it in ("one", "sub/two", "three")]
+    os.makedirs(os.path.join(top, "sub"))
+    for path, text in zip(files, ("a\n", "b\na\n", "a\n")):
+        with open(path, "w", encoding="utf-8") as it:
+            it.write(text)
+    with open(names, "w", encoding="utf-8") as it:
+        it.write("".join(f"{path}\0" for path in files))
+    for words in (over("search", "3", "-r", "a", top), over("sort", "3", f"--files0-from={names}")):
+        outcomes = sweep(shim, program, words, b"", [*REQUESTS, "file"], loses_files, lambda at, count, after: at > count - LAST_ONES)
+        report.say(f"collate-cldr: each request refused, {words[0]} of several files", faults_of(outcomes), len(outcomes))
 
 
 def check_refused(report, program, shim):
@@ -423,6 +456,7 @@ def check_collate_cldr(report, room, shim):
     report.say("collate-cldr: options of which the last counts", wrong_options(program, LAST), 4 * len(LAST))
     report.say("collate-cldr: programs with a fault are found", faults_missed(room, program), len(FAULTY))
     check_refused(report, program, shim)
+    check_refused_folders(report, folder, program, shim)
     cuts = cut_lines(letter_lines())
     report.say("collate-cldr: each line of a file cut at each place", wrong_cuts(program, room, cuts), len(cuts))
     ends = os.path.getsize(LETTERS)

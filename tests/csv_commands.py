@@ -44,6 +44,9 @@ SORTED = [
     (["--column", "1:nr", "--column", "2:r"], "1,a\n2,b\n2,c\n", "2,c\n2,b\n1,a\n"),
     (["--column", "1:rn"], "-1,a\n2,b\nx,c\n", "2,b\nx,c\n-1,a\n"),
     (["-u", "--column", "1:n"], "1,a\n01,b\n2,c\n", "1,a\n2,c\n"),
+    # -n is said of columns without letters.
+    (["-n", "--column", "1"], "10,a\n9,b\n", "9,b\n10,a\n"),
+    (["-n", "--column", "1:r", "--column", "2"], "a,10\nb,1\na,9\n", "b,1\na,9\na,10\n"),
 ]
 # Words that are wrong, and what is named.
 WRONG_WORDS = [
@@ -60,6 +63,7 @@ WRONG_WORDS = [
     (["--csv", "--column", "1", "--delimiter", "ab"], "'ab'"),
     (["--csv", "--column", "1", "-k1"], "--key"),
     (["--csv", "--column", "1", "-z"], "--zero-terminated"),
+    (["--csv", "--column", "1", "-b"], "-b"),
     (["--csv", "--column", "1", "x", "y"], "one file"),
 ]
 # Further words, an input that is refused, and what is said.

@@ -8,6 +8,7 @@ import shutil
 import subprocess
 import tempfile
 
+import crates
 from sweeps import TOP, built
 
 PAGES = ["README.md", "docs/COLLATE_CLDR.md", "docs/STORED_INDEX.md", "docs/USING.md", "crates/collate/README.md"]
@@ -76,6 +77,21 @@ def run_page(page, bin_folder, has_data):
     return found, count, left
 
 
+# A row of the table of what languages find: the language, what is searched for, in what, and whether it is found by default and by -1.
+FOUND = re.compile(r"(?m)^\| `([\w-]+)` \| (\S+) \| (\S+) \| (yes|no) \| (yes|no) \|$")
+
+
+def wrong_finds(page, bin_folder):
+    """Rows of that table that aren't as run, and how many there are."""
+    rows, found = FOUND.findall(crates.read(os.path.join(TOP, page))), []
+    for language, pattern, text, *wanted in rows:
+        ran = [subprocess.run([f"{bin_folder}/collate-cldr", "search", "-q", "-l", language, *words, "--", pattern], env={"CLDR_DIR": CLDR},
+                              input=f"{text}\n", text=True, capture_output=True, check=False) for words in ([], ["-1"])]
+        if [("yes", "no", it.stderr)[min(it.returncode, 2)] for it in ran] != wanted:
+            found.append(f"search -l {language} {pattern} in {text}: {ran}; wanted: {wanted}")
+    return found if len({it[0] for it in rows}) >= 10 else [f"too few languages in the table of {page}: {rows}"], 2 * len(rows)
+
+
 def has_data(bin_folder):
     """Whether the data of CLDR 41 are installed, by which the pages' examples were run."""
     if not os.path.isfile(os.path.join(CLDR, "common", "uca", "FractionalUCA.txt")):
@@ -94,5 +110,7 @@ def check_examples(report):
             found, count = found + wrong, count + ran
             for it in why:
                 left[it] = left.get(it, 0) + 1
+        if data:
+            report.say("what languages find, in the manual's table", *wrong_finds("docs/COLLATE_CLDR.md", room))
         said = "".join(f"; {number} not run: {why}" for why, number in left.items())
         report.say(f"examples of the pages{said}", found, count)

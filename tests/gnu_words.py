@@ -22,18 +22,18 @@ SPELLED = {"-l": "--files-with-matches"}
 
 def words_for_sort(chance):
     """Options that both programs take."""
-    words = [it for it in ("-r", "-s", "-u") if chance.random() < 0.25]
+    words = [it for it in ("-r", "-s", "-u", "-n", "-b") if chance.random() < 0.25]
     letters = lambda: "".join(it for it in "bnr" if chance.random() < 0.2)
     place = lambda: f"{chance.randint(1, 3)}" + (f".{chance.randint(1, 4)}" if chance.random() < 0.3 else "") + letters()
     for _ in range(chance.choice([0, 0, 1, 2])):
         words += ["-k", place() + ("," + place() if chance.random() < 0.6 else "")]
     words += ["-t", chance.choice([".", "-", "a", "\\0"])] * (chance.random() < 0.4)
-    return words + chance.choice([[], [], ["--parallel=2"], ["--batch-size=9"], ["-z"], ["-c"], ["-C"]])
+    return words + chance.choice([[], [], ["--parallel=2"], ["--batch-size=9"], ["-z"], ["-c"], ["-C"], ["--debug"]])
 
 
 def words_for_search(chance):
     """Options that both programs take, with the patterns behind them."""
-    words = [it for it in ("-n", "-x", "-v", "-H", "-h", "-o") if chance.random() < 0.2]
+    words = [it for it in ("-n", "-b", "-x", "-v", "-H", "-h", "-o", "--line-buffered") if chance.random() < 0.2]
     words += chance.choice([[], [], [], ["-c"], ["-l"], ["-L"], ["-q"], ["-z"]])
     words += chance.choice([[], [], [f"-m{chance.randint(0, 4)}"]])
     for option in "ABC":
@@ -57,7 +57,8 @@ def by_gnu(command, words, given):
     return ran.returncode, ran.stdout
 
 
-EMPTY, NONE_COUNTED = "matches of an empty pattern", "a count of at most no lines"
+EMPTY, NONE_COUNTED, NEARBY = "matches of an empty pattern", "a count of at most no lines", "matches of lines nearby"
+REASONS = [EMPTY, NONE_COUNTED, NEARBY]
 
 
 def reason_of_search(words, patterns):
@@ -68,6 +69,9 @@ def reason_of_search(words, patterns):
     # GNU grep prints no count of no lines.
     if "-m0" in words and "-c" in words:
         return NONE_COUNTED
+    # GNU grep prints the matches of lines near those that hold none.
+    if {"-o", "-v"} <= {*words} and any(it[:2] in ("-A", "-B", "-C") for it in words):
+        return NEARBY
     return None
 
 
@@ -113,7 +117,7 @@ def unlike(program, over, letters, room, times, seed=81):
     for _ in range(times):
         for tried in (tried_sort, tried_search):
             said = tried(chance, program, over, letters, room)
-            if said in (EMPTY, NONE_COUNTED):
+            if said in REASONS:
                 reasons[said] += 1
             elif said:
                 found.append(said)

@@ -2,6 +2,7 @@
 by fields beside those of GNU `sort`."""
 import os
 import random
+import select
 import subprocess
 
 import gnu_words
@@ -130,6 +131,15 @@ SEARCHES = [
      f"{NAME}(standard input){OFF}{MARK}-{OFF}{NUMBER}2{OFF}{MARK}-{OFF}b\n"),
     (["3", "-A0", "--colour=always"], "a", "a\nb\na\n", 0, f"{ON}a{OFF}\n{MARK}--{OFF}\n{ON}a{OFF}\n"),
     (["3", "-F", "--line-buffered"], "a", "b\na\n", 0, "a\n"),
+    # How many bytes are before each line, or before each match: as GNU grep.
+    (["3", "-b"], "a", "b\náa\nca\n", 0, "2:áa\n6:ca\n"),
+    (["3", "-nb"], "a", "b\na\n", 0, "2:2:a\n"),
+    (["3", "-ob"], "a", "ba a\na\n", 0, "1:a\n3:a\n5:a\n"),
+    (["3", "-bA1"], "a", "b\na\nc\n", 0, "2:a\n4-c\n"),
+    (["3", "-zb"], "a", "b\0a\0", 0, "2:a\0"),
+    (["3", "-vb"], "a", "b\na\nc\n", 0, "0:b\n4:c\n"),
+    (["3", "-bH", "--colour=always"], "a", "b\na\n", 0,
+     f"{NAME}(standard input){OFF}{MARK}:{OFF}{NUMBER}2{OFF}{MARK}:{OFF}{ON}a{OFF}\n"),
 ]
 # Further words, the input, and the status and the output that are wanted: at the strength 3, where no other is said.
 PATTERNS = [
@@ -154,8 +164,9 @@ def wrong_searches(program, letters, room):
     found = []
     for (strength, *words), pattern, given, status, printed in SEARCHES:
         ran = run(program, over(letters, "search", strength, *words, "--", pattern), given.encode())
-        if ran.came_to() != (status, printed.encode(), b""):
-            found.append(f"search {strength} {words} {pattern!r}: {ran}; wanted: {status}, {printed!r}")
+        at_once = run(program, over(letters, "search", strength, *words, "--line-buffered", "--", pattern), given.encode())
+        if {ran.came_to(), at_once.came_to()} != {(status, printed.encode(), b"")}:
+            found.append(f"search {strength} {words} {pattern!r}: {ran}; at once: {at_once}; wanted: {status}, {printed!r}")
     damaged = run(program, over(letters, "search", "3", "a"), b"\xffa\n")
     if damaged.came_to() != (0, b"\xffa\n", b""):
         found.append(f"search in a damaged line: {damaged}")
@@ -211,7 +222,10 @@ def wrong_missing(program, letters, one, two):
         (["-1", "b", one], 2, b"", b"collate-cldr: -i, -1 and --strength each say how many levels count; take one of them\n"),
         (["--include", "*", "b", one], 2, b"", b"collate-cldr: --include is for -r\n"),
         (["-E", "b", one], 2, b"", b"collate-cldr: -E isn't taken: a pattern is a text, and no regular expression; several stand behind -e each\n"),
-        (["-bn", "b", one], 2, b"", b"collate-cldr: -b isn't taken: -n prints the numbers of lines\n"),
+        (["-bn", "b", one], 0, b"2:2:b\n", b""),
+        (["--line-buffered", "b", one, "absent", two], 3, f"{one}:b\n{two}:b\n".encode(), said),
+        (["--line-buffered", "-nC1", "b", one, two], 0, f"{one}-1-a\n{one}:2:b\n--\n{two}:1:b\n".encode(), b""),
+        (["--line-buffered", "b", "/"], 3, b"", b"collate-cldr: /: Is a directory\n"),
         (["-R", "b", one], 2, b"", b"collate-cldr: -R isn't taken: -r reads folders and follows no links\n"),
         (["-nC1", "b", one, two], 0, f"{one}-1-a\n{one}:2:b\n--\n{two}:1:b\n".encode(), b""),
         (["-hA1", "a", two, one], 0, b"a\nb\n", b""),
@@ -220,6 +234,50 @@ def wrong_missing(program, letters, one, two):
         ran = run(program, over(letters, "search", "3", *words))
         if ran.came_to()[:2] != tuple(wanted)[:2] or wanted[2] not in (None, ran.faults):
             found.append(f"search {words}: {ran}; wanted: {wanted}")
+    return found
+
+
+# Options, and what is printed by and by: lines that come, and what they print as soon as they are there.
+AT_ONCE = [
+    ([], [("b\n", ""), ("a\n", "a\n"), ("c\nca\n", "ca\n")]),
+    (["-n"], [("b\na\n", "2:a\n"), ("a\n", "3:a\n")]),
+    (["-B1"], [("b\nc\n", ""), ("a\n", "c\na\n"), ("b\nb\nb\n", ""), ("a\n", "--\nb\na\n")]),
+    (["-A1"], [("a\n", "a\n"), ("b\n", "b\n"), ("c\n", ""), ("a\n", "--\na\n")]),
+]
+
+
+def printed_by_and_by(command, steps, standard_output, reader):
+    """What a run prints in some steps: after each, all that comes within a time, or as much as is wanted."""
+    with subprocess.Popen(command, stdin=subprocess.PIPE, stdout=standard_output) as ran:
+        found = []
+        for given, wanted in steps:
+            ran.stdin.write(given.encode())
+            ran.stdin.flush()
+            text = b""
+            while len(text) < len(wanted) and select.select([reader or ran.stdout], [], [], 20)[0]:
+                text += os.read(reader or ran.stdout.fileno(), 1000)
+            found.append(text.replace(b"\r\n", b"\n").decode())
+        ran.stdin.close()
+        if not reader:
+            ran.stdout.read()
+    return found
+
+
+def wrong_at_once(program, letters):
+    """Lines that aren't printed as soon as they are found: by --line-buffered into a pipe, and on a terminal."""
+    found = []
+    for words, steps in AT_ONCE:
+        wanted = [it for _, it in steps]
+        by_word = printed_by_and_by([program, *over(letters, "search", "3", *words, "--line-buffered", "a")], steps, subprocess.PIPE, None)
+        reader, writer = os.openpty()
+        try:
+            on_terminal = [program, *over(letters, "search", "3", *words, "--colour=never", "a")]
+            shown = printed_by_and_by(on_terminal, steps, writer, reader)
+        finally:
+            os.close(reader)
+            os.close(writer)
+        if (by_word, shown) != (wanted, wanted):
+            found.append(f"search {words} at once: {by_word}; on a terminal: {shown}; wanted: {wanted}")
     return found
 
 
@@ -275,6 +333,23 @@ HEADERS = [
     (["--header", "-z"], "c\0b\0a", "c\0a\0b\0"),
     (["-t", "\\t", "-k2,2"], "a\tb\nb\ta\n", "b\ta\na\tb\n"),
     (["--parallel=4", "--batch-size", "9"], "b\na\n", "a\nb\n"),
+    # By value, over the whole line and keys without letters of their own.
+    (["-n"], "10\n9\n-1.5\nx\n-2\n", "-2\n-1.5\nx\n9\n10\n"),
+    (["-n", "-r"], " 9\n10\n", "10\n 9\n"),
+    (["-n", "-u"], "01\n1.0\n2\n", "01\n2\n"),
+    (["-n", "-k2,2"], "a 10\na 9\n", "a 9\na 10\n"),
+    (["-n", "-k2b,2"], "a 9\na 10\n", "a 10\na 9\n"),
+    (["-n", "--header"], "n\n10\n9\n", "n\n9\n10\n"),
+    (["-b"], "  b\na\n b\n", "a\n  b\n b\n"),
+    (["-bs"], " b\n  b\na\n", "a\n b\n  b\n"),
+    (["-b", "-k2,2"], "a  b\nb a\n", "b a\na  b\n"),
+    # Keys underlined.
+    (["--debug"], "b\naá\n", "aá\n__\nb\n_\n"),
+    (["--debug", "-k2,2"], "a b\nb a\n", "b a\n __\n___\na b\n __\n___\n"),
+    (["--debug", "-k2,2", "-s"], "b a\n", "b a\n __\n"),
+    (["--debug", "-n"], " 12x\nb\n", "b\n^ no match for key\n_\n 12x\n __\n____\n"),
+    (["--debug", "-t", "\\t", "-k2"], "a\tb\n", "a>b\n  _\n___\n"),
+    (["--debug", "--header"], "b\na\n", "b\na\n_\n"),
 ]
 
 
@@ -297,6 +372,9 @@ def wrong_lists(program, letters, room):
         ("absent\0", [], (3, b"", b"collate-cldr: absent: No such file or directory\n")),
         (one, [two], (2, b"", b"collate-cldr: --files0-from is for lines, and takes no other file\n")),
         (one, ["--csv", "--column=1"], (2, b"", b"collate-cldr: --files0-from is for lines, and takes no other file\n")),
+        (f"{two}\0{one}\0", ["-c"], (1, b"", f"collate-cldr: {one}: line 2 is out of order: b\n".encode())),
+        (f"{two}\0", ["--debug", "-c"], (2, b"", b"collate-cldr: --debug takes no --check and no --output\n")),
+        (f"{two}\0", ["--debug", "-o", one], (2, b"", b"collate-cldr: --debug takes no --check and no --output\n")),
     ]
     for path, text in ((one, "c\nb"), (two, "a\n")):
         with open(path, "w", encoding="utf-8") as it:
@@ -307,6 +385,17 @@ def wrong_lists(program, letters, room):
         ran = run(program, over(letters, "sort", "3", f"--files0-from={names}", *words), b"d\n")
         if ran.came_to() != wanted:
             found.append(f"sort of the list {text!r} {words}: {ran}; wanted: {wanted}")
+    for words, given, status, said in [
+        ([two, one], b"", 1, f"{one}: line 2 is out of order: b\n"),
+        ([one, two], b"", 1, f"{one}: line 2 is out of order: b\n"),
+        ([two, "-", two], b"b\nc\n", 1, f"{two}: line 1 is out of order: a\n"),
+        ([two, "-"], b"c\nb\n", 1, "standard input: line 2 is out of order: b\n"),
+        ([two, "-"], b"b\nc\n", 0, ""),
+        (["--header", one, two], b"", 1, f"{two}: line 1 is out of order: a\n"),
+    ]:
+        ran = run(program, over(letters, "check", "3", *words), given)
+        if ran.came_to() != (status, b"", f"collate-cldr: {said}".encode() * bool(said)):
+            found.append(f"check {words}: {ran}; wanted: {status}, {said}")
     return found
 
 
@@ -431,9 +520,10 @@ FAULTY = [
 
 def check_lines(report, room, program, letters):
     report.say("collate-cldr: explanations and reasons", wrong_explanations(program, letters), len(EXPLAINED) + len(REASONS))
-    report.say("collate-cldr: searches", wrong_searches(program, letters, room), len(SEARCHES) + len(PATTERNS) + 23)
+    report.say("collate-cldr: searches", wrong_searches(program, letters, room), 2 * len(SEARCHES) + len(PATTERNS) + 26)
+    report.say("collate-cldr: lines printed as soon as they are found", wrong_at_once(program, letters), 2 * len(AT_ONCE))
     report.say("collate-cldr: searches of folders", wrong_folders(program, letters, room), 13)
-    report.say("collate-cldr: headers of lines, and lists of files", wrong_lists(program, letters, room), len(HEADERS) + 8)
+    report.say("collate-cldr: headers of lines, and lists of files", wrong_lists(program, letters, room), len(HEADERS) + 17)
     beside, _ = gnu_words.unlike(program, ["--root", letters, "--strength", "1"], gnu_words.SMALL, room, 100)
     report.say("collate-cldr: random words of sort and search as those of GNU sort and grep", beside, 200)
     report.say("collate-cldr: sorts by fields", wrong_fields(program, letters),

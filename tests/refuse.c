@@ -1,7 +1,7 @@
 // A library to preload into a program (LD_PRELOAD): it counts what the program asks the C library for, and refuses one
 // request, so that a test sees what the program makes of it.
 //
-//   REFUSE=allocation, read, write or file    which requests are refused; without it none is. A file's are those that open, sync,
+//   REFUSE=allocation, read, write or file    which requests are refused; without it none is. A file's are those that open, list, sync,
 //                                       lock, cut and rename it, that give it to an owner or set its mode, that find its true
 //                                       name, and that choose a random one
 //   REFUSE_AT=N                         the Nth of them, from 1
@@ -132,6 +132,16 @@ int open(const char *path, int flags, ...) {
   va_end(rest);
   return open64(path, flags, mode);
 }
+
+int openat(int folder, const char *path, int flags, ...) {
+  va_list rest;
+  va_start(rest, flags);
+  mode_t mode = flags & O_CREAT ? va_arg(rest, mode_t) : 0;
+  va_end(rest);
+  return no_file() ? -1 : (int)syscall(SYS_openat, folder, path, flags, mode);
+}
+
+ssize_t getdents64(int fd, void *entries, size_t size) { return no_file() ? -1 : syscall(SYS_getdents64, fd, entries, size); }
 
 int rename(const char *from, const char *to) {
   return no_file() ? -1 : (int)syscall(SYS_renameat2, AT_FDCWD, from, AT_FDCWD, to, 0);

@@ -16,7 +16,7 @@ use icu_collator::Collator;
 use program_files::ProgramError;
 use program_words::{
     SettingWords, asked_word, cldr_folder, options_by_words, root_file, rules_of_word,
-    said_of_language,
+    said_of_language, word_for_search,
 };
 use std::io::Write;
 use std::rt::{Env, Files};
@@ -151,14 +151,28 @@ fn languages_by_words<R: Files + Env + AllocGlobal>(
     Ok(Languages::in_folder(rt.alloc(), folder.as_str(), root.as_str())?)
 }
 
-/// The word for the language of the collator that words ask for: empty for that of a table file.
-fn language_word<R: Env + AllocGlobal>(
+/// The collator of a language that words ask for, or of a table file, which has its own.
+fn collator_of_language<R: Files + Env + AllocGlobal>(
     rt: &R,
     matches: &ArgMatches<'_>,
-) -> Result<String, ProgramError> {
-    match matches.get_str("tables") {
-        Some(_) => Ok(String::new(rt.alloc())),
-        None => locale_word(rt, matches),
+    language: &str,
+) -> Result<Collator, ProgramError>
+    ensures { IfOk result (λ c. IsWellFormedTables (tables_kept c)) }
+{
+    let mut languages = languages_by_words(rt, matches)?;
+    let word = match matches.get_str("tables") {
+        Some(_) => "",
+        None => language,
+    };
+    let own = own_rules(rt, matches)?;
+    let options = options_of(matches);
+    let found = match &own {
+        Some(rules) => languages.collator_with_rules(rt, word, rules, options),
+        None => languages.collator(rt, word, options),
+    };
+    match found {
+        Ok(found) => Ok(found.collator),
+        Err(error) => Err(said_of_language(rt.alloc(), error)),
     }
 }
 
@@ -169,16 +183,18 @@ pub(crate) fn collator_by_words<R: Files + Env + AllocGlobal>(
 ) -> Result<Collator, ProgramError>
     ensures { IfOk result (λ c. IsWellFormedTables (tables_kept c)) }
 {
-    let mut languages = languages_by_words(rt, matches)?;
-    let word = language_word(rt, matches)?;
-    let own = own_rules(rt, matches)?;
-    let options = options_of(matches);
-    let found = match &own {
-        Some(rules) => languages.collator_with_rules(rt, word.as_str(), rules, options),
-        None => languages.collator(rt, word.as_str(), options),
-    };
-    match found {
-        Ok(found) => Ok(found.collator),
-        Err(error) => Err(said_of_language(rt.alloc(), error)),
-    }
+    let word = locale_word(rt, matches)?;
+    collator_of_language(rt, matches, word.as_str())
+}
+
+/// The collator by which words ask to search: that of CLDR's type `search`, if they name a language and no type.
+pub(crate) fn search_collator<R: Files + Env + AllocGlobal>(
+    rt: &R,
+    matches: &ArgMatches<'_>,
+) -> Result<Collator, ProgramError>
+    ensures { IfOk result (λ c. IsWellFormedTables (tables_kept c)) }
+{
+    let word = locale_word(rt, matches)?;
+    let word = word_for_search(rt.alloc(), word.as_str())?;
+    collator_of_language(rt, matches, word.as_str())
 }

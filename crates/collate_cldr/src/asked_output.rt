@@ -3,7 +3,6 @@
 use crate::reports::say;
 use clap::ArgMatches;
 use program_files::{OutputFile, ProgramError, open_output, printed_name};
-use program_words::files_of;
 use std::fs::File;
 use std::io::Write;
 use std::random::RandomSource;
@@ -20,18 +19,16 @@ pub(crate) fn output_asked<'a, R: Files<File = File> + RandomSource + AllocGloba
     }
 }
 
-/// Writes to standard error a line that says something of the input, which it names if words name one file.
+/// Writes to standard error a line that says something of an input, with the name of the input, if it is to be named.
 pub(crate) fn say_of_input<R: AllocGlobal, E: Write>(
     rt: &R,
-    matches: &ArgMatches<'_>,
+    name: Option<&str>,
     said: &[u8],
     errors: &mut E,
 ) -> Result<(), ProgramError> {
     let mut text = Vec::new(rt.alloc());
-    if let [file] = files_of(matches)
-        && *file != "-"
-    {
-        let name = printed_name(rt.alloc(), file)?;
+    if let Some(name) = name {
+        let name = printed_name(rt.alloc(), name)?;
         text.extend_from_slice(name.as_bytes())?;
         text.extend_from_slice(b": ")?;
     }

@@ -4,6 +4,7 @@ ghost use Rattle.std.specs.Prelude.{◌≤◌, IfOk};
 
 use crate::asked_collator::collator_by_words;
 use crate::asked_output::{output_asked, say_of_input};
+use crate::line_orders::whole_order;
 use crate::reports::in_memory;
 use clap::ArgMatches;
 use icu_collator::Collator;
@@ -31,6 +32,14 @@ fn file_of<'m, 'a>(matches: &'m ArgMatches<'a>) -> &'m str {
     match files_of(matches) {
         [file, ..] => file,
         [] => "-",
+    }
+}
+
+/// The file that is named in what is said of its records.
+fn file_named<'m, 'a>(matches: &'m ArgMatches<'a>) -> Option<&'m str> {
+    match files_of(matches) {
+        [file] if *file != "-" => Some(file),
+        _ => None,
     }
 }
 
@@ -64,7 +73,7 @@ fn columns<R: AllocGlobal>(
         matches.get_flag("header"),
         text,
         words,
-        matches.get_flag("reverse"),
+        whole_order(matches),
     ) {
         Ok(columns) => Ok(columns),
         Err(error) => Err(refused_csv(rt, matches, text, error)),
@@ -170,7 +179,7 @@ pub(crate) fn check_csv<R: Files + Env + Clock + AllocGlobal, I: Read, E: Write>
     };
     if !is_quiet {
         let said = column_disorder_text(rt.alloc(), request, bytes.as_slice(), index)?;
-        say_of_input(rt, matches, said.as_slice(), errors)?;
+        say_of_input(rt, file_named(matches), said.as_slice(), errors)?;
     }
     Ok(1)
 }

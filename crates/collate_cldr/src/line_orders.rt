@@ -9,18 +9,29 @@ use clap::ArgMatches;
 use icu_collator::Collator;
 use line_commands::field_disorders::first_field_disorder;
 use line_commands::field_sorts::{
-    FieldSort, FieldSorts, field_ends, keys_of_words, print_sorted_by_fields,
+    FieldSort, FieldSorts, WholeOrder, field_ends, keys_of_words, print_sorted_by_fields,
+    text_with_keys,
 };
 use line_commands::{disorder_text, first_disorder, print_sorted, print_text};
-use line_sorts::SortRequest;
+use line_sorts::{SortRequest, Ties};
 use program_files::{
-    DONE, InputText, OutputFile, ProgramError, RunProgress, read_input, read_inputs,
+    DONE, InputText, LineOfInput, OutputFile, ProgramError, RunProgress, input_name, read_input,
+    read_inputs,
 };
 use program_words::{character_asked, files_of, listed_files, sort_request_of};
 use std::fs::File;
 use std::io::{Read, Write};
 use std::random::RandomSource;
 use std::rt::{Clock, Env, Files};
+
+/// What words say of keys without letters, and of the whole line.
+pub(crate) fn whole_order(matches: &ArgMatches<'_>) -> WholeOrder {
+    WholeOrder {
+        skips_blanks: matches.get_flag("ignore-leading-blanks"),
+        is_numeric: matches.get_flag("numeric-sort"),
+        is_reversed: matches.get_flag("reverse"),
+    }
+}
 
 /// The fields that lines are sorted by, with these keys.
 fn fields_of<'s>(matches: &ArgMatches<'_>, sorts: &'s [FieldSort]) -> FieldSorts<'s> {
@@ -66,8 +77,43 @@ fn header_and_lines<'b>(
     }
 }
 
-/// Prints the lines of an input in order: by the line, or by its fields if keys are asked for. The byte order mark of
-/// the input goes before them, and its first line if that is a header.
+/// Prints lines in order: by the line, or by its fields if there are keys.
+fn print_lines_in_order<R: AllocGlobal, W: Write>(
+    rt: &R,
+    collator: &Collator,
+    fields: FieldSorts<'_>,
+    bytes: &[u8],
+    request: SortRequest,
+    output: &mut W,
+) -> Result<(), ProgramError> {
+    if fields.sorts.is_empty() {
+        print_sorted(rt.alloc(), collator, bytes, request, output)
+    } else {
+        print_sorted_by_fields(rt.alloc(), collator, fields, bytes, request, output)
+    }
+}
+
+/// Prints lines in order with their keys underlined. The whole line is a key too, if there is no other, or lines with
+/// equal keys are in the order of their bytes.
+fn print_with_keys<R: AllocGlobal, W: Write>(
+    rt: &R,
+    collator: &Collator,
+    fields: FieldSorts<'_>,
+    bytes: &[u8],
+    request: SortRequest,
+    output: &mut W,
+) -> Result<(), ProgramError> {
+    let mut sorted = Vec::with_capacity(rt.alloc(), bytes.len())?;
+    let printed = print_lines_in_order(rt, collator, fields, bytes, request, &mut sorted);
+    in_memory(printed)?;
+    let is_whole = fields.sorts.is_empty() || request.order.ties == Ties::ByBytes;
+    let separator = request.separator;
+    let text = text_with_keys(rt.alloc(), fields, is_whole, sorted.as_slice(), separator)?;
+    print_text(text.as_slice(), output)
+}
+
+/// Prints the lines of an input in order. The byte order mark of the input goes before them, and its first line if that
+/// is a header.
 fn print_in_order<R: AllocGlobal, W: Write>(
     rt: &R,
     matches: &ArgMatches<'_>,
@@ -77,14 +123,16 @@ fn print_in_order<R: AllocGlobal, W: Write>(
     output: &mut W,
 ) -> Result<(), ProgramError> {
     let (header, bytes) = header_and_lines(matches, request.separator, input.as_slice());
+    let words = matches.get_strs("key").unwrap_or_default();
+    let sorts = keys_of_words(rt.alloc(), words, whole_order(matches))?;
+    let fields = fields_of(matches, sorts.as_slice());
     print_text(input.mark(), output)?;
     print_text(header, output)?;
-    let Some(words) = matches.get_strs("key") else {
-        return print_sorted(rt.alloc(), collator, bytes, request, output);
-    };
-    let sorts = keys_of_words(rt.alloc(), words, matches.get_flag("reverse"))?;
-    let fields = fields_of(matches, sorts.as_slice());
-    print_sorted_by_fields(rt.alloc(), collator, fields, bytes, request, output)
+    if matches.get_flag("debug") {
+        print_with_keys(rt, collator, fields, bytes, request, output)
+    } else {
+        print_lines_in_order(rt, collator, fields, bytes, request, output)
+    }
 }
 
 /// Prints the lines of an input in order, or writes them to a file.
@@ -139,16 +187,41 @@ fn first_wrong<R: AllocGlobal>(
     bytes: &[u8],
     request: SortRequest,
 ) -> Result<Option<usize>, ProgramError> {
-    let Some(words) = matches.get_strs("key") else {
+    let words = matches.get_strs("key").unwrap_or_default();
+    let sorts = keys_of_words(rt.alloc(), words, whole_order(matches))?;
+    if sorts.is_empty() {
         return Ok(first_disorder(rt.alloc(), collator, bytes, request)?);
-    };
-    let sorts = keys_of_words(rt.alloc(), words, matches.get_flag("reverse"))?;
+    }
     let fields = fields_of(matches, sorts.as_slice());
     Ok(first_field_disorder(rt.alloc(), collator, fields, bytes, request)?)
 }
 
-/// Whether lines are in order. Where they are not, and that is to be said, the first line that isn't is printed, with
-/// its number from 1 on.
+/// How an input is named in what is said of a line: not at all, if standard input alone is read.
+fn name_of<'i>(read: &InputText, place: LineOfInput<'i>) -> Option<&'i str> {
+    if place.word == "-" && read.inputs() == 1 {
+        None
+    } else {
+        Some(input_name(place.word))
+    }
+}
+
+/// Says which line isn't in order, by its index among all lines: its input, and its number there, from 1 on.
+fn say_disorder<R: AllocGlobal, E: Write>(
+    rt: &R,
+    read: &InputText,
+    request: SortRequest,
+    index: usize,
+    errors: &mut E,
+) -> Result<(), ProgramError> {
+    let Some(place) = read.place_of(request.separator, index) else {
+        return Ok(());
+    };
+    let said = disorder_text(rt.alloc(), read.as_slice(), request, index, place.index)?;
+    say_of_input(rt, name_of(read, place), said.as_slice(), errors)
+}
+
+/// Whether lines are in order. If they are not, and that is to be said, the first line that isn't is printed, with its
+/// input and its number there.
 pub(crate) fn check_lines<R: Files + Env + Clock + AllocGlobal, I: Read, E: Write>(
     rt: &R,
     matches: &ArgMatches<'_>,
@@ -161,8 +234,8 @@ pub(crate) fn check_lines<R: Files + Env + Clock + AllocGlobal, I: Read, E: Writ
 {
     let request = sort_request_of(matches);
     let collator = collator_by_words(rt, matches)?;
-    let bytes = read_asked(rt, matches, request.separator, progress, input, errors)?;
-    let (header, lines) = header_and_lines(matches, request.separator, bytes.as_slice());
+    let read = read_asked(rt, matches, request.separator, progress, input, errors)?;
+    let (header, lines) = header_and_lines(matches, request.separator, read.as_slice());
     let Some(index) = first_wrong(rt, matches, &collator, lines, request)? else {
         return Ok(DONE);
     };
@@ -172,8 +245,7 @@ pub(crate) fn check_lines<R: Files + Env + Clock + AllocGlobal, I: Read, E: Writ
         index.saturating_add(1)
     };
     if !is_quiet {
-        let said = disorder_text(rt.alloc(), bytes.as_slice(), request, index)?;
-        say_of_input(rt, matches, said.as_slice(), errors)?;
+        say_disorder(rt, &read, request, index, errors)?;
     }
     Ok(DIFFERS)
 }

@@ -4,7 +4,7 @@ ghost use Rattle.std.specs.Prelude.{◌≤◌, IfOk};
 
 use crate::asked_collator::{collator_by_words, says_wrong_locale, tables_request};
 use crate::csv_command::{check_csv, sort_csv};
-use crate::line_orders::{check_lines, sort_lines};
+use crate::line_orders::{check_lines, sort_lines, whole_order};
 use crate::reports::{DIFFERS, WORDING, report_unless_closed, say};
 use crate::search_command::search;
 use clap::ArgMatches;
@@ -124,6 +124,9 @@ const NO_KEYS_OF_RECORDS: &str = "--key is for lines, and --column for --csv";
 /// What is said if files are named beside a list of files, or records of CSV asked for.
 const NO_OTHER_FILES: &str = "--files0-from is for lines, and takes no other file";
 
+/// What is said if keys are to be shown where no sorted lines are printed.
+const NO_KEYS_SHOWN: &str = "--debug takes no --check and no --output";
+
 /// Says what is wrong with the words for fields or for records of CSV, and returns whether something is. That a write
 /// fails changes nothing.
 fn says_wrong_words<R: AllocGlobal, E: Write>(
@@ -138,7 +141,7 @@ fn says_wrong_words<R: AllocGlobal, E: Write>(
     let keys = matches.get_strs("key");
     let words = keys.unwrap_or_default();
     let separator = character_asked(matches, "field-separator");
-    if let Some(word) = wrong_field_word(separator, words, matches.get_flag("reverse")) {
+    if let Some(word) = wrong_field_word(separator, words, whole_order(matches)) {
         let word = printed_name(rt.alloc(), word)?;
         let text = format!(in rt.alloc();
             "'{word}' is no key F[.C][bnr][,F[.C][bnr]] and no separator of one character of ASCII; --help says more"
@@ -156,6 +159,12 @@ fn says_wrong_words<R: AllocGlobal, E: Write>(
         say(NO_OTHER_FILES.as_bytes(), errors);
         return Ok(true);
     }
+    let shows_keys = matches.get_flag("debug");
+    let checks = check_of(matches) != CheckWanted::No;
+    if shows_keys && (checks || matches.get_str("output").is_some()) {
+        say(NO_KEYS_SHOWN.as_bytes(), errors);
+        return Ok(true);
+    }
     let words = CsvWords {
         is_csv,
         has_header: matches.get_flag("header"),
@@ -163,6 +172,8 @@ fn says_wrong_words<R: AllocGlobal, E: Write>(
         delimiter: character_asked(matches, "delimiter"),
         files: files_of(matches).len(),
         is_zero_terminated: matches.get_flag("zero-terminated"),
+        skips_blanks: matches.get_flag("ignore-leading-blanks"),
+        shows_keys,
     };
     match wrong_csv_words(rt.alloc(), &words)? {
         Some(said) => {

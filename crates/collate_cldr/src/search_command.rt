@@ -2,26 +2,27 @@
 
 ghost use Rattle.std.specs.Prelude.{◌≤◌, IfOk};
 
-use crate::asked_collator::collator_by_words;
+use crate::asked_collator::search_collator;
 use crate::reports::{WORDING, say};
 use clap::ArgMatches;
 use icu_collator::Collator;
 use icu_search::{Boundary, Searcher};
 use line_commands::print_text;
 use line_searches::{
-    MatchKind, SearchRequest, Shown, Wanted, count_wanted, files_below, is_folder, matches_name,
-    name_line, prefix_of, print_count, print_wanted,
+    LineSpot, LinesSoFar, MatchKind, SearchRequest, Shown, Wanted, count_wanted, files_below,
+    is_folder, matches_name, name_line, prefix_of, print_count, print_wanted,
 };
 use line_sorts::lines_by;
 use program_files::{
-    ProgramError, RunProgress, WRONG_WORDS, bytes_of_word, read_input, read_inputs, report_failure,
+    ProgramError, RunProgress, WRONG_WORDS, bytes_of_word, input_name, next_line, open_input,
+    read_input, read_inputs, refused_by_system, report_failure,
 };
 use program_words::{
     GREP_OPTIONS, foreign_said, has_several_strengths, line_numbers, pattern_files, patterns_of,
     searched_files, separator_of, wrong_line_number,
 };
 use std::alloc::{AllocError, Global};
-use std::io::{Read, Write};
+use std::io::{BufReader, Read, Write};
 use std::rt::{Clock, Env, Files};
 
 /// Whether what is printed has colours.
@@ -108,17 +109,108 @@ fn say_unread<E: Write>(
     }
 }
 
-/// An input: its name, and whether it was found below a folder.
+/// An input: its name, whether it was found below a folder, whether its name stands before each line, and whether each
+/// line is printed as soon as it is found.
 #[derive(Clone, Copy)]
 struct Input<'f> {
     file: &'f str,
     is_of_folder: bool,
     is_named: bool,
+    is_at_once: bool,
 }
 
-/// Searches an input by its name, and keeps whether lines were found. If it isn't read, that is said, unless it isn't
-/// to be.
-fn search_input<R: Files + Clock + AllocGlobal, I: Read, W: Write, E: Write>(
+/// Searches an input line by line, prints each line as soon as it is found, and keeps whether lines were found. If the
+/// input isn't read to its end, that is said, unless it isn't to be.
+fn search_lines<R: Clock + AllocGlobal, I: Read, W: Write, E: Write>(
+    rt: &R,
+    matches: &ArgMatches<'_>,
+    searchers: &[Searcher<'_>],
+    name: &str,
+    request: SearchRequest<'_>,
+    found: &mut Found,
+    progress: &mut RunProgress,
+    input: &mut I,
+    output: &mut W,
+    errors: &mut E,
+) -> Result<(), ProgramError> {
+    let alloc = rt.alloc();
+    let mut reader = match BufReader::new(alloc, input) {
+        Ok(reader) => reader,
+        Err(error) => return Err(refused_by_system(alloc, name, &error)),
+    };
+    let mut so_far = LinesSoFar::new(alloc, request);
+    let mut is_first = true;
+    for _ in 0..u64::MAX {
+        if so_far.is_done(request) {
+            break;
+        }
+        let line = match next_line(alloc, name, &mut reader, request.separator, is_first) {
+            Ok(Some(line)) => line,
+            Ok(None) => break,
+            Err(error) => {
+                found.is_unread = true;
+                say_unread(matches, error, errors)?;
+                break;
+            }
+        };
+        is_first = false;
+        progress.read_more(rt, line.len(), errors);
+        let text = so_far.text_of_piece(alloc, searchers, request, line.as_slice())?;
+        if !text.is_empty() {
+            progress.give_way(errors);
+            print_text(text.as_slice(), output)?;
+        }
+    }
+    progress.give_way(errors);
+    found.some = found.some || so_far.has_found();
+    Ok(())
+}
+
+/// Searches a file by its name, or standard input, line by line.
+fn search_at_once<R: Files + Clock + AllocGlobal, I: Read, W: Write, E: Write>(
+    rt: &R,
+    matches: &ArgMatches<'_>,
+    searchers: &[Searcher<'_>],
+    file: &str,
+    request: SearchRequest<'_>,
+    found: &mut Found,
+    progress: &mut RunProgress,
+    input: &mut I,
+    output: &mut W,
+    errors: &mut E,
+) -> Result<(), ProgramError> {
+    let name = input_name(file);
+    if file == "-" {
+        return search_lines(
+            rt, matches, searchers, name, request, found, progress, input, output, errors,
+        );
+    }
+    match open_input(rt, file) {
+        Ok(opened) => {
+            let mut opened = opened;
+            search_lines(
+                rt,
+                matches,
+                searchers,
+                name,
+                request,
+                found,
+                progress,
+                &mut opened,
+                output,
+                errors,
+            )
+        }
+        Err(error) => {
+            found.is_unread = true;
+            say_unread(matches, error, errors)
+        }
+    }
+}
+
+/// Searches an input that is read as a whole, and keeps whether lines were found. If it isn't read, that is said,
+/// unless it isn't to be.
+fn search_whole<R: Files + Clock + AllocGlobal, I: Read, W: Write, E: Write>(
     rt: &R,
     matches: &ArgMatches<'_>,
     searchers: &[Searcher<'_>],
@@ -141,6 +233,26 @@ fn search_input<R: Files + Clock + AllocGlobal, I: Read, W: Write, E: Write>(
     if is_left_out(matches, asked.is_of_folder, bytes.as_slice()) {
         return Ok(());
     }
+    let bytes = bytes.as_slice();
+    let is_found = search_bytes(rt, matches, searchers, file, bytes, request, output)?;
+    found.some = found.some || is_found;
+    Ok(())
+}
+
+/// Searches an input by its name, and keeps whether lines were found.
+fn search_input<R: Files + Clock + AllocGlobal, I: Read, W: Write, E: Write>(
+    rt: &R,
+    matches: &ArgMatches<'_>,
+    searchers: &[Searcher<'_>],
+    asked: Input<'_>,
+    request: SearchRequest<'_>,
+    found: &mut Found,
+    progress: &mut RunProgress,
+    input: &mut I,
+    output: &mut W,
+    errors: &mut E,
+) -> Result<(), ProgramError> {
+    let file = asked.file;
     let has_colours = shows_colours(request);
     let mut prefix = Vec::new(rt.alloc());
     let mut beside = Vec::new(rt.alloc());
@@ -154,10 +266,24 @@ fn search_input<R: Files + Clock + AllocGlobal, I: Read, W: Write, E: Write>(
         follows: found.some,
         ..request
     };
-    let bytes = bytes.as_slice();
-    let is_found = search_bytes(rt, matches, searchers, file, bytes, named, output)?;
-    found.some = found.some || is_found;
-    Ok(())
+    if asked.is_at_once {
+        search_at_once(
+            rt, matches, searchers, file, named, found, progress, input, output, errors,
+        )
+    } else {
+        search_whole(
+            rt, matches, searchers, asked, named, found, progress, input, output, errors,
+        )
+    }
+}
+
+/// Whether each line is printed as soon as it is found: on a terminal, or if words say so, unless lines aren't printed.
+fn prints_at_once(matches: &ArgMatches<'_>, is_terminal: bool) -> bool {
+    (is_terminal || matches.get_flag("line-buffered"))
+        && !matches.get_flag("quiet")
+        && !matches.get_flag("count")
+        && !matches.get_flag("files-with-matches")
+        && !matches.get_flag("files-without-match")
 }
 
 /// Whether the name of its input stands before each line: if words say so, or if there are several inputs, as of a
@@ -216,6 +342,7 @@ fn search_folder<R: Files + Clock + AllocGlobal + Clone + Drop, I: Read, W: Writ
                 file: file.as_str(),
                 is_of_folder: true,
                 is_named: are_named(matches, 1, true),
+                is_at_once: false,
             };
             search_input(
                 rt, matches, searchers, asked, request, found, progress, input, output, errors,
@@ -233,6 +360,7 @@ fn search_inputs<R: Files + Clock + AllocGlobal + Clone + Drop, I: Read, W: Writ
     searchers: &[Searcher<'_>],
     files: &[&str],
     request: SearchRequest<'_>,
+    is_terminal: bool,
     progress: &mut RunProgress,
     input: &mut I,
     output: &mut W,
@@ -255,6 +383,7 @@ fn search_inputs<R: Files + Clock + AllocGlobal + Clone + Drop, I: Read, W: Writ
                 file: *file,
                 is_of_folder: false,
                 is_named: are_named(matches, files.len(), false),
+                is_at_once: prints_at_once(matches, is_terminal),
             };
             search_input(
                 rt, matches, searchers, asked, request, &mut all, progress, input, output, errors,
@@ -336,6 +465,11 @@ fn request_of<'p>(matches: &ArgMatches<'_>, is_terminal: bool) -> SearchRequest<
         prefix: &[],
         beside: &[],
         is_numbered: matches.get_flag("line-number"),
+        has_offsets: matches.get_flag("byte-offset"),
+        first: LineSpot {
+            number: 1,
+            offset: 0,
+        },
         is_grouped: numbers.are_grouped,
         follows: false,
         before: numbers.before,
@@ -398,7 +532,7 @@ pub(crate) fn search<
     if says_wrong_search(rt, matches, errors)? {
         return Ok(WRONG_WORDS);
     }
-    let collator = collator_by_words(rt, matches)?;
+    let collator = search_collator(rt, matches)?;
     let patterns = patterns_of(rt.alloc(), matches)?;
     let mut searchers = searchers_of(rt.alloc(), &collator, patterns.as_slice())?;
     add_lines_of_files(
@@ -417,6 +551,7 @@ pub(crate) fn search<
         searchers.as_slice(),
         files.as_slice(),
         request_of(matches, is_terminal),
+        is_terminal,
         progress,
         input,
         output,

@@ -1,1 +1,2 @@
 pub mod FieldSortLemmas
+pub mod ShownKeyLemmas

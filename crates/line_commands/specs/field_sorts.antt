@@ -6,3 +6,4 @@ pub use Rattle.line_sorts.specs.fields.NumberKeys
 pub use Rattle.line_sorts.specs.fields.JoinedKeys
 pub mod FieldOrders
 pub mod FieldSortedInputs
+pub mod ShownKeys

@@ -106,7 +106,8 @@ pub fn first_disorder(
     Ok(first_wrong(&collator.as_borrowed(), request, lines.as_slice()))
 }
 
-/// What is said of the line at an index that may not stand where it does: its number, from 1 on, and the line.
+/// What is said of the line at an index that may not stand where it does: its number in its input, by its index there,
+/// and the line.
 ///
 /// # Errors
 ///
@@ -116,9 +117,10 @@ pub fn disorder_text(
     bytes: &[u8],
     request: SortRequest,
     index: usize,
+    index_in_input: usize,
 ) -> Result<Vec<u8>, AllocError> {
     let lines = lines_by(alloc, bytes, request.separator)?;
-    let number = index.saturating_add(1);
+    let number = index_in_input.saturating_add(1);
     let said = format!(in alloc; "line {number} is out of order: ")?;
     let mut text = Vec::from_slice(alloc, said.as_bytes())?;
     if let Some(line) = lines.get(index) {

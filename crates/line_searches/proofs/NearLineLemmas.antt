@@ -4,10 +4,12 @@ use Rattle.std.specs.Prelude.{get_or, if◌then◌else◌, min, nat_lt, ◌&&◌
 use Rattle.std.specs.Borrow.{Bor}
 use Rattle.icu_search_places.specs.Searches.{Search}
 use Rattle.line_sorts.specs.ShownLines.{shown_lines}
+use Rattle.line_searches.specs.LineSpots.{spot_after}
 use Rattle.line_searches.specs.NearLines.{near_from, near_line, near_lines, wanted_before}
 use Rattle.line_searches.specs.WantedLines.{wanted_count, wants}
 use Rattle.line_searches.specs.inner.WantedCounts.{count_after, count_before, count_behind, counts_from}
 use Rattle.line_searches.specs.declared.near_lines.WantedCounts.{WantedCounts}
+use Rattle.line_searches.specs.declared.search_request.LineSpot.{LineSpot}
 use Rattle.line_searches.specs.declared.search_request.SearchRequest.{SearchRequest}
 
 module _ (r : SearchRequest) (s : List Search) where
@@ -38,15 +40,17 @@ module _ (r : SearchRequest) (s : List Search) where
       count_at (count_after r s k line) lines n (few_after k line few) ∙ more_after k _ line (filter (wants r s) (take n lines)) few refl
 
   -- lines are printed alike by two counts that are one for each number
-  line_same : (f g : ℕ → ℕ) (i : ℕ) (line : List ℕ) → ((n : ℕ) → f n ≡ g n) → near_line f r s i line ≡ near_line g r s i line
-  line_same f g i line e =
+  line_same : (f g : ℕ → ℕ) (i : ℕ) (spot : LineSpot) (line : List ℕ) → ((n : ℕ) → f n ≡ g n)
+      → near_line f r s i spot line ≡ near_line g r s i spot line
+  line_same f g i spot line e =
       rw (e (i - r.after)) rw (e (i + 1 + r.before)) rw (e i) rw (e (i + 1)) rw (e (i - 1 - r.after)) rw (e (i - 1 + 1 + r.before)) refl
 
-  pub near_same : (f g : ℕ → ℕ) (i : ℕ) (lines : List (List ℕ)) → ((n : ℕ) → f n ≡ g n) → near_from f r s i lines ≡ near_from g r s i lines
-  near_same f g i [] e = refl
-  near_same f g i (line ∷ lines) e =
-      ap (λ (t : List ℕ). t ++ near_from f r s (i + 1) lines) (line_same f g i line e)
-      ∙ ap (λ (t : List ℕ). near_line g r s i line ++ t) (near_same f g (i + 1) lines e)
+  pub near_same : (f g : ℕ → ℕ) (i : ℕ) (spot : LineSpot) (lines : List (List ℕ)) → ((n : ℕ) → f n ≡ g n)
+      → near_from f r s i spot lines ≡ near_from g r s i spot lines
+  near_same f g i spot [] e = refl
+  near_same f g i spot (line ∷ lines) e =
+      ap (λ (t : List ℕ). t ++ near_from f r s (i + 1) (spot_after spot line) lines) (line_same f g i spot line e)
+      ∙ ap (λ (t : List ℕ). near_line g r s i spot line ++ t) (near_same f g (i + 1) (spot_after spot line) lines e)
 
   -- how many are wanted of all
   pub all_counted : (lines : List (List ℕ)) → count_behind r s 0 lines ≡ wanted_count r s lines
@@ -54,9 +58,9 @@ module _ (r : SearchRequest) (s : List Search) where
 
   -- by the counts before each line what is printed is what is near
   pub near_counted : (c : WantedCounts) (lines : List (List ℕ)) → c.before.items ≡ counts_from r s 0 lines
-      → c.total ≡ count_behind r s 0 lines → near_from (count_before c) r s 0 lines ≡ near_lines r s lines
+      → c.total ≡ count_behind r s 0 lines → near_from (count_before c) r s 0 r.first lines ≡ near_lines r s lines
   near_counted c lines e f =
-      near_same (count_before c) (wanted_before r s lines) 0 lines
+      near_same (count_before c) (wanted_before r s lines) 0 r.first lines
       (λ n. ap (λ (b : List ℕ). get_or b n c.total) e
       ∙ (ap (λ t. get_or (counts_from r s 0 lines) n t) f ∙ (count_at 0 lines n (omega arith) ∙ ap (min r.at_most) (omega arith))))
 

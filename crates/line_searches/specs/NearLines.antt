@@ -3,8 +3,10 @@
 use Rattle.std.specs.Prelude.{ℕ, ◌+◌, ◌-◌, nat_lt, Bool, not, List, [], ◌∷◌, ◌++◌, ◌&&◌, ◌||◌, if◌then◌else◌, take}
 use Rattle.icu_search_places.specs.Searches.{Search}
 use Rattle.line_searches.specs.LineSearches.{found_in}
+use Rattle.line_searches.specs.LineSpots.{spot_after}
 use Rattle.line_searches.specs.ShownMatches.{cyan, painted}
 use Rattle.line_searches.specs.WantedLines.{is_coloured, line_beside, shown_with, wanted_count, wanted_lines}
+use Rattle.line_searches.specs.declared.search_request.LineSpot.{LineSpot}
 use Rattle.line_searches.specs.declared.search_request.SearchRequest.{SearchRequest}
 
 -- how many of the first lines are wanted, by their number
@@ -32,22 +34,22 @@ abbrev pub group_before : (ℕ → ℕ) → SearchRequest → ℕ → List ℕ
 group_before wanted r i = if starts_group wanted r i then group_mark r else []
 
 -- a line that is printed
-abbrev pub line_near : (ℕ → ℕ) → SearchRequest → List Search → ℕ → List ℕ → List ℕ
-line_near wanted r s i line =
-    if is_wanted_at wanted i then shown_with r.shown r (i + 1) line (found_in r.kind s line) else line_beside r.shown r (i + 1) line
+abbrev pub line_near : (ℕ → ℕ) → SearchRequest → List Search → ℕ → LineSpot → List ℕ → List ℕ
+line_near wanted r s i spot line =
+    if is_wanted_at wanted i then shown_with r.shown r spot line (found_in r.kind s line) else line_beside r.shown r spot line
 
 -- a line as it is printed, if it is
-abbrev pub near_line : (ℕ → ℕ) → SearchRequest → List Search → ℕ → List ℕ → List ℕ
-near_line wanted r s i line = if is_near wanted r i then group_before wanted r i ++ line_near wanted r s i line else []
+abbrev pub near_line : (ℕ → ℕ) → SearchRequest → List Search → ℕ → LineSpot → List ℕ → List ℕ
+near_line wanted r s i spot line = if is_near wanted r i then group_before wanted r i ++ line_near wanted r s i spot line else []
 
--- lines as they are printed, if so many stand before the first
-abbrev pub near_from : (ℕ → ℕ) → SearchRequest → List Search → ℕ → List (List ℕ) → List ℕ
-near_from wanted r s i [] = []
-near_from wanted r s i (line ∷ lines) = near_line wanted r s i line ++ near_from wanted r s (i + 1) lines
+-- lines as they are printed, if so many stand before the first, and it stands here
+abbrev pub near_from : (ℕ → ℕ) → SearchRequest → List Search → ℕ → LineSpot → List (List ℕ) → List ℕ
+near_from wanted r s i spot [] = []
+near_from wanted r s i spot (line ∷ lines) = near_line wanted r s i spot line ++ near_from wanted r s (i + 1) (spot_after spot line) lines
 
 -- the lines that are wanted and those near them
 abbrev pub near_lines : SearchRequest → List Search → List (List ℕ) → List ℕ
-near_lines r s lines = near_from (wanted_before r s lines) r s 0 lines
+near_lines r s lines = near_from (wanted_before r s lines) r s 0 r.first lines
 
 -- what is printed of lines
 abbrev pub printed_lines : SearchRequest → List Search → List (List ℕ) → List ℕ

@@ -1,6 +1,6 @@
 //! The lines that are wanted, with those near them.
 
-ghost use Rattle.std.specs.Prelude.{◌≡◌, ◌≤◌, ◌++◌, IfOk, OnOk, length, map};
+ghost use Rattle.std.specs.Prelude.{◌≡◌, ◌≤◌, ◌+◌, ◌++◌, [], IfOk, OnOk, length, map};
 ghost use Rattle.icu_search.specs.Searchers.{search_of};
 ghost use Rattle.line_sorts.specs.InputLines.{lines_by};
 ghost use Rattle.line_sorts.specs.ShownLines.{shown_lines};
@@ -10,7 +10,8 @@ ghost use Rattle.line_searches.specs.WantedLines.{shown_with, wanted_count};
 ghost use Rattle.line_searches.specs.inner.WantedCounts.{count_after, count_before, count_behind, counts_from};
 
 use crate::line_matches::matches_of_line;
-use crate::search_request::{SearchRequest, Shown};
+use crate::line_spots::spot_after;
+use crate::search_request::{LineSpot, SearchRequest, Shown};
 use crate::shown_matches::{CYAN, is_coloured, push_beside, push_painted, push_printed};
 use crate::wanted_lines::{WantedText, push_shown, wants};
 use icu_search::Searcher;
@@ -19,9 +20,22 @@ use std::alloc::{AllocError, Global};
 
 /// How many lines are wanted of those before each line, and of all.
 #[derive(Drop)]
-struct WantedCounts {
-    before: Vec<usize>,
-    total: usize,
+pub(crate) struct WantedCounts {
+    pub(crate) before: Vec<usize>,
+    pub(crate) total: usize,
+}
+
+impl WantedCounts {
+    /// Those of no lines.
+    pub(crate) fn new(alloc: Global) -> WantedCounts
+        ensures before { result.before.items ≡ [] }
+        ensures total { result.total ≡ 0 }
+    {
+        WantedCounts {
+            before: Vec::new(alloc),
+            total: 0,
+        }
+    }
 }
 
 /// How many lines are wanted with a further line, at most as many as the request says.
@@ -41,29 +55,34 @@ fn count_after(
     Ok(count)
 }
 
-/// How many lines are wanted of those before each line, and of all.
-fn wanted_counts(
+/// Counts the lines that are wanted of further ones.
+pub(crate) fn count_lines(
     alloc: Global,
     searchers: &[Searcher<'_>],
     request: SearchRequest<'_>,
+    counts: &mut WantedCounts,
     lines: &[&[u8]],
-) -> Result<WantedCounts, AllocError>
-    ensures before { IfOk result (λ c. c.before.items
-        ≡ counts_from request.entry (map search_of searchers.now) 0 (shown_lines lines.now)) }
-    ensures total { IfOk result (λ c. c.total
-        ≡ count_behind request.entry (map search_of searchers.now) 0 (shown_lines lines.now)) }
+) -> Result<(), AllocError>
+    ensures before { OnOk result (counts.new.before.items ≡ counts.old.before.items
+        ++ counts_from request.entry (map search_of searchers.now) counts.old.total
+        (shown_lines lines.now)) }
+    ensures total { OnOk result (counts.new.total
+        ≡ count_behind request.entry (map search_of searchers.now) counts.old.total
+        (shown_lines lines.now)) }
+    ensures more { OnOk result (length counts.new.before.items
+        ≡ length counts.old.before.items + length lines.now) }
 {
-    let mut before = Vec::new(alloc);
-    let mut total = 0usize;
     for line in lines {
-        before.push(total)?;
-        total = count_after(alloc, searchers, request, total, line)?;
+        let total = counts.total;
+        let after = count_after(alloc, searchers, request, total, line)?;
+        counts.before.push(total)?;
+        counts.total = after;
     }
-    Ok(WantedCounts { before, total })
+    Ok(())
 }
 
 /// How many of some first lines are wanted.
-fn wanted_before(counts: &WantedCounts, lines: usize) -> usize
+pub(crate) fn wanted_before(counts: &WantedCounts, lines: usize) -> usize
     ensures { result ≡ count_before counts.now lines }
 {
     match counts.before.get(lines) {
@@ -81,7 +100,7 @@ fn is_wanted_at(counts: &WantedCounts, index: usize) -> bool
 }
 
 /// Whether a line is wanted, or one near it, by its index.
-fn is_near(counts: &WantedCounts, request: SearchRequest<'_>, index: usize) -> bool
+pub(crate) fn is_near(counts: &WantedCounts, request: SearchRequest<'_>, index: usize) -> bool
     requires { index ≤ length counts.now.before.items }
     ensures { result ≡ is_near (count_before counts.now) request.entry index }
 {
@@ -124,22 +143,22 @@ fn push_found(
     searchers: &[Searcher<'_>],
     text: &mut Vec<u8>,
     request: SearchRequest<'_>,
-    number: usize,
+    spot: LineSpot,
     line: &[u8],
 ) -> Result<(), AllocError>
     ensures { OnOk result (text.new.items ≡ text.old.items
-        ++ shown_with request.entry.shown request.entry number line.now
+        ++ shown_with request.entry.shown request.entry spot line.now
         (found_in request.entry.kind (map search_of searchers.now) line.now)) }
 {
     match request.shown {
-        Shown::Line => push_printed(alloc, text, request, number, line),
+        Shown::Line => push_printed(alloc, text, request, spot, line),
         Shown::ColouredLine | Shown::Matches | Shown::ColouredMatches => {
             let found = matches_of_line(alloc, searchers, request.kind, line)?;
             push_shown(
                 alloc,
                 text,
                 request,
-                number,
+                spot,
                 line,
                 found.decoded.as_bytes(),
                 found.matches.as_slice(),
@@ -156,43 +175,49 @@ fn push_if_near(
     request: SearchRequest<'_>,
     counts: &WantedCounts,
     index: usize,
+    spot: LineSpot,
     line: &[u8],
 ) -> Result<(), AllocError>
     requires { index ≤ length counts.now.before.items }
     ensures { OnOk result (text.new.items ≡ text.old.items
         ++ near_line (count_before counts.now) request.entry (map search_of searchers.now) index
-        line.now) }
+        spot line.now) }
 {
     if !is_near(counts, request, index) {
         return Ok(());
     }
     push_group_mark(text, request, counts, index)?;
     if is_wanted_at(counts, index) {
-        push_found(alloc, searchers, text, request, index + 1, line)
+        push_found(alloc, searchers, text, request, spot, line)
     } else {
-        push_beside(alloc, text, request, index + 1, line)
+        push_beside(alloc, text, request, spot, line)
     }
 }
 
-/// The lines that are printed, by how many are wanted.
-fn text_by_counts(
+/// Appends lines as they are printed, by how many are wanted, if so many stand before the first, and it stands here.
+pub(crate) fn push_near(
     alloc: Global,
     searchers: &[Searcher<'_>],
+    text: &mut Vec<u8>,
     request: SearchRequest<'_>,
     counts: &WantedCounts,
+    first: usize,
+    spot: LineSpot,
     lines: &[&[u8]],
-) -> Result<Vec<u8>, AllocError>
-    requires { length counts.now.before.items ≡ length lines.now }
-    ensures { IfOk result (λ text. text.items ≡ near_from (count_before counts.now) request.entry
-        (map search_of searchers.now) 0 (shown_lines lines.now)) }
+) -> Result<(), AllocError>
+    requires { first + length lines.now ≤ length counts.now.before.items }
+    ensures { OnOk result (text.new.items ≡ text.old.items
+        ++ near_from (count_before counts.now) request.entry
+        (map search_of searchers.now) first spot (shown_lines lines.now)) }
 {
-    let mut text = Vec::new(alloc);
-    let mut index = 0usize;
+    let mut index = first;
+    let mut at = spot;
     for line in lines {
-        push_if_near(alloc, searchers, &mut text, request, counts, index, line)?;
+        push_if_near(alloc, searchers, text, request, counts, index, at, line)?;
         index += 1;
+        at = spot_after(at, line);
     }
-    Ok(text)
+    Ok(())
 }
 
 /// The first lines of an input that are wanted, at most as many as the request says, and those near them, as they are
@@ -212,9 +237,15 @@ pub fn near_text(
     ensures count { IfOk result (λ near. near.count ≡ wanted_count request.entry
         (map search_of searchers.now) (lines_by request.entry.separator bytes.now)) }
 {
-    let lines = lines_by(alloc, bytes, request.separator)?;
-    let counts = wanted_counts(alloc, searchers, request, lines.as_slice())?;
-    let text = text_by_counts(alloc, searchers, request, &counts, lines.as_slice())?;
+    let found = lines_by(alloc, bytes, request.separator)?;
+    let lines = found.as_slice();
+    let mut counts = WantedCounts::new(alloc);
+    count_lines(alloc, searchers, request, &mut counts, lines)?;
+    let mut text = Vec::new(alloc);
+    let spot = request.first;
+    push_near(
+        alloc, searchers, &mut text, request, &counts, 0, spot, lines,
+    )?;
     Ok(WantedText {
         text,
         count: counts.total,

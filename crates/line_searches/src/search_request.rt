@@ -33,6 +33,15 @@ pub enum Shown {
     ColouredMatches,
 }
 
+/// Where a line of an input is, or a match.
+#[derive(Clone, Copy, PartialEq, Eq)]
+pub struct LineSpot {
+    /// The number of the line, from 1 on: the greatest that there is for a greater one.
+    pub number: usize,
+    /// How many bytes of the input are before it, so counted.
+    pub offset: usize,
+}
+
 /// Which lines are asked for, and how they are printed.
 #[derive(Clone, Copy)]
 pub struct SearchRequest<'a> {
@@ -48,6 +57,11 @@ pub struct SearchRequest<'a> {
     pub beside: &'a [u8],
     /// Whether the number of each line stands before it, from 1 on, and a colon, or a hyphen if it isn't wanted itself.
     pub is_numbered: bool,
+    /// Whether there is before each line how many bytes are before it, so marked. For matches that are printed by
+    /// themselves it is how many are before the match, by the line as it decodes.
+    pub has_offsets: bool,
+    /// Where the first line is.
+    pub first: LineSpot,
     /// Whether groups of lines have `--` between them, and lines near those that are wanted are printed, too.
     pub is_grouped: bool,
     /// Whether lines of another input were printed: then there is `--` before the first of this one.

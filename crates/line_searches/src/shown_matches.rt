@@ -2,9 +2,10 @@
 
 ghost use Rattle.std.specs.Prelude.{◌≡◌, ◌++◌, IfOk, OnOk, drop};
 ghost use Rattle.line_searches.specs.ShownMatches.{bytes_between, coloured, coloured_from, in_colour, next_coloured, painted};
-ghost use Rattle.line_searches.specs.WantedLines.{is_coloured, line_beside, match_line, match_lines, match_text, number_before, printed_line};
+ghost use Rattle.line_searches.specs.WantedLines.{is_coloured, line_beside, match_line, match_lines, match_text, number_before, printed_line, spot_before};
 
-use crate::search_request::{SearchRequest, Shown};
+use crate::line_spots::spot_of_match;
+use crate::search_request::{LineSpot, SearchRequest, Shown};
 use icu_search::Match;
 use line_sorts::push_line;
 use std::alloc::{AllocError, Global};
@@ -107,18 +108,19 @@ pub(crate) fn push_coloured_line(
     Ok(())
 }
 
-/// Appends the number of a line and a byte behind it, if that is asked for.
+/// Appends a number of a line and a byte behind it, if that is asked for.
 fn push_number(
     alloc: Global,
     text: &mut Vec<u8>,
     request: SearchRequest<'_>,
+    is_asked: bool,
     mark: u8,
     number: usize,
 ) -> Result<(), AllocError>
     ensures { OnOk result (text.new.items
-        ≡ text.old.items ++ number_before request.entry mark number) }
+        ≡ text.old.items ++ number_before request.entry is_asked mark number) }
 {
-    if !request.is_numbered {
+    if !is_asked {
         return Ok(());
     }
     let has_colours = is_coloured(request.shown);
@@ -127,19 +129,35 @@ fn push_number(
     push_painted(text, has_colours, CYAN, &[mark])
 }
 
-/// Appends a printed line: what stands before it, maybe its number, bytes, and what ends it.
+/// Appends the number of a line and how many bytes stand before it, with a byte behind each, as far as they are asked
+/// for.
+fn push_spot(
+    alloc: Global,
+    text: &mut Vec<u8>,
+    request: SearchRequest<'_>,
+    mark: u8,
+    spot: LineSpot,
+) -> Result<(), AllocError>
+    ensures { OnOk result (text.new.items
+        ≡ text.old.items ++ spot_before request.entry mark spot) }
+{
+    push_number(alloc, text, request, request.is_numbered, mark, spot.number)?;
+    push_number(alloc, text, request, request.has_offsets, mark, spot.offset)
+}
+
+/// Appends a printed line: what stands before it, maybe its number and where it is, bytes, and what ends it.
 pub(crate) fn push_printed(
     alloc: Global,
     text: &mut Vec<u8>,
     request: SearchRequest<'_>,
-    number: usize,
+    spot: LineSpot,
     bytes: &[u8],
 ) -> Result<(), AllocError>
     ensures { OnOk result (text.new.items
-        ≡ text.old.items ++ printed_line request.entry number bytes.now) }
+        ≡ text.old.items ++ printed_line request.entry spot bytes.now) }
 {
     text.extend_from_slice(request.prefix)?;
-    push_number(alloc, text, request, b':', number)?;
+    push_spot(alloc, text, request, b':', spot)?;
     push_line(text, bytes, request.separator)
 }
 
@@ -148,17 +166,17 @@ pub(crate) fn push_beside(
     alloc: Global,
     text: &mut Vec<u8>,
     request: SearchRequest<'_>,
-    number: usize,
+    spot: LineSpot,
     line: &[u8],
 ) -> Result<(), AllocError>
     ensures { OnOk result (text.new.items
-        ≡ text.old.items ++ line_beside request.entry.shown request.entry number line.now) }
+        ≡ text.old.items ++ line_beside request.entry.shown request.entry spot line.now) }
 {
     match request.shown {
         Shown::Matches | Shown::ColouredMatches => Ok(()),
         Shown::Line | Shown::ColouredLine => {
             text.extend_from_slice(request.beside)?;
-            push_number(alloc, text, request, b'-', number)?;
+            push_spot(alloc, text, request, b'-', spot)?;
             push_line(text, line, request.separator)
         }
     }
@@ -183,12 +201,12 @@ fn push_match(
     alloc: Global,
     text: &mut Vec<u8>,
     request: SearchRequest<'_>,
-    number: usize,
+    spot: LineSpot,
     line: &[u8],
     next: Match,
 ) -> Result<(), AllocError>
     ensures { OnOk result (text.new.items
-        ≡ text.old.items ++ match_line request.entry number line.now next) }
+        ≡ text.old.items ++ match_line request.entry spot line.now next) }
 {
     if next.start() >= next.end() {
         return Ok(());
@@ -198,7 +216,8 @@ fn push_match(
         request.shown,
         bytes_between(line, next.start(), next.end()),
     )?;
-    push_printed(alloc, text, request, number, shown.as_slice())
+    let spot = spot_of_match(spot, next);
+    push_printed(alloc, text, request, spot, shown.as_slice())
 }
 
 /// Appends the matches of a line, each on a line of its own.
@@ -206,15 +225,15 @@ pub(crate) fn push_matches(
     alloc: Global,
     text: &mut Vec<u8>,
     request: SearchRequest<'_>,
-    number: usize,
+    spot: LineSpot,
     line: &[u8],
     matches: &[Match],
 ) -> Result<(), AllocError>
     ensures { OnOk result (text.new.items
-        ≡ text.old.items ++ match_lines request.entry number line.now matches.now) }
+        ≡ text.old.items ++ match_lines request.entry spot line.now matches.now) }
 {
     for next in matches {
-        push_match(alloc, text, request, number, line, *next)?;
+        push_match(alloc, text, request, spot, line, *next)?;
     }
     Ok(())
 }

@@ -8,7 +8,8 @@ ghost use Rattle.line_searches.specs.ShownMatches.{coloured_from};
 ghost use Rattle.line_searches.specs.WantedLines.{printed_line, shown_if_wanted, shown_next, shown_with, wanted_count, wanted_left, wanted_lines, wants};
 
 use crate::line_matches::{is_line_wanted, matches_of_line};
-use crate::search_request::{SearchRequest, Shown};
+use crate::line_spots::spot_after;
+use crate::search_request::{LineSpot, SearchRequest, Shown};
 use crate::shown_matches::{push_coloured_line, push_matches, push_printed};
 use icu_search::{Match, Searcher};
 use line_sorts::lines_by;
@@ -19,16 +20,16 @@ fn push_coloured_printed(
     alloc: Global,
     text: &mut Vec<u8>,
     request: SearchRequest<'_>,
-    number: usize,
+    spot: LineSpot,
     decoded: &[u8],
     matches: &[Match],
 ) -> Result<(), AllocError>
     ensures { OnOk result (text.new.items ≡ text.old.items
-        ++ printed_line request.entry number (coloured_from decoded.now 0 matches.now)) }
+        ++ printed_line request.entry spot (coloured_from decoded.now 0 matches.now)) }
 {
     let mut coloured = Vec::new(alloc);
     push_coloured_line(&mut coloured, decoded, matches)?;
-    push_printed(alloc, text, request, number, coloured.as_slice())
+    push_printed(alloc, text, request, spot, coloured.as_slice())
 }
 
 /// Appends a line with matches as it is printed.
@@ -36,22 +37,22 @@ pub(crate) fn push_shown(
     alloc: Global,
     text: &mut Vec<u8>,
     request: SearchRequest<'_>,
-    number: usize,
+    spot: LineSpot,
     line: &[u8],
     decoded: &[u8],
     matches: &[Match],
 ) -> Result<(), AllocError>
     requires { decoded.now ≡ decoded_line line.now }
     ensures { OnOk result (text.new.items ≡ text.old.items
-        ++ shown_with request.entry.shown request.entry number line.now matches.now) }
+        ++ shown_with request.entry.shown request.entry spot line.now matches.now) }
 {
     match request.shown {
-        Shown::Line => push_printed(alloc, text, request, number, line),
+        Shown::Line => push_printed(alloc, text, request, spot, line),
         Shown::ColouredLine => {
-            push_coloured_printed(alloc, text, request, number, decoded, matches)
+            push_coloured_printed(alloc, text, request, spot, decoded, matches)
         }
         Shown::Matches | Shown::ColouredMatches => {
-            push_matches(alloc, text, request, number, decoded, matches)
+            push_matches(alloc, text, request, spot, decoded, matches)
         }
     }
 }
@@ -71,11 +72,11 @@ fn push_wanted(
     searchers: &[Searcher<'_>],
     text: &mut Vec<u8>,
     request: SearchRequest<'_>,
-    number: usize,
+    spot: LineSpot,
     line: &[u8],
 ) -> Result<bool, AllocError>
     ensures text { OnOk result (text.new.items ≡ text.old.items
-        ++ shown_if_wanted request.entry number line.now
+        ++ shown_if_wanted request.entry spot line.now
         (found_in request.entry.kind (map search_of searchers.now) line.now)) }
     ensures wanted { IfOk result (λ b. b
         ≡ wants request.entry (map search_of searchers.now) line.now) }
@@ -88,7 +89,7 @@ fn push_wanted(
         alloc,
         text,
         request,
-        number,
+        spot,
         line,
         found.decoded.as_bytes(),
         found.matches.as_slice(),
@@ -103,18 +104,18 @@ fn push_if_left(
     text: &mut Vec<u8>,
     request: SearchRequest<'_>,
     left: usize,
-    number: usize,
+    spot: LineSpot,
     line: &[u8],
 ) -> Result<usize, AllocError>
     ensures text { OnOk result (text.new.items ≡ text.old.items
-        ++ shown_next request.entry (map search_of searchers.now) left number line.now) }
+        ++ shown_next request.entry (map search_of searchers.now) left spot line.now) }
     ensures left { IfOk result (λ n. n
         ≡ wanted_left request.entry (map search_of searchers.now) left line.now) }
 {
     if left == 0 {
         return Ok(0);
     }
-    if push_wanted(alloc, searchers, text, request, number, line)? {
+    if push_wanted(alloc, searchers, text, request, spot, line)? {
         Ok(left - 1)
     } else {
         Ok(left)
@@ -139,11 +140,11 @@ pub fn wanted_text(
 {
     let lines = lines_by(alloc, bytes, request.separator)?;
     let mut text = Vec::new(alloc);
-    let mut number = 1usize;
+    let mut spot = request.first;
     let mut left = request.at_most;
     for line in lines.as_slice() {
-        left = push_if_left(alloc, searchers, &mut text, request, left, number, line)?;
-        number += 1;
+        left = push_if_left(alloc, searchers, &mut text, request, left, spot, line)?;
+        spot = spot_after(spot, line);
     }
     Ok(WantedText {
         text,

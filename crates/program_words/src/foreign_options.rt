@@ -6,13 +6,7 @@ use clap::{ArgMatches, Command};
 use std::alloc::{AllocError, Global};
 
 /// Those of `sort`. In the place of help stands what is said of each.
-pub static SORT_OPTIONS: [OptionRow; 8] = [
-    OptionRow {
-        id: "ignore-leading-blanks",
-        letter: Some('b'),
-        takes: Takes::Nothing,
-        help: "-b isn't taken: the letter b of a key passes over blanks, as -k1b does at the beginning of lines",
-    },
+pub static SORT_OPTIONS: [OptionRow; 6] = [
     OptionRow {
         id: "ignore-case",
         letter: Some('f'),
@@ -26,12 +20,6 @@ pub static SORT_OPTIONS: [OptionRow; 8] = [
         help: "-d isn't taken: --alternate blanked leaves out spaces and punctuation",
     },
     OptionRow {
-        id: "numeric-sort",
-        letter: Some('n'),
-        takes: Takes::Nothing,
-        help: "-n isn't taken: -k1n compares the numbers with which lines begin, and --numeric the digits of a text",
-    },
-    OptionRow {
         id: "human-numeric-sort",
         letter: Some('h'),
         takes: Takes::Nothing,
@@ -41,7 +29,7 @@ pub static SORT_OPTIONS: [OptionRow; 8] = [
         id: "general-numeric-sort",
         letter: Some('g'),
         takes: Takes::Nothing,
-        help: "-g isn't taken: no collation reads 1e9 as a number, as sort -g does; -k1n compares digits and a fraction",
+        help: "-g isn't taken: no collation reads 1e9 as a number, as sort -g does; -n compares digits and a fraction",
     },
     OptionRow {
         id: "month-sort",
@@ -58,7 +46,7 @@ pub static SORT_OPTIONS: [OptionRow; 8] = [
 ];
 
 /// Those of `grep`.
-pub static GREP_OPTIONS: [OptionRow; 5] = [
+pub static GREP_OPTIONS: [OptionRow; 4] = [
     OptionRow {
         id: "extended-regexp",
         letter: Some('E'),
@@ -76,12 +64,6 @@ pub static GREP_OPTIONS: [OptionRow; 5] = [
         letter: Some('P'),
         takes: Takes::Nothing,
         help: "-P isn't taken: a pattern is a text, and no regular expression",
-    },
-    OptionRow {
-        id: "byte-offset",
-        letter: Some('b'),
-        takes: Takes::Nothing,
-        help: "-b isn't taken: -n prints the numbers of lines",
     },
     OptionRow {
         id: "dereference-recursive",

@@ -12,6 +12,7 @@ pub mod option_table;
 pub mod rule_words;
 pub mod said_errors;
 pub mod search_options;
+pub mod search_type;
 pub mod sort_options;
 pub mod words;
 
@@ -28,6 +29,7 @@ pub use search_options::{
     LineNumbers, has_several_strengths, line_numbers, pattern_files, patterns_of, searched_files,
     wrong_line_number,
 };
+pub use search_type::word_for_search;
 pub use sort_options::{
     CheckWanted, character_asked, check_of, listed_files, separator_of, sort_request_of,
 };

@@ -112,7 +112,7 @@ pub(crate) static SEPARATORS: [OptionRow; 1] = [OptionRow {
 }];
 
 /// Those for records of CSV, for keys of lines, and for how equal lines and all lines stand.
-pub(crate) static ORDERS: [OptionRow; 10] = [
+pub(crate) static ORDERS: [OptionRow; 12] = [
     OptionRow {
         id: "csv",
         letter: None,
@@ -150,6 +150,18 @@ pub(crate) static ORDERS: [OptionRow; 10] = [
         help: "Ends a field; where none is said, blanks belong to the field behind\nthem",
     },
     OptionRow {
+        id: "numeric-sort",
+        letter: Some('n'),
+        takes: Takes::Nothing,
+        help: "Compares the numbers with which lines begin, and keys and columns\nwithout letters",
+    },
+    OptionRow {
+        id: "ignore-leading-blanks",
+        letter: Some('b'),
+        takes: Takes::Nothing,
+        help: "Passes over the blanks with which lines begin, and keys without\nletters",
+    },
+    OptionRow {
         id: "reverse",
         letter: Some('r'),
         takes: Takes::Nothing,
@@ -176,7 +188,7 @@ pub(crate) static ORDERS: [OptionRow; 10] = [
 ];
 
 /// Those of the command `sort` alone, before the one that checks.
-pub(crate) static SORTS: [OptionRow; 4] = [
+pub(crate) static SORTS: [OptionRow; 5] = [
     OptionRow {
         id: "output",
         letter: Some('o'),
@@ -188,6 +200,12 @@ pub(crate) static SORTS: [OptionRow; 4] = [
         letter: Some('m'),
         takes: Takes::Nothing,
         help: "The lines of each file are in order already",
+    },
+    OptionRow {
+        id: "debug",
+        letter: None,
+        takes: Takes::Nothing,
+        help: "Underlines the keys of each line, on lines of their own",
     },
     OptionRow {
         id: "parallel",
@@ -220,7 +238,7 @@ pub(crate) static QUIET: [OptionRow; 1] = [OptionRow {
 }];
 
 /// Those of the command `search`.
-pub(crate) static SEARCHES: [OptionRow; 27] = [
+pub(crate) static SEARCHES: [OptionRow; 28] = [
     OptionRow {
         id: "zero-terminated",
         letter: Some('z'),
@@ -249,7 +267,7 @@ pub(crate) static SEARCHES: [OptionRow; 27] = [
         id: "line-buffered",
         letter: None,
         takes: Takes::Nothing,
-        help: "Changes nothing, as what is found in a file is printed at once",
+        help: "Prints each line as soon as it is found, as on a terminal",
     },
     OptionRow {
         id: "max-count",
@@ -292,6 +310,12 @@ pub(crate) static SEARCHES: [OptionRow; 27] = [
         letter: Some('n'),
         takes: Takes::Nothing,
         help: "Prints the number of each line before it",
+    },
+    OptionRow {
+        id: "byte-offset",
+        letter: Some('b'),
+        takes: Takes::Nothing,
+        help: "Prints before each line how many bytes of its file are before it",
     },
     OptionRow {
         id: "after-context",

@@ -186,7 +186,7 @@ fn keys_command<'a>(alloc: Global) -> Result<Command<'a>, AllocError> {
 fn compile_command<'a>(alloc: Global) -> Result<Command<'a>, AllocError> {
     let command = Command::new(alloc, "compile")
         .about(
-            "Writes the tables of a language, checked, to a file that --tables takes,\nand that is read at once",
+            "Writes the tables of a language, checked, to a file for --tables,\nwhich is read at once",
         )
         .args_override_self(true);
     let command = with_options(alloc, command, DATA.as_slice())?;

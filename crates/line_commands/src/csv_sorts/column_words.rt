@@ -1,9 +1,8 @@
 //! The columns that words name.
 
 use crate::csv_sorts::csv_request::{ColumnSort, CsvError};
-use crate::field_sorts::{FieldOrder, direction_of};
+use crate::field_sorts::{WholeOrder, direction_beside, order_by};
 use csv::ByteRecord;
-use line_sorts::Direction;
 use line_sorts::csv_records::{column_named, csv_fields, csv_records, past_mark};
 use std::alloc::Global;
 
@@ -89,34 +88,35 @@ pub(crate) fn with_letters<'a>(word: &'a str) -> Option<(&'a str, ColumnLetters)
     Some((name, letters_of(letters)?))
 }
 
-/// The column that a word names, without letters or with them, beside a whole order that may be reversed.
+/// The column that a word names, without letters or with them, beside what is said of all columns.
 fn sort_of_word(
     header: &ByteRecord,
     word: &str,
     index: usize,
-    is_reversed: bool,
+    whole: WholeOrder,
 ) -> Result<ColumnSort, CsvError> {
     let found = column_of_word(header, word, index);
-    match (found, with_letters(word)) {
-        (Err(CsvError::Unnamed { .. }), Some((name, letters))) => Ok(ColumnSort {
-            column: column_of_word(header, name, index)?,
-            order: if letters.is_numeric {
-                FieldOrder::AsNumber
-            } else {
-                FieldOrder::AsText
+    let (found, letters) = match (found, with_letters(word)) {
+        (Err(CsvError::Unnamed { .. }), Some((name, letters))) => {
+            (column_of_word(header, name, index), letters)
+        }
+        (found, _) => (
+            found,
+            ColumnLetters {
+                is_numeric: whole.is_numeric,
+                is_reversed: whole.is_reversed,
             },
-            direction: direction_of(true, letters.is_reversed, is_reversed),
-        }),
-        (found, _) => Ok(ColumnSort {
-            column: found?,
-            order: FieldOrder::AsText,
-            direction: Direction::Ascending,
-        }),
-    }
+        ),
+    };
+    Ok(ColumnSort {
+        column: found?,
+        order: order_by(letters.is_numeric),
+        direction: direction_beside(letters.is_reversed, whole.is_reversed),
+    })
 }
 
-/// The columns that words name, beside a whole order that may be reversed: by a name of the header, or else by a number
-/// from 1 on. If a word is no name, it may have a colon and letters at its end, `n`, `r` or both.
+/// The columns that words name, beside what is said of all of them: by a name of the header, or else by a number from 1
+/// on. If a word is no name, it may have a colon and letters at its end, `n`, `r` or both.
 ///
 /// # Errors
 ///
@@ -127,12 +127,12 @@ pub fn columns_of_words(
     has_header: bool,
     text: &[u8],
     words: &[&str],
-    is_reversed: bool,
+    whole: WholeOrder,
 ) -> Result<Vec<ColumnSort>, CsvError> {
     let header = header_fields(alloc, delimiter, has_header, text)?;
     let mut columns = Vec::new(alloc);
     for (i, word) in words.iter().enumerate() {
-        columns.push(sort_of_word(&header, word, i, is_reversed)?)?;
+        columns.push(sort_of_word(&header, word, i, whole)?)?;
     }
     Ok(columns)
 }

@@ -19,6 +19,10 @@ pub struct CsvWords<'w, 'a> {
     pub files: usize,
     /// Whether lines end with a zero byte.
     pub is_zero_terminated: bool,
+    /// Whether blanks at the beginning of keys don't count, by `-b`.
+    pub skips_blanks: bool,
+    /// Whether keys are shown, by `--debug`.
+    pub shows_keys: bool,
 }
 
 /// The byte that a word names as the one between two fields: a character of ASCII that is no quote and ends no line.
@@ -53,6 +57,12 @@ fn wrong_beside(words: &CsvWords<'_, '_>) -> Option<&'static str> {
     }
     if words.is_zero_terminated {
         return Some("--zero-terminated isn't for --csv");
+    }
+    if words.skips_blanks {
+        return Some("-b isn't for --csv");
+    }
+    if words.shows_keys {
+        return Some("--debug isn't for --csv");
     }
     None
 }

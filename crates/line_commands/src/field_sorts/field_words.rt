@@ -14,6 +14,17 @@ fn ends_of(word: &str) -> Option<FieldEnds> {
     }
 }
 
+/// What is said of keys without letters of their own, and of the whole line if there is no key.
+#[derive(Clone, Copy)]
+pub struct WholeOrder {
+    /// The blanks with which a part begins don't count.
+    pub skips_blanks: bool,
+    /// Parts are compared by the number with which they begin.
+    pub is_numeric: bool,
+    /// The order is reversed.
+    pub is_reversed: bool,
+}
+
 /// Which part of a position comes next.
 #[derive(Clone, Copy, PartialEq, Eq)]
 enum Stage {
@@ -52,6 +63,16 @@ impl KeyPosition {
     /// Whether it has letters.
     fn has_letters(self) -> bool {
         self.stage == Stage::Letters
+    }
+
+    /// A position without letters of a key without any: what is said of all keys counts.
+    fn by_whole(self, whole: WholeOrder) -> KeyPosition {
+        KeyPosition {
+            skips_blanks: whole.skips_blanks,
+            is_numeric: whole.is_numeric,
+            is_reversed: whole.is_reversed,
+            ..self
+        }
     }
 }
 
@@ -155,59 +176,83 @@ fn stop_of(position: KeyPosition) -> KeyStop {
     }
 }
 
-/// The direction of a key beside that of the whole order: its own letters say it, or else it is that of the whole.
-pub(crate) fn direction_of(
-    has_letters: bool,
-    is_reversed: bool,
-    is_whole_reversed: bool,
-) -> Direction {
-    if has_letters && is_reversed != is_whole_reversed {
-        Direction::Descending
-    } else {
+/// The direction of a key beside that of the whole order.
+pub(crate) fn direction_beside(is_reversed: bool, is_whole_reversed: bool) -> Direction {
+    if is_reversed == is_whole_reversed {
         Direction::Ascending
+    } else {
+        Direction::Descending
     }
 }
 
-/// The key that two positions name.
-fn key_between(
+/// By what the parts are compared that are a key.
+pub(crate) fn order_by(is_numeric: bool) -> FieldOrder {
+    if is_numeric {
+        FieldOrder::AsNumber
+    } else {
+        FieldOrder::AsText
+    }
+}
+
+/// The key between two positions, with their letters.
+fn key_with_letters(
     first: KeyPosition,
     last: Option<KeyPosition>,
-    is_whole_reversed: bool,
+    whole: WholeOrder,
 ) -> Option<FieldSort> {
     let end = last.unwrap_or(KeyPosition::new());
-    let stop = match last {
-        None => KeyStop::LineEnd,
-        Some(last) => stop_of(last),
-    };
-    let has_letters = first.has_letters() || end.has_letters();
+    let is_reversed = first.is_reversed || end.is_reversed;
     Some(FieldSort {
         part: FieldKey {
             start: start_of(first)?,
-            stop,
+            stop: match last {
+                None => KeyStop::LineEnd,
+                Some(last) => stop_of(last),
+            },
         },
-        order: if first.is_numeric || end.is_numeric {
-            FieldOrder::AsNumber
-        } else {
-            FieldOrder::AsText
-        },
-        direction: direction_of(
-            has_letters,
-            first.is_reversed || end.is_reversed,
-            is_whole_reversed,
-        ),
+        order: order_by(first.is_numeric || end.is_numeric),
+        direction: direction_beside(is_reversed, whole.is_reversed),
     })
 }
 
-/// The key that the word behind `-k` names, `POS1[,POS2]`, beside a whole order that may be reversed.
-fn key_of_word(word: &str, is_whole_reversed: bool) -> Option<FieldSort> {
-    match word.split_once(',') {
-        None => key_between(position_of(word)?, None, is_whole_reversed),
-        Some((first, last)) => key_between(
-            position_of(first)?,
-            Some(position_of(last)?),
-            is_whole_reversed,
-        ),
+/// The key that two positions name: if they have no letters, what is said of all keys counts.
+fn key_between(
+    first: KeyPosition,
+    last: Option<KeyPosition>,
+    whole: WholeOrder,
+) -> Option<FieldSort> {
+    let has_letters = match last {
+        None => first.has_letters(),
+        Some(last) => first.has_letters() || last.has_letters(),
+    };
+    if has_letters {
+        return key_with_letters(first, last, whole);
     }
+    let last = match last {
+        None => None,
+        Some(last) => Some(last.by_whole(whole)),
+    };
+    key_with_letters(first.by_whole(whole), last, whole)
+}
+
+/// The key that the word behind `-k` names, `POS1[,POS2]`, beside what is said of all keys.
+fn key_of_word(word: &str, whole: WholeOrder) -> Option<FieldSort> {
+    match word.split_once(',') {
+        None => key_between(position_of(word)?, None, whole),
+        Some((first, last)) => { key_between(position_of(first)?, Some(position_of(last)?), whole) }
+    }
+}
+
+/// The whole line as a key, if blanks don't count in it, or it is compared by the number with which it begins.
+fn whole_key(whole: WholeOrder) -> Option<FieldSort> {
+    if !whole.skips_blanks && !whole.is_numeric {
+        return None;
+    }
+    let first = KeyPosition {
+        field: 1,
+        ..KeyPosition::new()
+    };
+    key_between(first, None, whole)
 }
 
 /// What ends a field, by the word behind `-t`: blanks where there is none, or a wrong one.
@@ -218,7 +263,8 @@ pub fn field_ends(word: Option<&str>) -> FieldEnds {
     }
 }
 
-/// The keys that words name beside a whole order that may be reversed, as far as the words are right.
+/// The keys that words name beside what is said of all keys, as far as the words are right. If there is no word, it is
+/// the whole line, or none if that is compared as it is.
 ///
 /// # Errors
 ///
@@ -226,21 +272,26 @@ pub fn field_ends(word: Option<&str>) -> FieldEnds {
 pub fn keys_of_words(
     alloc: Global,
     words: &[&str],
-    is_reversed: bool,
+    whole: WholeOrder,
 ) -> Result<Vec<FieldSort>, AllocError> {
     let mut sorts = Vec::new(alloc);
     for word in words {
-        if let Some(sort) = key_of_word(word, is_reversed) {
+        if let Some(sort) = key_of_word(word, whole) {
             sorts.push(sort)?;
         }
+    }
+    if words.is_empty()
+        && let Some(sort) = whole_key(whole)
+    {
+        sorts.push(sort)?;
     }
     Ok(sorts)
 }
 
 /// The first word that names no key.
-fn first_wrong<'a>(words: &[&'a str], is_reversed: bool) -> Option<&'a str> {
+fn first_wrong<'a>(words: &[&'a str], whole: WholeOrder) -> Option<&'a str> {
     for word in words {
-        if key_of_word(word, is_reversed).is_none() {
+        if key_of_word(word, whole).is_none() {
             return Some(*word);
         }
     }
@@ -251,12 +302,12 @@ fn first_wrong<'a>(words: &[&'a str], is_reversed: bool) -> Option<&'a str> {
 pub fn wrong_field_word<'a>(
     separator: Option<&'a str>,
     words: &[&'a str],
-    is_reversed: bool,
+    whole: WholeOrder,
 ) -> Option<&'a str> {
     if let Some(word) = separator
         && ends_of(word).is_none()
     {
         return Some(word);
     }
-    first_wrong(words, is_reversed)
+    first_wrong(words, whole)
 }

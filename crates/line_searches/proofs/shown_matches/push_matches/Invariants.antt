@@ -5,5 +5,5 @@ use Rattle.line_searches.proofs.shown_matches.push_matches.Given as goal
 
 abbrev pub invariant-loop-next : goal.invariant-loop-next
 invariant-loop-next l =
-    l.text.items ++ match_lines l.request l.number l.line (drop l.next-index l.matches)
-    ≡ l.initial.text.items ++ match_lines l.request l.number l.line l.matches
+    l.text.items ++ match_lines l.request l.spot l.line (drop l.next-index l.matches)
+    ≡ l.initial.text.items ++ match_lines l.request l.spot l.line l.matches

@@ -9,11 +9,11 @@ loop-line-preserved c =
     let s = map search_of c.args.searchers.now in
     let lines = c.as_slice-line-items.result.now in
     record {
-      numbered = search rules;
       few = search rules;
       whole =
           next_appended c.args.request s lines c.loop-line.line-index _ c.loop-line-test.true c.loop-line.text.items c.push_if_left.new.text.items _
-          c.loop-line.left c.in_ok-left.left c.loop-line.number c.in_ok-left.ensures.text c.in_ok-left.ensures.left c.loop-line.invariant.whole;
+          c.loop-line.left c.in_ok-left.left c.loop-line.spot c.spot_after-spot.result c.in_ok-left.ensures.text c.in_ok-left.ensures.left c.spot_after-spot.ensures
+          c.loop-line.invariant.whole;
       counted =
           next_counted c.args.request s lines c.loop-line.line-index _ c.loop-line-test.true c.loop-line.left c.in_ok-left.left _
           c.in_ok-left.ensures.left c.loop-line.invariant.counted;

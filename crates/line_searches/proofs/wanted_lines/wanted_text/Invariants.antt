@@ -9,9 +9,8 @@ abbrev pub invariant-loop-line : goal.invariant-loop-line
 invariant-loop-line l =
     let s = map search_of l.searchers in
     record {
-      numbered : l.number ≡ l.line-index + 1;
       few : l.left ≤ l.request.at_most;
-      whole : l.text.items ++ wanted_from l.request s l.left l.number (shown_lines (drop l.line-index l.line-items))
+      whole : l.text.items ++ wanted_from l.request s l.left l.spot (shown_lines (drop l.line-index l.line-items))
           ≡ wanted_lines l.request s (shown_lines l.line-items);
       counted : l.left - length (filter (wants l.request s) (shown_lines (drop l.line-index l.line-items)))
           ≡ l.request.at_most - length (filter (wants l.request s) (shown_lines l.line-items));
