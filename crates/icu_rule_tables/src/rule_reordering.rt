@@ -9,14 +9,16 @@ ghost use Rattle.icu_rule_tables.specs.StatesByRules.{said_by};
 
 use crate::rule_settings::reorder_words;
 use crate::rule_tables_error::{RuleRefusal, RuleTablesError};
-use crate::script_reordering::{ReorderingError, script_order, script_reordering};
+use crate::script_reordering::{
+    ReorderingError, ScriptSpan, ScriptStart, script_order, script_reordering,
+};
 use crate::script_spans::{are_groups, covers_all, primary_numbers, script_spans};
 use crate::script_starts::script_starts;
 use icu_rule_parser::{PlacedStatement, RuleSetting, Rules, Statement};
 use icu_rule_root::CheckedRoot;
 use icu_rule_steps::{StatementPlace, SymbolicTailoring};
 use icu_rule_weights::tailoring_numbers::TailoringNumbers;
-use icu_table_provider::OwnedReordering;
+use icu_table_provider::{CollationSpecialPrimaries, OwnedReordering};
 use std::alloc::Global;
 
 /// Whether a statement is a reordering.
@@ -75,6 +77,23 @@ fn reordering_error(
     }
 }
 
+/// The error of words whose groups take more lead bytes than there are: the first word up to which they do.
+fn lead_error(
+    alloc: Global,
+    special: CollationSpecialPrimaries<'_>,
+    starts: &[ScriptStart],
+    spans: &[ScriptSpan],
+    words: &[String],
+) -> Result<ReorderingError, ReorderingError> {
+    for (index, word) in words.iter().enumerate() {
+        let order = script_order(alloc, starts, spans, &words[..index + 1])?;
+        if script_reordering(alloc, special, order.as_slice())?.is_none() {
+            return Ok(ReorderingError::NoLeads(String::from_str(alloc, word.as_str())?));
+        }
+    }
+    Ok(ReorderingError::NoGroups)
+}
+
 /// The groups of a root in the order that words say.
 fn reordered_groups(
     alloc: Global,
@@ -91,13 +110,17 @@ fn reordered_groups(
     let own = primary_numbers(alloc, numbers, siblings.as_slice())?;
     let spans = script_spans(alloc, root, own.as_slice(), starts.as_slice())?;
     if !are_groups(starts.as_slice(), spans.as_slice()) {
-        return Err(ReorderingError::NoLeads);
+        return Err(ReorderingError::NoGroups);
     }
     if !covers_all(spans.as_slice(), own.as_slice()) {
-        return Err(ReorderingError::NoLeads);
+        return Err(ReorderingError::NoGroups);
     }
     let order = script_order(alloc, starts.as_slice(), spans.as_slice(), words)?;
-    script_reordering(alloc, root.tables().special_primaries(), order.as_slice())
+    let special = root.tables().special_primaries();
+    match script_reordering(alloc, special, order.as_slice())? {
+        Some(made) => Ok(made),
+        None => Err(lead_error(alloc, special, starts.as_slice(), spans.as_slice(), words)?),
+    }
 }
 
 /// The reordering that rules say, if they say one.

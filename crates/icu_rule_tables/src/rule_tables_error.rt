@@ -10,7 +10,7 @@ use std::alloc::{AllocError, AllocFailed};
 use thiserror::Error;
 
 /// What is wrong with a statement of rules.
-#[derive(Debug, Clone, Copy, PartialEq, Eq, Error)]
+#[derive(Debug, Drop, PartialEq, Eq, Error)]
 pub enum RuleRefusal {
     /// It isn't written as rules are.
     #[error("{0}")]
@@ -36,7 +36,7 @@ pub enum RuleRefusal {
 }
 
 /// Why rules make no tables.
-#[derive(Debug, Clone, Copy, PartialEq, Eq, Error)]
+#[derive(Debug, Drop, PartialEq, Eq, Error)]
 pub enum RuleTablesError {
     /// Out of memory.
     #[error("no memory")]

@@ -1,7 +1,6 @@
 -- What the codes of `[reorder ..]` name (UTS #35 part 5, "Collation Reordering").
 use Rattle.std.specs.Prelude.{ℕ, ◌≡◌, Bool, false, not, ◌&&◌, ◌||◌, ◌==◌, bytes_eq, codes, String, string_bytes, if◌then◌else◌, List, map, Option, Some, None, option_map, option_and_then}
 use Rattle.std.specs.Char.{to_ascii_lowercase}
-use Rattle.std.specs.Option.{is_some}
 use Rattle.std.specs.declared.alloc.Global.{Global}
 use Rattle.ucd_script.specs.Script.{script, script_number}
 use Rattle.ucd_script.specs.declared.Script.{Script as ScriptName}
@@ -61,10 +60,6 @@ code_said word = code_named (string_bytes word)
 -- these codes are named
 abbrev pub AreCodes : List (String Global) → List ReorderCode → Type 0
 AreCodes words named = map code_said words ≡ map (λ c. Some c) named
-
--- one of the words names nothing
-abbrev pub names_nothing : String Global → Bool
-names_nothing word = not (is_some (code_said word))
 
 -- the sample character of a special group
 unfoldable pub special_sample : SpecialGroup → ℕ

@@ -1,14 +1,14 @@
 -- The order of groups that the codes of `[reorder ..]` say (UTS #35 part 5, "Collation Reordering").
-use Rattle.std.specs.Prelude.{◌≡◌, ◌++◌, Bool, true, false, not, ◌&&◌, ◌||◌, ◌==◌, nat_lt, count_by, String, if◌then◌else◌, List, [], filter}
-use Rattle.std.specs.List.{list_any, flat_map}
+use Rattle.std.specs.Prelude.{◌≡◌, ◌++◌, Bool, true, false, not, ◌&&◌, ◌||◌, ◌==◌, nat_lt, count_by, String, string_bytes, None, if◌then◌else◌, List, [], filter}
+use Rattle.std.specs.List.{Any, list_any, flat_map}
 use Rattle.std.specs.declared.alloc.Global.{Global}
 use Rattle.icu_rule_tables.specs.declared.script_reordering.reorder_codes.ReorderCode.{ReorderCode}
 use Rattle.icu_rule_tables.specs.declared.script_reordering.reorder_codes.ReorderCode.TheVariants.{Others}
 use Rattle.icu_rule_tables.specs.declared.script_reordering.reordering_error.ReorderingError.{ReorderingError}
-use Rattle.icu_rule_tables.specs.declared.script_reordering.reordering_error.ReorderingError.TheVariants.{NoMemory, UnknownGroup, RepeatedGroup, NoLeads}
+use Rattle.icu_rule_tables.specs.declared.script_reordering.reordering_error.ReorderingError.TheVariants.{NoMemory, UnknownGroup, RepeatedGroup, NoLeads, NoGroups}
 use Rattle.icu_rule_tables.specs.declared.script_reordering.script_groups.ScriptSpan.{ScriptSpan}
 use Rattle.icu_rule_tables.specs.declared.script_reordering.script_groups.ScriptStart.{ScriptStart}
-use Rattle.icu_rule_tables.specs.script_reordering.ReorderCodes.{AreCodes, names_nothing, is_special_sample, names_sample}
+use Rattle.icu_rule_tables.specs.script_reordering.ReorderCodes.{AreCodes, code_said, is_special_sample, names_sample}
 
 -- the code stands for all scripts that no code names
 abbrev pub is_others : ReorderCode → Bool
@@ -74,23 +74,22 @@ pub record NameTwice (starts : List ScriptStart) (spans : List ScriptSpan) (word
   pub are_named : AreCodes words named
   pub twice : names_one_twice starts named spans ≡ true
 
--- an error where groups get their places: there are too few lead bytes, or no memory
-abbrev pub IsErrorOfPlaces : ReorderingError → Type 0
-IsErrorOfPlaces NoMemory = Unit {0}
-IsErrorOfPlaces UnknownGroup = ⊥
-IsErrorOfPlaces RepeatedGroup = ⊥
-IsErrorOfPlaces NoLeads = Unit {0}
+-- the text is one of the words
+abbrev pub IsWordOf : List (String Global) → String Global → Type 0
+IsWordOf words code = Any (λ (word : String Global). string_bytes word ≡ string_bytes code) words
 
--- an error of words that name codes: one of them names nothing
+-- an error of words that name codes: one of them, which it holds, names nothing
 abbrev pub IsErrorOfCodes : List (String Global) → ReorderingError → Type 0
 IsErrorOfCodes words NoMemory = Unit {0}
-IsErrorOfCodes words UnknownGroup = list_any names_nothing words ≡ true
-IsErrorOfCodes words RepeatedGroup = ⊥
-IsErrorOfCodes words NoLeads = ⊥
+IsErrorOfCodes words (UnknownGroup code) = IsWordOf words code × (code_said code ≡ None)
+IsErrorOfCodes words (RepeatedGroup code) = ⊥
+IsErrorOfCodes words (NoLeads code) = ⊥
+IsErrorOfCodes words NoGroups = ⊥
 
--- What an error says of words. That there are too few lead bytes is left open.
+-- What an error says of words. That there are too few lead bytes, or no groups, is left open.
 abbrev pub IsErrorOfWords : List ScriptStart → List ScriptSpan → List (String Global) → ReorderingError → Type 0
 IsErrorOfWords starts spans words NoMemory = Unit {0}
-IsErrorOfWords starts spans words UnknownGroup = list_any names_nothing words ≡ true
-IsErrorOfWords starts spans words RepeatedGroup = NameTwice starts spans words
-IsErrorOfWords starts spans words NoLeads = Unit {0}
+IsErrorOfWords starts spans words (UnknownGroup code) = IsWordOf words code × (code_said code ≡ None)
+IsErrorOfWords starts spans words (RepeatedGroup code) = NameTwice starts spans words × IsWordOf words code
+IsErrorOfWords starts spans words (NoLeads code) = Unit {0}
+IsErrorOfWords starts spans words NoGroups = Unit {0}

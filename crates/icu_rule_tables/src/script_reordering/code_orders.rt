@@ -1,7 +1,7 @@
 //! The order of groups that the codes of `[reorder ..]` say.
-ghost use Rattle.std.specs.Prelude.{◌≡◌, ◌++◌, IfErr, IfOk, OnOk, count_by, filter, nat_lt};
+ghost use Rattle.std.specs.Prelude.{◌≡◌, ◌++◌, ◌<◌, IfErr, IfOk, IfSome, OnOk, count_by, filter, length, nat_lt};
 ghost use Rattle.std.specs.List.{list_any, flat_map};
-ghost use Rattle.icu_rule_tables.specs.script_reordering.ScriptOrders.{IsErrorOfWords, OrdersScripts, is_named_group, is_named_twice, is_other, is_others, is_special, names_one_twice, names_span, others_at_end, script_order, spans_of_code, stays_in_front};
+ghost use Rattle.icu_rule_tables.specs.script_reordering.ScriptOrders.{IsErrorOfWords, IsWordOf, OrdersScripts, is_named_group, is_named_twice, is_other, is_others, is_special, names_one_twice, names_span, others_at_end, script_order, spans_of_code, stays_in_front};
 
 use crate::script_reordering::reorder_codes::{
     ReorderCode, codes_of, is_special_sample, names_sample,
@@ -221,6 +221,52 @@ fn names_one_twice(starts: &[ScriptStart], named: &[ReorderCode], spans: &[Scrip
     has_others_twice(named) || has_span_twice(starts, named, spans)
 }
 
+/// Whether two codes name one group, or stand for the others.
+fn name_one(
+    starts: &[ScriptStart],
+    spans: &[ScriptSpan],
+    one: ReorderCode,
+    other: ReorderCode,
+) -> bool {
+    if is_others(one) {
+        return is_others(other);
+    }
+    spans.iter().any(|span| names_span(starts, one, *span) && names_span(starts, other, *span))
+}
+
+/// Whether a code names what a code before it names.
+fn repeats(
+    starts: &[ScriptStart],
+    named: &[ReorderCode],
+    spans: &[ScriptSpan],
+    index: usize,
+) -> bool
+    requires { index < length named.now }
+{
+    named[..index]
+        .iter()
+        .any(|before| name_one(starts, spans, *before, named[index]))
+}
+
+/// The first word whose code names what a code before it names.
+fn repeated_code(
+    alloc: Global,
+    starts: &[ScriptStart],
+    named: &[ReorderCode],
+    spans: &[ScriptSpan],
+    words: &[String],
+) -> Result<Option<String>, AllocError>
+    ensures { IfOk result (λ found. IfSome found (IsWordOf words.now)) }
+{
+    for index in 0..words.len() {
+        if index < named.len() && repeats(starts, named, spans, index) {
+            let word = &words[index];
+            return Ok(Some(String::from_str(alloc, word.as_str())?));
+        }
+    }
+    Ok(None)
+}
+
 /// The groups in the order that the words of `[reorder ..]` say: first the special groups that none of them names,
 /// then those that are named, and all others where `others` stands, or at the end. A word that names no group and no
 /// script is refused, and so is a group that is named twice. A script that isn't among the groups is passed over.
@@ -236,7 +282,10 @@ pub fn script_order(
 {
     let named = codes_of(alloc, words)?;
     if names_one_twice(starts, named.as_slice(), spans) {
-        return Err(ReorderingError::RepeatedGroup);
+        return match repeated_code(alloc, starts, named.as_slice(), spans, words)? {
+            Some(code) => Err(ReorderingError::RepeatedGroup(code)),
+            None => Err(ReorderingError::NoGroups),
+        };
     }
     Ok(order_by_codes(alloc, starts, named.as_slice(), spans)?)
 }

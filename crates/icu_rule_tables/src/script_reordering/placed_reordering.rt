@@ -1,11 +1,9 @@
 //! A reordering that puts groups in an order.
-ghost use Rattle.std.specs.Prelude.{IfErr, IfOk};
+ghost use Rattle.std.specs.Prelude.{IfOk, IfSome};
 ghost use Rattle.icu_table_provider.specs.OwnedTables.{owned_reordering};
 ghost use Rattle.icu_rule_tables.specs.script_reordering.ReorderedSpans.{IsReorderedBy};
-ghost use Rattle.icu_rule_tables.specs.script_reordering.ScriptOrders.{IsErrorOfPlaces};
 
 use crate::script_reordering::lead_places::{lead_table, placed_spans, range_table};
-use crate::script_reordering::reordering_error::ReorderingError;
 use crate::script_reordering::script_groups::ScriptSpan;
 use crate::script_reordering::span_checks::puts_in_order;
 use icu_table_provider::{CollationReordering, CollationSpecialPrimaries, OwnedReordering};
@@ -34,19 +32,19 @@ fn reordering_of_places(
 
 /// A reordering that puts groups in this order, whatever it was in the root: the weights of each stay in their order,
 /// and come behind those of the groups before it. Each group moves by whole lead bytes. Two share a lead byte only
-/// where both compress, or none of them does. Refuses with `NoLeads` where lead bytes don't suffice.
+/// if both compress, or none of them does. `None` if lead bytes don't suffice.
 pub fn script_reordering(
     alloc: Global,
     special: CollationSpecialPrimaries<'_>,
     order: &[ScriptSpan],
-) -> Result<OwnedReordering, ReorderingError>
-    ensures ok { IfOk result (λ made. IsReorderedBy order.now (owned_reordering made)) }
-    ensures err { IfErr result IsErrorOfPlaces }
+) -> Result<Option<OwnedReordering>, AllocError>
+    ensures { IfOk result (λ found. IfSome found
+        (λ made. IsReorderedBy order.now (owned_reordering made))) }
 {
     let made = reordering_of_places(alloc, special, order)?;
     if puts_in_order(made.as_reordering(), order) {
-        Ok(made)
+        Ok(Some(made))
     } else {
-        Err(ReorderingError::NoLeads)
+        Ok(None)
     }
 }

@@ -131,7 +131,9 @@ pub(crate) fn codes_of(alloc: Global, words: &[String]) -> Result<Vec<ReorderCod
         let lower = lower(alloc, word.as_str())?;
         match code_named(word.as_str(), lower.as_slice()) {
             Some(code) => named.push(code)?,
-            None => return Err(ReorderingError::UnknownGroup),
+            None => {
+                return Err(ReorderingError::UnknownGroup(String::from_str(alloc, word.as_str())?));
+            }
         }
     }
     Ok(named)

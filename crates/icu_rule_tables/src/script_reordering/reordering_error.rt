@@ -5,20 +5,23 @@ use std::alloc::{AllocError, AllocFailed};
 use thiserror::Error;
 
 /// Why scripts aren't reordered.
-#[derive(Debug, Clone, Copy, PartialEq, Eq, Error)]
+#[derive(Debug, Drop, PartialEq, Eq, Error)]
 pub enum ReorderingError {
     /// Out of memory.
     #[error("no memory")]
     NoMemory,
-    /// A code names neither a group nor a script.
-    #[error("expected the code of a group or a script")]
-    UnknownGroup,
-    /// Two codes name one group.
-    #[error("expected a group only once")]
-    RepeatedGroup,
-    /// There are too few lead bytes.
-    #[error("expected fewer groups that move: there are too few lead bytes")]
-    NoLeads,
+    /// This code names neither a group nor a script.
+    #[error("expected the code of a group or a script, not `{0}`")]
+    UnknownGroup(String),
+    /// This code names a group that a code before it names.
+    #[error("expected a group only once: `{0}` names one again")]
+    RepeatedGroup(String),
+    /// There are too few lead bytes for the groups up to that of this code.
+    #[error("expected fewer groups that move: up to `{0}` they take more lead bytes than there are")]
+    NoLeads(String),
+    /// The root's primary weights, with those of the rules, don't stand in groups.
+    #[error("expected primary weights that stand in groups")]
+    NoGroups,
 }
 
 impl From<AllocError> for ReorderingError {

@@ -1,6 +1,5 @@
 -- The groups that were made are those of the root.
 use Rattle.std.proofs.Common.{◌≡◌, true, List, [], map, sym, ap, ◌∙◌, rules}
-use Rattle.std.proofs.lemmas.Result.{IfOk-weaker}
 use Rattle.icu_rule_meaning.specs.WeightTrees.{WeightTree}
 use Rattle.icu_rule_weights.specs.tailoring_numbers.Numberings.{number_of}
 use Rattle.icu_rule_tables.specs.script_reordering.ScriptOrders.{OrdersScripts}
@@ -9,8 +8,8 @@ use Rattle.icu_rule_tables.specs.RootGroups.{are_groups, covers_all}
 use Rattle.icu_rule_tables.specs.StatesByRules.{said_by}
 use Rattle.icu_rule_tables.proofs.rule_reordering.reordered_groups.Goals as goal
 
-pub returns : goal.returns
-returns c =
+pub returns-in-Some : goal.returns-in-Some
+returns-in-Some c =
     let starts = c.in_ok-starts.starts.items in
     let spans = c.in_ok-spans.spans.items in
     let numbers = c.args.numbers.now in
@@ -20,7 +19,7 @@ returns c =
     let groups : are_groups starts spans ≡ true = search rules in
     let covered : covers_all spans own ≡ true = search rules in
     let ordered : OrdersScripts starts spans c.args.words.now c.in_ok-order.order.items = search rules in
-    IfOk-weaker c.script_reordering.result _ _ (λ made put. record {
+    record {
       starts = starts;
       spans = spans;
       order = c.in_ok-order.order.items;
@@ -29,4 +28,4 @@ returns c =
       tailored = ap (covers_all spans) (sym are_own) ∙ covered;
       ordered = ordered;
       put = search rules;
-    }) c.script_reordering.ensures.ok
+    }
