@@ -1,7 +1,7 @@
 """Proves crates of the repository, and those below them, by `rt ci` on a copy whose crates.txt has these alone.
 
-What passes is kept by the toolchain on this machine: a run after one that was broken off goes on from there, and so do the gate and
-runs for other crates. Edits that must be refused are tried where they are asked for; the sums of what is kept don't read them."""
+With kit 13f what passes is kept on this machine: a run after one that was broken off goes on from there, and so do the gate and runs
+for other crates. Edits that must be refused are tried where they are asked for; the sums of what is kept don't read them."""
 import contextlib
 import os
 import queue
