@@ -11,7 +11,7 @@ use Rattle.line_searches.proofs.near_lines.near_text.Goals as goal
 pub push_near-requires : goal.push_near-requires
 push_near-requires c =
     let lines = c.as_slice-lines.result.now in
-    let as_many : length c.count_lines.new.counts.before.items ≡ length lines =
+    let as_many : length c.count_lines.new.counts.before.items ≡ 0 + length lines =
         c.in_ok-count_lines.ensures.more ∙ ap (λ (b : List ℕ). length b + length lines) c.new-counts.ensures.before in
     omega (arith, as_many)
 
