@@ -58,6 +58,10 @@ KINDS = {
     "another mark among shifted spaces with many": (["3", "--alternate=shifted"], lambda n: "\u0301", lambda n: repeated(" " + "\u0323" * 39, n)),
     "another mark among marks and ignored characters": (["3"], lambda n: "\u0301", lambda n: repeated("\u0323\0", n)),
     "an accent in shifted hyphens with marks": (["3", "--alternate=shifted"], lambda n: "á", lambda n: "a" + repeated("-\u0323", n)),
+    "an accent in shifted hyphens on all levels": (["4", "--alternate=shifted"], lambda n: "á", lambda n: "a" + "-" * n),
+    "an accent in shifted hyphens before letters on all levels": (["4", "--alternate=shifted"], lambda n: "á", lambda n: "a" + "-" * n + "bb"),
+    "a Fibonacci word and a letter in a longer one": (["1"], lambda n: fibonacci(n // 4) + "c", fibonacci),
+    "a letter after as many others in both cases": (["1"], lambda n: "a" * (n // 4) + "b", mixed),
     "letters in themselves": (["3"], lambda n: "a" * (n // 4), lambda n: "a" * n),
     "a word among words": (["1"], lambda n: "face", lambda n: repeated("a bad cab fed a deaf ace ", n)),
 }

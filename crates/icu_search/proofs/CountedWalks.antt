@@ -104,6 +104,18 @@ module _ (c : Collation) (text : List ℕ) (start at : ℕ) (ordered : start ≤
   one_more_counted =
       omega (arith, added, ap (weight_count c) longer, ap (weight_count c) part, ap (weight_count c) one)
 
+  -- the elements of what follows a start are those up to the cut, and those behind it
+  pub cut_elements : elements_of (reading_by c) (nfd (drop start text)) ≡ elements_of (reading_by c) (nfd (slice_range text start at)) ++ elements_of (reading_by c) (nfd (drop at text))
+  cut_elements =
+      let own : List ℕ → List Element = λ t. elements_of (reading_by c) (nfd t) in
+      let cut = p.begins in
+      let behind = p.char ∷ p.tail in
+      let there : drop at text ≡ behind = ap (drop at) p.text_is ∙ drop_at p.front behind at p.offset_is in
+      ap own rest
+      ∙ boundary_cut (reading_by c) p.char cut.first cut.more p.tail cut.decomposes cut.boundary [] first
+      ∙ ap (λ (l : List ℕ). own l ++ own behind) (sym part)
+      ∙ ap (λ (l : List ℕ). own (slice_range text start at) ++ own l) (sym there)
+
 -- ---- the walk
 
 -- It has come to an offset, and the part behind it has so many weights. No part up to there is a match.

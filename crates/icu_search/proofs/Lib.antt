@@ -15,3 +15,4 @@ pub mod SilentEndLemmas
 pub mod BarrenLemmas
 pub mod SureMatchLemmas
 pub mod NoneReadLemmas
+pub mod TextRunLemmas

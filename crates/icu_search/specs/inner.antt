@@ -10,3 +10,5 @@ pub mod SilentTexts
 pub mod AsciiMarks
 pub mod CountedChars
 pub mod BarrenParts
+pub mod TextRuns
+pub mod WeightsBehind

@@ -8,8 +8,12 @@ ghost use Rattle.icu_search.specs.inner.SearchCuts.{BeginsPieceAt};
 ghost use Rattle.icu_order_texts.specs.TextOrder.{lists_by, reading_by};
 ghost use Rattle.unicode_normalization.specs.Forms.{nfd};
 
+use crate::counted_walk::weightless_run;
 use crate::searched_text::SearchedText;
 use icu_search_places::BarrenPart;
+
+/// So many characters without a primary weight, one after another, are looked at for a part with which no match begins.
+const MOST_WEIGHTLESS: usize = 256;
 
 /// Up to where it is known that a text repeats itself so many characters after a part, which come again at `start`.
 fn known_reach(part: BarrenPart, start: usize, step: usize) -> usize
@@ -147,6 +151,7 @@ impl<'s, 'c> SearchedText<'s, 'c> {
             return None;
         }
         let mut met: usize = 0;
+        let mut without: usize = 0;
         let count = self.text.char_count();
         for at in start..count {
             let Some(more) = self.count_alone(at) else {
@@ -155,6 +160,10 @@ impl<'s, 'c> SearchedText<'s, 'c> {
             let Some(total) = met.checked_add(more) else {
                 return None;
             };
+            without = weightless_run(without, more);
+            if without > MOST_WEIGHTLESS {
+                return None;
+            }
             if total > self.searcher.count_of_pattern() {
                 return Some(BarrenPart::new(start, at + 1));
             }

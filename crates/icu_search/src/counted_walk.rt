@@ -10,6 +10,19 @@ ghost use Rattle.unicode_normalization.specs.Forms.{nfd};
 use crate::searched_text::SearchedText;
 use std::alloc::AllocError;
 
+/// So many characters without a primary weight are counted one after another, before a walk reads their elements.
+const FEW: usize = 8;
+
+/// How many characters without a primary weight came last, after so many and one that has `more`.
+#[inline(always)]
+pub(crate) fn weightless_run(before: usize, more: usize) -> usize {
+    if more == 0 {
+        before.saturating_add(1)
+    } else {
+        0
+    }
+}
+
 impl<'s, 'c> SearchedText<'s, 'c> {
     ghost use Rattle.icu_search.specs.SearchedTexts.{char_len_in, matches_in, searched_in, text_searched};
     ghost use Rattle.icu_search.specs.inner.CountedChars.{AddsNothing, CountsAlone};
@@ -93,6 +106,7 @@ impl<'s, 'c> SearchedText<'s, 'c> {
             ≡ shortest_from (matches_in self.now) start start (char_len_in self.now - start))) }
     {
         let mut met: usize = 0;
+        let mut without: usize = 0;
         let count = self.text.char_count();
         for at in start..count {
             let Some(more) = self.count_alone(at) else {
@@ -103,6 +117,10 @@ impl<'s, 'c> SearchedText<'s, 'c> {
             };
             if total > self.searcher.count_of_pattern() {
                 return Ok(Some(None));
+            }
+            without = weightless_run(without, more);
+            if without > FEW {
+                return Ok(None);
             }
             if self.ends_counted(start, at, at + 1, total)? {
                 return Ok(Some(Some(at + 1)));

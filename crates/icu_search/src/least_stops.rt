@@ -1,13 +1,14 @@
 //! Where the least matches of a text end: starts are passed over where little tells that none begins there.
 
 ghost use Rattle.std.specs.Prelude.{◌≡◌, ◌+◌, ◌<◌, ◌≤◌, ℕ, [], false, true, None, IfOk, IsTrue};
-ghost use Rattle.icu_search_places.specs.KnownParts.{SaysBarren};
+ghost use Rattle.icu_search_places.specs.KnownParts.{SaysKnown};
 ghost use Rattle.icu_search_places.specs.LeastMatches.{EndsLaterMatch, TellsLeastStop};
 ghost use Rattle.icu_search.specs.inner.BarrenParts.{is_barren_in};
 ghost use Rattle.icu_search.specs.inner.EqualParts.{equals_pattern};
+ghost use Rattle.icu_search.specs.inner.TextRuns.{is_run_in};
 
 use crate::searched_text::SearchedText;
-use icu_search_places::BarrenPart;
+use icu_search_places::KnownParts;
 use std::alloc::AllocError;
 
 /// So many elements of what follows a start are looked at before others are.
@@ -107,6 +108,18 @@ impl<'s, 'c> SearchedText<'s, 'c> {
         self.is_silent_to(start, self.near_cut(start, true))
     }
 
+    /// Whether no least match begins at an offset and ends at `last` or before, as so many elements tell at most with
+    /// which what follows begins. False says nothing.
+    fn opens_otherwise(&self, start: usize, last: usize, most: usize) -> bool
+        requires ordered { start ≤ last }
+        requires within { last ≤ char_len_in self.now }
+        requires some { equals_pattern (searched_in self.now) [] ≡ false }
+        ensures { IsTrue result → TellsLeastStop (matches_in self.now) start last None }
+    {
+        let piece = self.piece_from(start, last);
+        self.searcher.begins_otherwise(piece, most)
+    }
+
     /// Whether no least match begins at an offset and ends at `last` or before, as the characters tell with which what
     /// follows begins. False says nothing.
     fn passes_over(&self, start: usize, last: usize) -> bool
@@ -115,10 +128,6 @@ impl<'s, 'c> SearchedText<'s, 'c> {
         requires some { equals_pattern (searched_in self.now) [] ≡ false }
         ensures { IsTrue result → TellsLeastStop (matches_in self.now) start last None }
     {
-        let piece = self.piece_from(start, last);
-        if self.searcher.begins_otherwise(piece, 1) {
-            return true;
-        }
         if self.begins_silently(start) {
             return true;
         }
@@ -127,30 +136,36 @@ impl<'s, 'c> SearchedText<'s, 'c> {
         } else {
             FEW
         };
-        self.searcher.begins_otherwise(piece, most)
+        self.opens_otherwise(start, last, most)
     }
 
-    /// Of the matches that begin at an offset, and end at `last` or before, where the one ends that ends first. A part
-    /// with which no match begins is handed on.
+    /// Of the matches that begin at an offset, and end at `last` or before, where the one ends that ends first. What is
+    /// known of the text is handed on.
     pub(crate) fn least_stop_to(
         &self,
         start: usize,
         last: usize,
-        barren: &mut BarrenPart,
+        known: &mut KnownParts,
     ) -> Result<Option<usize>, AllocError>
         requires ordered { start ≤ last }
         requires within { last ≤ char_len_in self.now }
-        requires known { SaysBarren (is_barren_in self.now) barren.old }
+        requires known { SaysKnown (is_barren_in self.now) (is_run_in self.now) known.old }
         ensures tells { IfOk result (λ stop. TellsLeastStop (matches_in self.now) start last stop) }
-        ensures known { SaysBarren (is_barren_in self.now) barren.new }
+        ensures known { SaysKnown (is_barren_in self.now) (is_run_in self.now) known.new }
     {
         if self.searcher.equals_empty() {
             return self.shortest_stop_to(start, last);
         }
-        if self.recurs(start, barren) {
+        if self.recurs(start, &mut known.barren) {
             return Ok(None);
         }
         if self.has_no_place(start) {
+            return Ok(None);
+        }
+        if self.opens_otherwise(start, last, 1) {
+            return Ok(None);
+        }
+        if self.differs_behind(start, known) {
             return Ok(None);
         }
         if self.passes_over(start, last) {
@@ -165,7 +180,7 @@ impl<'s, 'c> SearchedText<'s, 'c> {
                 }
             }
             None => {
-                self.keep_barren(start, barren);
+                self.keep_barren(start, &mut known.barren);
                 Ok(None)
             }
         }

@@ -10,6 +10,7 @@ mod apart_leads;
 mod ascii_marks;
 mod barren_parts;
 mod boundary;
+mod common_lengths;
 mod counted_walk;
 mod encoded_searches;
 mod first_weights;
@@ -27,6 +28,7 @@ mod searched_text;
 mod searcher;
 mod silent_starts;
 mod text_cuts;
+mod text_runs;
 
 pub use boundary::Boundary;
 pub use found_matches::FoundMatches;

@@ -19,7 +19,7 @@ use crate::part_match::Match;
 use crate::searcher::Searcher;
 use icu_search_places::indexed_text::{IndexedText, offset_marks};
 use icu_search_places::place_reader::place_marks;
-use icu_search_places::{BarrenPart, CharSpan, MatchEnds, first_least};
+use icu_search_places::{CharSpan, KnownParts, MatchEnds, first_least};
 use std::alloc::AllocError;
 
 /// A text that is searched for a pattern. It is read once.
@@ -222,6 +222,7 @@ impl<'s, 'c> SearchedText<'s, 'c> {
 
 impl<'s, 'c> MatchEnds for SearchedText<'s, 'c> {
     ghost use Rattle.icu_search.specs.inner.BarrenParts.{is_barren_in};
+    ghost use Rattle.icu_search.specs.inner.TextRuns.{is_run_in};
     ghost use Rattle.icu_search.specs.SearchedTexts.{char_len_in, matches_in};
 
     ghost matches = { matches_in };
@@ -229,6 +230,8 @@ impl<'s, 'c> MatchEnds for SearchedText<'s, 'c> {
     ghost char_len = { char_len_in };
 
     ghost is_barren = { is_barren_in };
+
+    ghost is_run = { is_run_in };
 
     fn char_count(&self) -> usize {
         self.text.char_count()
@@ -246,8 +249,8 @@ impl<'s, 'c> MatchEnds for SearchedText<'s, 'c> {
         &self,
         start: usize,
         last: usize,
-        barren: &mut BarrenPart,
+        known: &mut KnownParts,
     ) -> Result<Option<usize>, AllocError> {
-        self.least_stop_to(start, last, barren)
+        self.least_stop_to(start, last, known)
     }
 }

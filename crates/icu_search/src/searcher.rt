@@ -17,12 +17,14 @@ ghost use Rattle.icu_search.specs.inner.AsciiMarks.{BeginsCut, CountChars, Gives
 ghost use Rattle.icu_search.specs.inner.PartLevels.{AreLevelsOf, HasGone};
 ghost use Rattle.icu_search.specs.inner.FirstWeights.{AreApart, BeginsOtherwise, BeginsWith};
 ghost use Rattle.icu_search.specs.inner.EqualParts.{equals_pattern};
+ghost use Rattle.icu_search.specs.inner.WeightsBehind.{DiffersBehind};
 
-use crate::apart_leads::apart_leads;
+use crate::apart_leads::{apart_leads, differ};
 use crate::ascii_marks::{
     begins_pieces, char_counts, count_of_char, cut_marks, has_mark, leading_marks, other_marks,
     silent_marks,
 };
+use crate::common_lengths::common_lengths;
 use crate::first_weights::{KnownVariables, rules_out};
 use crate::pattern_levels::{PartLevels, PatternLevels};
 use crate::pattern_weights::{
@@ -53,6 +55,8 @@ pub struct Searcher<'c> {
     levels: PatternLevels<'c>,
     /// The primary weights with which it begins.
     first: Vec<u32>,
+    /// For each of them, how many from there on are those with which it begins; none if they are few.
+    common: Vec<usize>,
     /// Marks of lead bytes that are kept apart.
     apart: [bool; 256],
     /// Marks of ASCII characters before which texts may be cut.
@@ -180,6 +184,7 @@ impl<'c> Searcher<'c> {
         let silent = silent_marks(&borrowed);
         let leading = leading_marks(&borrowed);
         let counts = char_counts(&borrowed);
+        let common = common_lengths(alloc, first.as_slice())?;
         Ok(Searcher {
             alloc,
             collator: borrowed,
@@ -189,6 +194,7 @@ impl<'c> Searcher<'c> {
             equals_empty,
             levels,
             first,
+            common,
             apart,
             cuts,
             others,
@@ -343,6 +349,53 @@ impl<'c> Searcher<'c> {
             text,
             most,
         )
+    }
+
+    /// Whether the pattern has so many primary weights that those behind a start are looked at by what is known of it.
+    #[inline(always)]
+    pub(crate) fn looks_behind(&self) -> bool {
+        !self.common.is_empty()
+    }
+
+    /// How many of the pattern's primary weights from an index on are those with which it begins.
+    pub(crate) fn common_length(&self, index: usize) -> usize {
+        match self.common.get(index) {
+            Some(count) => *count,
+            None => 0,
+        }
+    }
+
+    /// Whether a text begins with the primary weight that the pattern has at an index.
+    pub(crate) fn has_weight(&self, text: &[char], index: usize) -> bool {
+        let Some(element) = first_element(&self.collator, text) else {
+            return false;
+        };
+        match self.first.get(index) {
+            Some(primary) => element.primary() == *primary,
+            None => false,
+        }
+    }
+
+    /// Whether a text begins with another primary weight than the pattern has at an index: no text is equal to it that
+    /// goes on so behind as many weights. False says nothing.
+    pub(crate) fn has_other_weight(&self, text: &[char], index: usize) -> bool
+        ensures { IsTrue result → DiffersBehind (search_of self.now) text.now index }
+    {
+        let first = self.first.as_slice();
+        if index >= first.len() {
+            return false;
+        }
+        let Some(element) = first_element(&self.collator, text) else {
+            return false;
+        };
+        let known = KnownVariables {
+            sure: self.sure,
+            variable: self.collator.last_variable(),
+        };
+        match known.counts(element.primary()) {
+            Some(true) => differ(&self.apart, element.primary(), first[index]),
+            _ => false,
+        }
     }
 
     /// So many elements of a text are looked at: two for each primary weight of the pattern, and a few.

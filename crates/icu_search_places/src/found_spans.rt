@@ -2,12 +2,12 @@
 
 ghost use Rattle.std.specs.Prelude.{◌≡◌, ◌++◌, ◌||◌, ◌<◌, ◌≤◌, [], nat_lt, option_to_list, IfOk, IfSome, IsTrue, OnErr};
 ghost use Rattle.icu_search_places.specs.Selections.{first_span, found_from};
-ghost use Rattle.icu_search_places.specs.KnownParts.{SaysBarren};
+ghost use Rattle.icu_search_places.specs.KnownParts.{SaysKnown};
 ghost use Rattle.icu_search_places.specs.inner.HeldSpans.{IsSure, PassedTo, TellsLeastSpan, from_behind, joined_to_held, last_to_try, stops_before};
 ghost use Rattle.icu_search_places.specs.LeastMatches.{found_matches};
 
-use crate::barren_part::BarrenPart;
 use crate::char_span::CharSpan;
+use crate::known_parts::KnownParts;
 use crate::match_ends::MatchEnds;
 use std::alloc::AllocError;
 
@@ -17,15 +17,15 @@ fn least_at<M: MatchEnds>(
     ends: &M,
     start: usize,
     last: usize,
-    barren: &mut BarrenPart,
+    known: &mut KnownParts,
 ) -> Result<Option<CharSpan>, AllocError>
     requires ordered { start ≤ last }
     requires within { last ≤ M.char_len ends.now }
-    requires known { SaysBarren (M.is_barren ends.now) barren.old }
+    requires known { SaysKnown (M.is_barren ends.now) (M.is_run ends.now) known.old }
     ensures tells { IfOk result (λ m. TellsLeastSpan (M.matches ends.now) start last m) }
-    ensures known { SaysBarren (M.is_barren ends.now) barren.new }
+    ensures known { SaysKnown (M.is_barren ends.now) (M.is_run ends.now) known.new }
 {
-    match ends.least_stop(start, last, barren)? {
+    match ends.least_stop(start, last, known)? {
         Some(stop) => Ok(Some(CharSpan::new(start, stop))),
         None => Ok(None),
     }
@@ -105,7 +105,7 @@ pub fn first_least<M: MatchEnds>(ends: &M, offset: usize) -> Result<Option<CharS
 {
     let count = ends.char_count();
     let mut held: Option<CharSpan> = None;
-    let mut barren = BarrenPart::none();
+    let mut known = KnownParts::none();
     let mut start = offset;
     'starts: while start <= count {
         let here = passed_from(ends, start);
@@ -113,7 +113,7 @@ pub fn first_least<M: MatchEnds>(ends: &M, offset: usize) -> Result<Option<CharS
             return Ok(held);
         }
         let last = last_stop(held, count);
-        held = joined(held, least_at(ends, here, last, &mut barren)?);
+        held = joined(held, least_at(ends, here, last, &mut known)?);
         if is_sure(ends, held, here) {
             return Ok(held);
         }

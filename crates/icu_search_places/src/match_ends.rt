@@ -2,11 +2,11 @@
 
 ghost use Rattle.std.specs.Prelude.{◌≡◌, ◌<◌, ◌≤◌, ℕ, Bool, None, IfOk, IsTrue};
 ghost use Rattle.icu_search_places.specs.LeastMatches.{HoldsNoOther, TellsLeastStop};
-ghost use Rattle.icu_search_places.specs.KnownParts.{SaysBarren};
+ghost use Rattle.icu_search_places.specs.KnownParts.{SaysKnown};
 ghost use Rattle.icu_search_places.specs.declared.barren_part.BarrenPart.{BarrenPart as Barren};
 
-use crate::barren_part::BarrenPart;
 use crate::char_span::CharSpan;
+use crate::known_parts::KnownParts;
 use std::alloc::AllocError;
 
 /// Tells where the matches of a text end. Offsets count characters.
@@ -19,6 +19,9 @@ pub trait MatchEnds {
 
     /// No match begins with the characters of a part, wherever they stand in the text.
     ghost is_barren: { Self → Barren → Type 0 };
+
+    /// What is known of the characters between two offsets.
+    ghost is_run: { Self → ℕ → ℕ → Type 0 };
 
     /// How many characters the text has.
     fn char_count(&self) -> usize
@@ -36,17 +39,17 @@ pub trait MatchEnds {
         ensures { IsTrue result → HoldsNoOther (matches self.now) part };
 
     /// Of the matches that begin at an offset, and end at `last` or before, where the one ends that ends first. It may
-    /// be left out where each of them ends where a match does that begins later: none is least then. Calls hand on a
-    /// part with which no match begins. Fails only where an allocation does.
+    /// be left out where each of them ends where a match does that begins later: none is least then. Calls hand on
+    /// what is known of the text. Fails only where an allocation does.
     fn least_stop(
         &self,
         start: usize,
         last: usize,
-        barren: &mut BarrenPart,
+        known: &mut KnownParts,
     ) -> Result<Option<usize>, AllocError>
         requires ordered { start ≤ last }
         requires within { last ≤ char_len self.now }
-        requires known { SaysBarren (is_barren self.now) barren.old }
+        requires known { SaysKnown (is_barren self.now) (is_run self.now) known.old }
         ensures tells { IfOk result (λ stop. TellsLeastStop (matches self.now) start last stop) }
-        ensures known { SaysBarren (is_barren self.now) barren.new };
+        ensures known { SaysKnown (is_barren self.now) (is_run self.now) known.new };
 }

@@ -6,7 +6,7 @@ use Rattle.icu_search_places.proofs.SelectionLemmas.{joined_to_held-none, told, 
 use Rattle.icu_search_places.proofs.found_spans.first_least.Goals as goal
 
 pub starts-init : goal.starts-init
-starts-init g c = ((λ some. absurd (omega (arith, some, c.none-barren.ensures))), sym (first_found (g.M.MatchEnds.matches c.args.ends.now) (g.M.MatchEnds.char_len c.args.ends.now) c.args.offset))
+starts-init g c = (record { barren = λ some. absurd (omega (arith, some, c.none-known.ensures.barren)); run = λ some. absurd (omega (arith, some, c.none-known.ensures.run)) }, sym (first_found (g.M.MatchEnds.matches c.args.ends.now) (g.M.MatchEnds.char_len c.args.ends.now) c.args.offset))
 
 pub returns-then-is_over-clause-least : goal.returns-then-is_over-clause-least
 returns-then-is_over-clause-least g c =

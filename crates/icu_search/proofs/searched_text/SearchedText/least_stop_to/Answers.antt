@@ -16,6 +16,11 @@ returns-then-has_no_place-clause-tells c =
     told_none (matches_in t) c.args.start c.args.last (char_len_in t) c.requires.ordered c.requires.within
     (no_start (searched_in t) (text_searched t) c.args.start (c.has_no_place.ensures c.if-has_no_place.true) (omega (arith, c.requires.ordered, c.requires.within)))
 
+pub returns-then-differs_behind-clause-tells : goal.returns-then-differs_behind-clause-tells
+returns-then-differs_behind-clause-tells c =
+    let t = c.args.self.now in
+    told_barren (searched_in t) (text_searched t) c.args.start c.args.last c.requires.within (sym c.equals_empty.ensures ∙ c.if-equals_empty.false) (c.differs_behind.ensures.none c.if-differs_behind.true)
+
 pub returns-then-stop-last-clause-tells : goal.returns-then-stop-last-clause-tells
 returns-then-stop-last-clause-tells c =
     let t = c.args.self.now in

@@ -1,24 +1,8 @@
-use Rattle.std.proofs.Common.{sym, ◌∙◌}
 use Rattle.icu_search.specs.SearchedTexts.{searched_in, text_searched}
 use Rattle.icu_search.proofs.SilentStartLemmas.{told_silent}
-use Rattle.icu_search.proofs.TextCutLemmas.{told_ruled_out}
 use Rattle.icu_search.proofs.searched_text.SearchedText.passes_over.Goals as goal
-
-pub returns-then-begins_otherwise : goal.returns-then-begins_otherwise
-returns-then-begins_otherwise c = λ is.
-    let t = c.args.self.now in
-    told_ruled_out (searched_in t) (text_searched t) c.args.start c.args.last c.piece_from-piece.result.now c.piece_from-piece.ensures
-    (c.begins_otherwise.ensures c.if-begins_otherwise.true)
-    c.requires.ordered c.requires.some
 
 pub returns-then-begins_silently : goal.returns-then-begins_silently
 returns-then-begins_silently c = λ is.
     let t = c.args.self.now in
     told_silent (searched_in t) (text_searched t) c.args.start c.args.last c.requires.some (c.begins_silently.ensures c.if-begins_silently.true)
-
-pub returns : goal.returns
-returns c = λ is.
-    let t = c.args.self.now in
-    told_ruled_out (searched_in t) (text_searched t) c.args.start c.args.last c.piece_from-piece.result.now c.piece_from-piece.ensures
-    (c.begins_otherwise-2.ensures is)
-    c.requires.ordered c.requires.some
