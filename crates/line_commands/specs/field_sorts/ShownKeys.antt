@@ -1,7 +1,7 @@
 -- Lines with their keys underlined, as `--debug` of GNU sort shows them. A line is bytes in UTF-8 that may be damaged.
 use Rattle.std.specs.Prelude.{ℕ, Bool, ◌==◌, false, List, [], ◌∷◌, ◌++◌, chars, codes, if◌then◌else◌, map, replicate}
 use Rattle.std.specs.List.{flat_map}
-use Rattle.std.specs.String.{utf8_lossy}
+use Rattle.std.specs.Str.Lossy.{utf8_lossy}
 use Rattle.unicode_width.specs.Width.{str_width}
 use Rattle.line_sorts.specs.fields.LineFields.{line_part}
 use Rattle.line_sorts.specs.fields.ShownParts.{before_part, blanks_before, number_part}
