@@ -1,2 +1,1 @@
 pub mod FieldSortLemmas
-pub mod ShownKeyLemmas

@@ -19,27 +19,24 @@ fn column_count(alloc: Global, bytes: &[u8]) -> Result<usize, AllocError>
 }
 
 /// Appends a byte some times.
-#[tactic(auto, using(crate::proofs::field_sorts::ShownKeyLemmas::one_byte_more))]
-fn push_times(text: &mut Vec<u8>, count: usize, byte: u8) -> Result<(), AllocError>
+fn push_times(alloc: Global, text: &mut Vec<u8>, count: usize, byte: u8) -> Result<(), AllocError>
     ensures { OnOk result (text.new.items ≡ text.old.items ++ replicate count byte) }
 {
-    for _ in 0..count {
-        text.push(byte)?;
-    }
-    Ok(())
+    let times = vec![in alloc; byte; count]?;
+    text.extend_from_slice(times.as_slice())
 }
 
 /// What is said of a key that is nothing.
 const NOTHING: &[u8] = b"^ no match for key";
 
 /// Appends what underlines a key of some columns, or says that there is nothing.
-fn push_underline(text: &mut Vec<u8>, width: usize) -> Result<(), AllocError>
+fn push_underline(alloc: Global, text: &mut Vec<u8>, width: usize) -> Result<(), AllocError>
     ensures { OnOk result (text.new.items ≡ text.old.items ++ underline width) }
 {
     if width == 0 {
         text.extend_from_slice(NOTHING)
     } else {
-        push_times(text, width, b'_')
+        push_times(alloc, text, width, b'_')
     }
 }
 
@@ -48,7 +45,7 @@ fn push_spaces(alloc: Global, text: &mut Vec<u8>, bytes: &[u8]) -> Result<(), Al
     ensures { OnOk result (text.new.items ≡ text.old.items ++ spaces bytes.now) }
 {
     let width = column_count(alloc, bytes)?;
-    push_times(text, width, b' ')
+    push_times(alloc, text, width, b' ')
 }
 
 /// Appends what underlines a part of a line, with a line feed.
@@ -56,7 +53,7 @@ fn push_underlines(alloc: Global, text: &mut Vec<u8>, part: &[u8]) -> Result<(),
     ensures { OnOk result (text.new.items ≡ text.old.items ++ marks part.now) }
 {
     let width = column_count(alloc, part)?;
-    push_underline(text, width)?;
+    push_underline(alloc, text, width)?;
     text.push(b'\n')?;
     Ok(())
 }

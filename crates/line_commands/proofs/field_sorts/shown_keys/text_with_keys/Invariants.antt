@@ -6,5 +6,5 @@ use Rattle.line_commands.proofs.field_sorts.shown_keys.text_with_keys.Given as g
 
 abbrev pub invariant-loop-line : goal.invariant-loop-line
 invariant-loop-line l =
-    l.text.items ++ lines_with_keys l.fields.ends l.fields.sorts l.is_whole (shown_lines (drop l.line-index l.line-items))
-    ≡ lines_with_keys l.fields.ends l.fields.sorts l.is_whole (shown_lines l.line-items)
+    l.text.items ++ lines_with_keys l.fields.ends l.fields.sorts.now l.is_whole (shown_lines (drop l.line-index l.line-items))
+    ≡ lines_with_keys l.fields.ends l.fields.sorts.now l.is_whole (shown_lines l.line-items)
