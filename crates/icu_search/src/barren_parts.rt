@@ -13,7 +13,7 @@ use crate::searched_text::SearchedText;
 use icu_search_places::BarrenPart;
 
 /// So many characters without a primary weight, one after another, are looked at for a part with which no match begins.
-const MOST_WEIGHTLESS: usize = 256;
+const MOST_WEIGHTLESS: usize = 64;
 
 /// Up to where it is known that a text repeats itself so many characters after a part, which come again at `start`.
 fn known_reach(part: BarrenPart, start: usize, step: usize) -> usize

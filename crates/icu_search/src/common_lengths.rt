@@ -8,14 +8,12 @@ const FEW: usize = 8;
 /// How many weights from an offset on are those with which the list begins, if it is so many at least.
 fn grown(weights: &[u32], from: usize, known: usize) -> usize {
     let rest = weights.get(from..).unwrap_or(&[]);
-    let mut size = known;
-    for (weight, first) in rest.iter().zip(weights).skip(known) {
-        if *weight != *first {
+    for size in known..rest.len() {
+        if rest.get(size).copied() != weights.get(size).copied() {
             return size;
         }
-        size = size.saturating_add(1);
     }
-    size
+    rest.len()
 }
 
 /// For each offset of a list how many weights from there on are those with which it begins. A list of few weights has
