@@ -20,7 +20,7 @@ NAMED_TABLES = 2 * OF_MINI + 2 * OF_SWAPPED_LEADS + ["Root"]
 
 def questions_of(part):
     """The questions of a part, and the answer that is wanted to each."""
-    with open(os.path.join(TESTS, "refusals", f"{part}.txt"), encoding="utf-8") as it:
+    with open(os.path.join(TESTS, "driver", "refusals", f"{part}.txt"), encoding="utf-8") as it:
         lines = [line.rstrip("\n") for line in it]
     return [tuple(it.strip() for it in line.split("|")) for line in lines if line and not line.startswith("#")]
 

@@ -17,9 +17,9 @@ import sys
 import tempfile
 
 TESTS = os.path.dirname(os.path.realpath(__file__))
-CRATE = os.path.join(os.path.dirname(TESTS), "crates", "collate_index")
+CRATE = os.path.join(os.path.dirname(os.path.dirname(TESTS)), "crates", "collate_index")
 LETTERS = os.path.join(CRATE, "data", "letters.txt")
-CLDR = os.path.join(os.path.dirname(TESTS), "crates", "use_language", "data", "cldr")
+CLDR = os.path.join(os.path.dirname(os.path.dirname(TESTS)), "crates", "use_language", "data", "cldr")
 HOWS = [("fail", 0), ("fail", 1), ("full", 0), ("full", 1), ("kill", 0), ("torn", 0), ("after", 0)]
 
 # Names as lines, with what is kept with each behind a tab: they are put in as they stand here.

@@ -290,7 +290,7 @@ def early_ends_missed():
 
 def compiled(room, name, *options):
     to = os.path.join(room, name)
-    subprocess.run(["cc", "-O1", *options, "-o", to, os.path.join(TESTS, f"{name}.c")], check=True)
+    subprocess.run(["cc", "-O1", *options, "-o", to, os.path.join(TESTS, "programs", f"{name}.c")], check=True)
     return to
 
 
