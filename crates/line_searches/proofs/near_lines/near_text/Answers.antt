@@ -12,7 +12,7 @@ pub push_near-requires : goal.push_near-requires
 push_near-requires c =
     let lines = c.as_slice-lines.result.now in
     let as_many : length c.count_lines.new.counts.before.items ≡ 0 + length lines =
-        c.in_ok-count_lines.ensures.more ∙ ap (λ (b : List ℕ). length b + length lines) c.new-counts.ensures.before in
+    c.in_ok-count_lines.ensures.more ∙ ap (λ (b : List ℕ). length b + length lines) c.new-counts.ensures.before in
     omega (arith, as_many)
 
 pub returns-clause-text : goal.returns-clause-text
@@ -22,11 +22,11 @@ returns-clause-text c =
     let lines = shown_lines c.as_slice-lines.result.now in
     let counts = c.count_lines.new.counts in
     let before : counts.before.items ≡ counts_from r s 0 lines =
-        c.in_ok-count_lines.ensures.before
-        ∙ (ap (λ (b : List ℕ). b ++ counts_from r s c.new-counts.result.total lines) c.new-counts.ensures.before
-        ∙ ap (λ (n : ℕ). counts_from r s n lines) c.new-counts.ensures.total) in
+    c.in_ok-count_lines.ensures.before
+    ∙ (ap (λ (b : List ℕ). b ++ counts_from r s c.new-counts.result.total lines) c.new-counts.ensures.before
+    ∙ ap (λ (n : ℕ). counts_from r s n lines) c.new-counts.ensures.total) in
     let total : counts.total ≡ count_behind r s 0 lines =
-        c.in_ok-count_lines.ensures.total ∙ ap (λ (n : ℕ). count_behind r s n lines) c.new-counts.ensures.total in
+    c.in_ok-count_lines.ensures.total ∙ ap (λ (n : ℕ). count_behind r s n lines) c.new-counts.ensures.total in
     c.in_ok-push_near.ensures
     ∙ (ap (λ (t : List ℕ). t ++ near_from (count_before counts) r s 0 r.first lines) c.new-text.ensures.items
     ∙ (near_counted r s counts lines before total
