@@ -235,7 +235,6 @@ RADICALS = [
 # Groups that are put in no order.
 NO_ORDERS = [
     ("sv-u-kr-xxxx", "locale sv-u-kr-xxxx: kr: expected the code of a group or a script, not `Xxxx`\n"),
-    ("de-u-kr-grek-cyrl-greek", "locale de-u-kr-grek-cyrl-greek: kr: expected a group only once: `greek` names one again\n"),
     ("und-u-kr-digit-digit", "locale und-u-kr-digit-digit: kr: expected a group only once: `digit` names one again\n"),
 ]
 # Tags with words that CLDR has as aliases and that are too long for a tag, and what is said of them (status 2).

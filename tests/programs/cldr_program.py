@@ -366,16 +366,18 @@ COMMANDS = [
     (CHECK, b"a\nb\n", lambda at, count, after: at > count - LAST_ONES),
     (over("sort", "3", "-n"), b"10\n9\n", lambda at, count, after: at > count - LAST_ONES),
     (over("sort", "3", "--debug", "-k1,1"), NAMES, lambda at, count, after: at > count - LAST_ONES),
-    (over("search", "1", "--line-buffered", "-nb", "a"), NAMES, lambda at, count, after: at > count - LAST_ONES),
 ]
 # What is said of a request that is refused while several files are read.
 READ_REASONS = (b": no memory", b": write failed", b": Input/output error", b": Resource temporarily unavailable", b": read failed")
 
 
 def loses_files(plain, refused, ran):
-    """Whether a run over several files did right where a request was refused: its whole answer, or status 3, a line that says what was
-    refused, and of its answer as many lines as it could, in their order."""
-    if not refused.is_error() or refused.request == "allocation" and not refused.also_after and not ran.status:
+    """Whether a run over several files, or one that prints lines as they are found, did right where a request was refused: its whole
+    answer, or status 3, a line that says what was refused, and of its answer as many lines as it could, in their order."""
+    is_opened = refused.request == "file"
+    if ran.came_to() == plain.came_to() and (is_opened or not refused.is_error()):
+        return True
+    if not is_opened and not refused.is_error() or refused.request == "allocation" and not refused.also_after and not ran.status:
         return ran.came_to() == plain.came_to()
     left, said = iter(plain.output.splitlines()), ran.faults.splitlines()
     is_said = all(it.startswith(b"collate-cldr: ") and it.endswith(READ_REASONS) for it in said)
@@ -396,6 +398,9 @@ def check_refused_folders(report, room, program, shim):
     for words in (over("search", "3", "-r", "a", top), over("sort", "3", f"--files0-from={names}")):
         outcomes = sweep(shim, program, words, b"", [*REQUESTS, "file"], loses_files, lambda at, count, after: at > count - LAST_ONES)
         report.say(f"collate-cldr: each request refused, {words[0]} of several files", faults_of(outcomes), len(outcomes))
+    words = over("search", "1", "--line-buffered", "-nb", "a")
+    outcomes = sweep(shim, program, words, NAMES, REQUESTS, loses_files, lambda at, count, after: at > count - LAST_ONES)
+    report.say("collate-cldr: each request refused, lines as they are found", faults_of(outcomes), len(outcomes))
 
 
 def check_refused(report, program, shim):
