@@ -47,6 +47,7 @@ GROWING = {
     "cedillas and accents": lambda count: "&a<x" + "\u0327\u0301" * (count // 2),
     "a reset": lambda count: "&\u0301\u0301<<x\u0301\n&a<y" + "\u0301" * count,
     "a contraction of accents": lambda count: "&b<<\u0301\u0300\n&a<x" + "\u0301" * count,
+    "marks that begin contractions": lambda count: "&a<x" + "\u0f71" * count,
     "an extension": lambda count: "&a<x/y" + "\u0301" * count,
     "an anchor": lambda count: "&a" + "\u0301" * count + "<x",
 }

@@ -2,15 +2,18 @@
 """Times searches that are made to be slow, by the program `collate-cldr`: for four times as much text no more than 4.6 times the time.
 
 usage: tests/hostile/slow_searches.py [MINUTES [SEED [PROGRAM [WORD..]]]]    looks for slow searches, and ends with status 1 if it finds some
+       tests/hostile/slow_searches.py --keys [PROGRAM [WORD..]]              times searches beside sort keys, and ends with status 1 if one is slow
 
 The gate times the kinds below over the small file with Mini's letters. By itself this makes random kinds of a text and a pattern, keeps
-the slowest and changes them, for so many minutes (2); the words say by which tables, as `-l th` (none: the small file).
+the slowest and changes them, for so many minutes (2); the words say by which tables, as `-l th` (none: the small file). With --keys the
+kinds below are timed in lines of up to a million characters: one may take at most five times what the keys of the line and the pattern take.
 """
 import math
 import os
 import random
 import resource
 import sys
+import tempfile
 import time
 
 sys.path[:0] = [it.path for it in os.scandir(os.path.dirname(os.path.dirname(os.path.realpath(__file__)))) if it.is_dir()]
@@ -21,6 +24,8 @@ LETTERS = os.path.join(TOP, "crates", "collate_cldr", "data", "letters.txt")
 # How often each search is timed, of which the least time counts; how long a text is, and how many times as long the longer one; by how
 # many times as much it may take, and so many seconds beside; how long a run may take before it is cut off.
 RUNS, SIZE, MORE, GROWTH, ALSO, CUT_OFF = 2, 25_000, 4, 4.6, 0.15, 10
+# Beside keys: how long a text is, how many times as long as the keys a search may take, and how long a run may take.
+LONG, KEYS, LONG_CUT_OFF = 250_000, 5, 120
 
 
 # ---- texts
@@ -62,6 +67,7 @@ KINDS = {
     "an accent in shifted hyphens before letters on all levels": (["4", "--alternate=shifted"], lambda n: "á", lambda n: "a" + "-" * n + "bb"),
     "a Fibonacci word and a letter in a longer one": (["1"], lambda n: fibonacci(n // 4) + "c", fibonacci),
     "a letter after as many others in both cases": (["1"], lambda n: "a" * (n // 4) + "b", mixed),
+    "a letter after a thousand others in both cases": (["1"], lambda n: "a" * 1000 + "b", mixed),
     "letters in themselves": (["3"], lambda n: "a" * (n // 4), lambda n: "a" * n),
     "a word among words": (["1"], lambda n: "face", lambda n: repeated("a bad cab fed a deaf ace ", n)),
 }
@@ -69,21 +75,46 @@ KINDS = {
 
 # ---- times
 
-class Timed:
-    """A search of a line, and the least processor time that it takes."""
+class TimedRun:
+    """A run with some input, and the least processor time that it takes."""
 
-    def __init__(self, program, tables, words, pattern, text, runs=RUNS):
-        strength, *others = words
-        command = [program, "search", *tables, "--strength", strength, *others, "-c", "--", pattern]
+    def __init__(self, command, given, runs=RUNS, cut_off=CUT_OFF):
         self.seconds = math.inf
         for _ in range(runs):
             began = resource.getrusage(resource.RUSAGE_CHILDREN)
-            ran = ended(command, f"{text}\n".encode(), CUT_OFF, env=ENVIRONMENT)
+            ran = ended(command, given.encode(), cut_off, env=ENVIRONMENT)
             over = resource.getrusage(resource.RUSAGE_CHILDREN)
             self.ran = Run(ran.returncode, ran.stdout, ran.stderr, None)
             self.seconds = min(self.seconds, over.ru_utime + over.ru_stime - began.ru_utime - began.ru_stime)
             if self.ran.status is None:
                 break
+
+
+class Timed(TimedRun):
+    """A search of a line, and the least processor time that it takes."""
+
+    def __init__(self, program, tables, words, pattern, text, runs=RUNS):
+        strength, *others = words
+        super().__init__([program, "search", *tables, "--strength", strength, *others, "-c", "--", pattern], f"{text}\n", runs)
+
+
+class TimedByFile(TimedRun):
+    """A search of a line for a pattern that a file has, since a word of a command has a bound."""
+
+    def __init__(self, program, tables, words, pattern, text, room):
+        strength, *others = words
+        path = os.path.join(room, "patterns")
+        with open(path, "w", encoding="utf-8") as it:
+            it.write(f"{pattern}\n")
+        super().__init__([program, "search", *tables, "--strength", strength, *others, "-c", "-f", path], f"{text}\n", RUNS, LONG_CUT_OFF)
+
+
+class TimedKeys(TimedRun):
+    """The sort keys of lines, and the least processor time that they take."""
+
+    def __init__(self, program, tables, words, *lines):
+        strength, *others = words
+        super().__init__([program, "keys", *tables, "--strength", strength, *others], "".join(f"{it}\n" for it in lines), RUNS, LONG_CUT_OFF)
 
 
 def wrong_growth(program, tables, kind, size):
@@ -97,6 +128,36 @@ def wrong_growth(program, tables, kind, size):
     took, longer = (it.seconds - start.seconds for it in (once, more))
     limit = GROWTH * max(took, 0) + ALSO
     return [f"{longer:.2f} s for {MORE} times as many characters, {took:.2f} s for {size}"] * (longer > limit)
+
+
+class BesideKeys:
+    """How long a kind of search takes, in two sizes, and the sort keys of the longer line and its pattern, beyond an empty run's time."""
+
+    def __init__(self, program, tables, kind, room):
+        words, pattern, text = kind
+        start = TimedByFile(program, tables, words, "a", "b", room)
+        ran = [TimedByFile(program, tables, words, pattern(n), text(n), room) for n in (LONG, MORE * LONG)]
+        keys = TimedKeys(program, tables, words, text(MORE * LONG), pattern(MORE * LONG))
+        self.took, self.longer = (max(it.seconds - start.seconds, 0) for it in ran)
+        self.keys = keys.seconds - TimedKeys(program, tables, words, "a", "b").seconds
+        self.wrong = [f"not ended: {it.ran}" for it in ran if it.ran.status not in (0, 1) or it.ran.faults]
+        self.wrong += [f"no keys: {keys.ran.faults}"] * (keys.ran.status != 0)
+        self.wrong += ["grows faster than the line"] * (self.longer > GROWTH * self.took + ALSO)
+        self.wrong += [f"takes more than {KEYS} times the keys"] * (self.longer > KEYS * self.keys + ALSO)
+
+    def __str__(self):
+        return f"{LONG} {self.took:.2f} s, {MORE * LONG} {self.longer:.2f} s, keys {self.keys:.2f} s{''.join(f'; {it}' for it in self.wrong)}"
+
+
+def beside_keys(program, tables):
+    """Times all kinds beside sort keys; whether one is slow."""
+    slow = False
+    with tempfile.TemporaryDirectory(prefix="slow-searches-") as room:
+        for name, kind in KINDS.items():
+            timed = BesideKeys(program, tables, kind, room)
+            print(f"{name}: {timed}", flush=True)
+            slow |= bool(timed.wrong)
+    return slow
 
 
 def wrong_searches(program, letters):
@@ -167,6 +228,9 @@ def looked_for(program, tables, seconds, seed):
 
 
 def main():
+    if sys.argv[1:2] == ["--keys"]:
+        program, *tables = sys.argv[2:] or [PROGRAM]
+        return 1 if beside_keys(os.path.realpath(program), tables or ["--root", LETTERS]) else 0
     minutes, seed, program, *tables = [*sys.argv[1:], *["2", "1", PROGRAM][len(sys.argv) - 1 :]]
     found = looked_for(os.path.realpath(program), tables or ["--root", LETTERS], 60 * float(minutes), int(seed))
     for kind, wrong in found:

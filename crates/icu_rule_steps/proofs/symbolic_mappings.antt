@@ -1,6 +1,7 @@
 pub mod TierLemmas
 pub mod SuffixLemmas
 pub mod JoinLemmas
+pub mod MarkRunLemmas
 pub mod AlongLemmas
 pub mod KeptMappingLemmas
 pub mod TouchedLemmas

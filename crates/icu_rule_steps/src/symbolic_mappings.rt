@@ -4,6 +4,7 @@ pub mod behind;
 pub mod character_mapping;
 pub mod kept_mappings;
 mod mark_joining;
+mod mark_runs;
 mod matching;
 mod reading;
 pub mod roots;

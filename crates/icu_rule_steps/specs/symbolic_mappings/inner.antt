@@ -2,3 +2,4 @@
 pub mod Tiers
 pub mod ReadByMappings
 pub mod TakenCases
+pub mod PassedMarks

@@ -6,11 +6,13 @@ ghost use Rattle.icu_rule_meaning.specs.Steps.{mapping_step, suppression_step};
 ghost use Rattle.icu_rule_meaning.specs.TailoredMappings.{has_no_context, is_mapping_of, with_mapping};
 ghost use Rattle.icu_element_matches.specs.Texts.{unread};
 ghost use Rattle.icu_rule_steps.specs.symbolic_mappings.StoredMappings.{mapping_between, suppressed_at, symbolic_mapping, symbolic_mappings};
+ghost use Rattle.icu_rule_steps.specs.symbolic_mappings.inner.PassedMarks.{IsMarkRun};
 ghost use Rattle.icu_rule_steps.specs.symbolic_mappings.inner.ReadByMappings.{ReadsCharacter};
 
 use crate::symbolic_mappings::character_mapping::{
     CharacterMapping, SymbolicMapping, TouchedCharacter,
 };
+use crate::symbolic_mappings::mark_runs::MarkRun;
 use crate::symbolic_mappings::reading::read_character;
 use crate::symbolic_mappings::roots::{RootMappings, have_context, mappings_of_root};
 use icu_element_matches::Text;
@@ -252,7 +254,7 @@ impl<'r, R: RootMappings> Mappings<'r, R> {
         Ok(())
     }
 
-    /// Reads a character by its mappings.
+    /// Reads a character by its mappings. Marks that were passed over are handed on.
     fn read(
         &self,
         alloc: Global,
@@ -260,16 +262,19 @@ impl<'r, R: RootMappings> Mappings<'r, R> {
         before: &mut Vec<char>,
         text: &mut Text,
         elements: &mut Vec<SymbolicElement>,
+        run: &mut MarkRun,
     ) -> Result<(), AllocError>
-        ensures { OnOk result (ReadsCharacter (mappings_in R.mappings_of self.now c) c
+        requires run { IsMarkRun run.old (unread text.old) }
+        ensures read { OnOk result (ReadsCharacter (mappings_in R.mappings_of self.now c) c
             before.old.items before.new.items (unread text.old) (unread text.new)
             elements.old.items elements.new.items) }
+        ensures run { OnOk result (IsMarkRun run.new (unread text.new)) }
     {
         match self.touched.get(&c) {
-            Some(own) => read_character(alloc, own.as_slice(), c, before, text, elements),
+            Some(own) => read_character(alloc, own.as_slice(), c, before, text, run, elements),
             None => {
                 let own = self.untouched(alloc, c)?;
-                read_character(alloc, own.as_slice(), c, before, text, elements)
+                read_character(alloc, own.as_slice(), c, before, text, run, elements)
             }
         }
     }
@@ -284,10 +289,11 @@ impl<'r, R: RootMappings> Mappings<'r, R> {
             es.items ≡ symbolic_elements (mappings_in R.mappings_of self.now) text.items) }
     {
         let mut left = Text::new(text);
+        let mut run = MarkRun::none();
         let mut before = Vec::new(alloc);
         let mut elements = Vec::new(alloc);
         'reading: while let Some(c) = left.take_first() {
-            self.read(alloc, c, &mut before, &mut left, &mut elements)?;
+            self.read(alloc, c, &mut before, &mut left, &mut elements, &mut run)?;
         }
         Ok(elements)
     }

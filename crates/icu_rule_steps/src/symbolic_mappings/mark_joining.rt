@@ -5,9 +5,11 @@ ghost use Rattle.ucd_normal.specs.CanonicalCombiningClass.{canonical_combining_c
 ghost use Rattle.icu_rule_meaning.specs.TailoredMappings.{joined_marks, mapping_with};
 ghost use Rattle.icu_element_matches.specs.Texts.{unread};
 ghost use Rattle.icu_rule_steps.specs.symbolic_mappings.StoredMappings.{symbolic_mapping};
+ghost use Rattle.icu_rule_steps.specs.symbolic_mappings.inner.PassedMarks.{IsMarkRun};
 ghost use Rattle.icu_rule_steps.specs.symbolic_mappings.inner.Tiers.{lent_mappings, maybe_lent, match_left_by};
 
 use crate::symbolic_mappings::character_mapping::SymbolicMapping;
+use crate::symbolic_mappings::mark_runs::MarkRun;
 use icu_element_matches::Text;
 use unicode_normalization::char::canonical_combining_class;
 
@@ -72,38 +74,52 @@ fn greatest_joining(mappings: &[&SymbolicMapping], suffix: &[char]) -> u8
 
 /// The marks up to the next starter join the mapping one by one, and leave the text, where they aren't blocked and the
 /// suffix with them has a mapping. A mark is blocked if its class isn't above the greatest class of those that were
-/// passed over. No mark is looked at once none can join.
+/// passed over. No mark is looked at once none can join. Marks that were passed over are handed on.
 pub(crate) fn join_marks<'m>(
     mappings: &[&'m SymbolicMapping],
     begun: &'m SymbolicMapping,
     text: &mut Text,
+    run: &mut MarkRun,
 ) -> &'m SymbolicMapping
-    ensures { match_left_by (Some (symbolic_mapping result.now)) text.new
+    requires run { IsMarkRun run.old (unread text.old) }
+    ensures found { match_left_by (Some (symbolic_mapping result.now)) text.new
         ≡ joined_marks (lent_mappings mappings.now) (symbolic_mapping begun.now)
         [] (unread text.old) }
+    ensures run { IsMarkRun run.new (unread text.new) }
 {
     let mut found = begun;
+    let mut known = *run;
     let mut passed = 0;
     let mut greatest = 0;
     let mut joining = greatest_joining(mappings, begun.suffix.as_slice());
     'marks: while greatest < joining {
+        let ahead = known.marks_ahead(text.len() - passed, greatest);
+        if ahead > 0 {
+            passed += ahead;
+            continue;
+        }
         let Some(mark) = text.get(passed) else {
+            *run = known.or_first(text.len(), passed, greatest);
             return found;
         };
         let class = canonical_combining_class(mark);
         if class == 0 {
+            *run = known.or_first(text.len(), passed, greatest);
             return found;
         }
+        known = known.or_first_before(class, text.len(), passed, greatest);
         if class > greatest {
             if let Some(longer) = mapping_with_mark(mappings, found.suffix.as_slice(), mark) {
                 found = longer;
                 joining = greatest_joining(mappings, longer.suffix.as_slice());
                 text.remove(passed);
+                known = MarkRun::none();
                 continue;
             }
             greatest = class;
         }
         passed += 1;
     }
+    *run = known.or_first(text.len(), passed, greatest);
     found
 }

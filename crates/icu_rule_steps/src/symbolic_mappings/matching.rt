@@ -4,10 +4,12 @@ ghost use Rattle.std.specs.Prelude.{◌≡◌, None};
 ghost use Rattle.icu_rule_meaning.specs.TailoredMappings.{longer_mapping, longest_suffix, match_by};
 ghost use Rattle.icu_element_matches.specs.Texts.{unread};
 ghost use Rattle.icu_rule_steps.specs.symbolic_mappings.StoredMappings.{symbolic_mapping};
+ghost use Rattle.icu_rule_steps.specs.symbolic_mappings.inner.PassedMarks.{IsMarkRun};
 ghost use Rattle.icu_rule_steps.specs.symbolic_mappings.inner.Tiers.{lent_mappings, maybe_lent, match_left_by};
 
 use crate::symbolic_mappings::character_mapping::SymbolicMapping;
 use crate::symbolic_mappings::mark_joining::join_marks;
+use crate::symbolic_mappings::mark_runs::MarkRun;
 use icu_element_matches::Text;
 
 /// The mapping, where its suffix begins the text and is longer than the best one's.
@@ -49,15 +51,18 @@ fn longest_suffix<'m>(
 }
 
 /// The match of mappings before a text, from which the characters that it consumes are taken out. `None` where no
-/// mapping has a suffix that begins the text.
+/// mapping has a suffix that begins the text. Marks that were passed over are handed on.
 pub(crate) fn match_by<'m>(
     mappings: &[&'m SymbolicMapping],
     text: &mut Text,
+    run: &mut MarkRun,
 ) -> Option<&'m SymbolicMapping>
-    ensures { match_left_by (maybe_lent result) text.new
+    requires run { IsMarkRun run.old (unread text.old) }
+    ensures found { match_left_by (maybe_lent result) text.new
         ≡ match_by (lent_mappings mappings.now) (unread text.old) }
+    ensures run { IsMarkRun run.new (unread text.new) }
 {
     let found = longest_suffix(mappings, text.as_slice())?;
     text.skip(found.suffix.len());
-    Some(join_marks(mappings, found, text))
+    Some(join_marks(mappings, found, text, run))
 }

@@ -3,11 +3,13 @@
 ghost use Rattle.std.specs.Prelude.{◌≡◌, ◌∷◌, ◌++◌, OnOk, reverse, take};
 ghost use Rattle.icu_element_matches.specs.Texts.{unread};
 ghost use Rattle.icu_rule_steps.specs.symbolic_mappings.StoredMappings.{symbolic_mappings};
+ghost use Rattle.icu_rule_steps.specs.symbolic_mappings.inner.PassedMarks.{IsMarkRun};
 ghost use Rattle.icu_rule_steps.specs.symbolic_mappings.inner.ReadByMappings.{AddsMatch, ReadsCharacter};
 ghost use Rattle.icu_rule_steps.specs.symbolic_mappings.inner.Tiers.{maybe_lent};
 
 use crate::symbolic_mappings::behind::mappings_behind;
 use crate::symbolic_mappings::character_mapping::SymbolicMapping;
+use crate::symbolic_mappings::mark_runs::MarkRun;
 use crate::symbolic_mappings::matching::match_by;
 use icu_element_matches::Text;
 use icu_rule_meaning::SymbolicElement;
@@ -54,20 +56,24 @@ fn add_match(
     }
 }
 
-/// Reads a character by its mappings, between the characters before it, nearest first, and a text.
+/// Reads a character by its mappings, between the characters before it, nearest first, and a text. Marks that were
+/// passed over are handed on.
 pub(crate) fn read_character(
     alloc: Global,
     mappings: &[SymbolicMapping],
     c: char,
     before: &mut Vec<char>,
     text: &mut Text,
+    run: &mut MarkRun,
     elements: &mut Vec<SymbolicElement>,
 ) -> Result<(), AllocError>
-    ensures { OnOk result (ReadsCharacter (symbolic_mappings mappings.now) c
+    requires run { IsMarkRun run.old (unread text.old) }
+    ensures run { OnOk result (IsMarkRun run.new (unread text.new)) }
+    ensures read { OnOk result (ReadsCharacter (symbolic_mappings mappings.now) c
         before.old.items before.new.items (unread text.old) (unread text.new)
         elements.old.items elements.new.items) }
 {
     let behind = mappings_behind(alloc, mappings, before.as_slice())?;
-    let found = match_by(behind.as_slice(), text);
+    let found = match_by(behind.as_slice(), text, run);
     add_match(found, c, before, elements)
 }

@@ -1,4 +1,4 @@
-use Rattle.std.proofs.Common.{◌≡◌, ◌+◌, ◌<◌, ◌≤◌, ℕ, List, true, false, Some, None, [], ◌∷◌, ◌++◌, length, take, drop, refl, sym, ap, ap₂, ◌∙◌, rules, arith, length-drop, length-append}
+use Rattle.std.proofs.Common.{◌≡◌, ◌+◌, ◌<◌, ◌≤◌, ℕ, List, true, false, Some, None, [], ◌∷◌, ◌++◌, length, take, drop, refl, sym, ap, ap₂, ◌∙◌, subst, rules, arith, length-drop, length-append}
 use Rattle.std.specs.Prelude.{slice_get, nat_le, max}
 use Rattle.std.proofs.lemmas.Bool.{lt-leb, le-leb}
 use Rattle.std.proofs.lemmas.List.{take-append-drop, length-take-le, append-nil}
@@ -12,6 +12,8 @@ use Rattle.icu_element_matches.proofs.MarkLemmas.{one_more, blocked_by_greatest,
 use Rattle.icu_rule_meaning.specs.TailoredMappings.{SymbolicMapping, SymbolicMatch, is_blocked_by, joined_marks, mapping_with}
 use Rattle.icu_rule_steps.specs.symbolic_mappings.StoredMappings.{symbolic_mapping}
 use Rattle.icu_rule_steps.specs.symbolic_mappings.inner.Tiers.{lent_mappings, maybe_lent}
+use Rattle.icu_rule_steps.specs.symbolic_mappings.inner.PassedMarks.{AreMarksTo}
+use Rattle.icu_rule_steps.proofs.symbolic_mappings.MarkRunLemmas.{marks_and_one, marks_before, marks_on, passes_marks}
 use Rattle.icu_rule_steps.proofs.symbolic_mappings.JoinLemmas.{NoneJoins, as_found, same_blocking, ends_at_starter, passes_blocked, joins_longer, none_joins, passes_other, ends_with_text}
 use Rattle.icu_rule_steps.proofs.symbolic_mappings.mark_joining.join_marks.Goals as goal
 use Rattle.icu_rule_steps.proofs.symbolic_mappings.mark_joining.join_marks.Goals.{then-class-greatest+in_default-mapping_with_mark, else-class-greatest}
@@ -24,8 +26,39 @@ marks-init c = record {
   joining = λ m (above : c.greatest_joining-joining.result < class_of m).
       ap (λ (s : List ℕ). mapping_with (lent_mappings c.args.mappings.now) (s ++ m ∷ [])) (sym c.as_slice.ensures.value)
       ∙ c.greatest_joining-joining.ensures m above;
+  run = c.requires.run;
+  front = λ i m from before is. absurd (omega (arith, from, before));
   whole = refl;
 }
+
+pub overflow_add-passed : goal.overflow_add-passed
+unfolding unread
+overflow_add-passed c =
+    let l = c.marks in
+    let left : List ℕ = drop l.text.next l.text.chars.items in
+    let size : c.len.result ≡ length left = c.len.ensures in
+    let inside : l.passed ≤ length left = l.invariant.inside in
+    omega (arith, c.marks_ahead-ahead.ensures.within, size, inside, length-drop l.text.next l.text.chars.items, l.text.chars.ok.0, l.text.chars.ok.1, l.text.chars.small)
+
+pub marks-preserved-then-ahead-gt0 : goal.marks-preserved-then-ahead-gt0
+marks-preserved-then-ahead-gt0 c =
+    let mappings : List SymbolicMapping = lent_mappings c.args.mappings.now in
+    let l = c.marks in
+    let text : List ℕ = unread l.text in
+    let found : SymbolicMapping = symbolic_mapping l.found.now in
+    let ahead : ℕ = c.marks_ahead-ahead.result in
+    let size : c.len.result ≡ length text = c.len.ensures in
+    let inside : l.passed + ahead ≤ length text = omega (arith, c.marks_ahead-ahead.ensures.within, size, l.invariant.inside) in
+    let marks : AreMarksTo l.greatest text l.passed (l.passed + ahead) = c.marks_ahead-ahead.ensures.marks text l.passed l.invariant.run (omega (arith, size, l.invariant.inside)) in
+    let passes = passes_marks mappings found text l.passed ahead inside (subst (λ g. AreMarksTo g text l.passed (l.passed + ahead)) l.invariant.greatest marks) in
+    record {
+      inside = inside;
+      greatest = l.invariant.greatest ∙ sym passes.greatest;
+      joining = l.invariant.joining;
+      run = l.invariant.run;
+      front = marks_on l.greatest text l.passed (l.passed + ahead) l.invariant.front marks;
+      whole = sym passes.whole ∙ l.invariant.whole;
+    }
 
 pub returns-then-class-eq0 : goal.returns-then-class-eq0
 returns-then-class-eq0 c =
@@ -36,8 +69,12 @@ returns-then-class-eq0 c =
     let starter : is_starter m ≡ true = search rules in
     let found : SymbolicMapping = symbolic_mapping l.found.now in
     let ended : List ℕ → SymbolicMatch = λ r. record { elements = found.elements; suffix = found.suffix; rest = r } in
-    ap ended (sym (take-append-drop l.passed text))
-    ∙ (sym (ends_at_starter (lent_mappings c.args.mappings.now) found (take l.passed text) text l.passed m is starter) ∙ l.invariant.whole)
+    record {
+      found =
+          ap ended (sym (take-append-drop l.passed text))
+          ∙ (sym (ends_at_starter (lent_mappings c.args.mappings.now) found (take l.passed text) text l.passed m is starter) ∙ l.invariant.whole);
+      run = c.or_first-then-class-eq0.ensures text (search rules) l.invariant.run l.invariant.front;
+    }
 
 pub remove-requires : goal.remove-requires
 remove-requires c =
@@ -84,15 +121,17 @@ marks-preserved-in-Some-mapping_with_mark c =
       joining = λ n (over : c.greatest_joining-joining-in-Some-mapping_with_mark.result < class_of n).
           ap (λ (s : List ℕ). mapping_with mappings (s ++ n ∷ [])) (sym c.as_slice-in-Some-mapping_with_mark.ensures.value)
           ∙ c.greatest_joining-joining-in-Some-mapping_with_mark.ensures n over;
+      run = c.none-known.ensures new;
+      front = marks_before l.greatest text new l.passed before l.invariant.front;
       whole =
           ap₂ (joined_marks mappings longer) before after
           ∙ sym (joins_longer mappings found (take l.passed text) text l.passed m is longer starter free joined)
           ∙ l.invariant.whole;
     }
 
-pub overflow_add-passed : goal.overflow_add-passed
+pub overflow_add-passed-in-marks : goal.overflow_add-passed-in-marks
 unfolding unread
-overflow_add-passed c =
+overflow_add-passed-in-marks c =
     let l = c.marks in
     let is : slice_get (drop l.text.next l.text.chars.items) l.passed ≡ Some c.in-Some.mark = search rules in
     let within : l.passed < length (drop l.text.next l.text.chars.items) = slice_get_within (drop l.text.next l.text.chars.items) l.passed c.in-Some.mark is in
@@ -139,6 +178,8 @@ marks-preserved c =
       inside = omega (arith, within);
       greatest = greatest ∙ sym (ap greatest_class more ∙ greatest_more passed m);
       joining = l.invariant.joining;
+      run = c.or_first_before-known.ensures text (search rules) l.invariant.run l.invariant.front;
+      front = marks_and_one l.greatest c.if-class-greatest.greatest text l.passed m l.invariant.front is mark (omega (arith, greatest)) (omega (arith, greatest, l.invariant.greatest));
       whole = ap (λ (p : List ℕ). joined_marks mappings found p rest) more ∙ sym turn ∙ l.invariant.whole;
     }
 
@@ -152,7 +193,10 @@ returns-in_default c =
     let ended : List ℕ → SymbolicMatch = λ r. record { elements = found.elements; suffix = found.suffix; rest = r } in
     let whole : take l.passed text ≡ text =
     sym (append-nil (take l.passed text)) ∙ (ap (λ (r : List ℕ). take l.passed text ++ r) (sym (drop_of_length-le text past)) ∙ take-append-drop l.passed text) in
-    ap ended (sym whole) ∙ (sym (ends_with_text (lent_mappings c.args.mappings.now) found (take l.passed text) text l.passed past) ∙ l.invariant.whole)
+    record {
+      found = ap ended (sym whole) ∙ (sym (ends_with_text (lent_mappings c.args.mappings.now) found (take l.passed text) text l.passed past) ∙ l.invariant.whole);
+      run = c.or_first.ensures text (search rules) l.invariant.run l.invariant.front;
+    }
 
 pub returns : goal.returns
 returns c =
@@ -163,5 +207,9 @@ returns c =
     let found : SymbolicMapping = symbolic_mapping l.found.now in
     let none : NoneJoins mappings found passed =
     λ m (above : greatest_class passed < class_of m). l.invariant.joining m (omega (arith, above, l.invariant.greatest, c.marks-test.false)) in
-    ap (as_found found) (sym (take-append-drop l.passed text))
-    ∙ sym (none_joins mappings found passed (drop l.passed text) none) ∙ l.invariant.whole
+    record {
+      found =
+          ap (as_found found) (sym (take-append-drop l.passed text))
+          ∙ sym (none_joins mappings found passed (drop l.passed text) none) ∙ l.invariant.whole;
+      run = c.or_first-2.ensures text (search rules) l.invariant.run l.invariant.front;
+    }

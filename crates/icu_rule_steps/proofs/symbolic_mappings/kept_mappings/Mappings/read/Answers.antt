@@ -13,7 +13,7 @@ returns-in-Some g c =
     let there : get nat_cmp held.touched c.args.c ≡ Some c.in-Some.own.now = search rules in
     let is : mappings_in root held c.args.c ≡ symbolic_mappings c.as_slice.result.now =
     own_there root held c.args.c c.in-Some.own.now there ∙ ap symbolic_mappings (sym c.as_slice.ensures.value) in
-    rw is c.read_character.ensures
+    record { read = rw is c.read_character.ensures.read; run = c.read_character.ensures.run }
 
 pub returns-in_ok-own-in-None : goal.returns-in_ok-own-in-None
 returns-in_ok-own-in-None g c =
@@ -23,4 +23,4 @@ returns-in_ok-own-in-None g c =
     let made : symbolic_mappings c.in_ok-own-in-None.own.items ≡ untouched_mappings root held c.args.c = c.in_ok-own-in-None.ensures in
     let is : mappings_in root held c.args.c ≡ symbolic_mappings c.as_slice-in-None.result.now =
     own_absent root held c.args.c absent ∙ sym made ∙ ap symbolic_mappings (sym c.as_slice-in-None.ensures.value) in
-    rw is c.read_character-in-None.ensures
+    record { read = rw is c.read_character-in-None.ensures.read; run = c.read_character-in-None.ensures.run }
