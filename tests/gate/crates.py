@@ -2,6 +2,7 @@
 import os
 import re
 import shutil
+import subprocess
 
 TOP = os.path.dirname(os.path.dirname(os.path.dirname(os.path.realpath(__file__))))
 PARTS = ("src", "specs", "proofs")
@@ -103,6 +104,14 @@ def processors():
         if len(words) > 1 and words[0].isdigit() and words[1].isdigit() and int(words[1]):
             found = min(found, max(int(words[0]) // int(words[1]), 1))
     return found
+
+
+def version():
+    """The version of this library and the commit that stands here, as far as they are known."""
+    found = re.search(r"(?m)^## (\S+?),? ", read(os.path.join(TOP, "CHANGELOG.md")))
+    how = {"cwd": TOP, "stdout": subprocess.PIPE, "stderr": subprocess.DEVNULL, "text": True, "check": False}
+    commit = subprocess.run(["git", "rev-parse", "--short=12", "HEAD"], **how).stdout.strip()
+    return [it for it in (found and found[1], commit) if it]
 
 
 def kit():

@@ -25,6 +25,7 @@ from first_run import check_first_run
 from held_memory import check_memory
 from hostile import check_hostile
 from index_program import check_collate_index
+from installed import check_installed
 from long_orders import check_long_orders
 from long_sorts import check_long_sorts
 from names_program import check_sort_names
@@ -348,6 +349,7 @@ def check_all(report, room):
     report.also("searches that are made to be slow", check_slow_searches, room, built("collate_cldr"))
     report.also("collate-index", check_collate_index, room, built("collate_index"), compiled(room, "stop", "-shared", "-fPIC"))
     report.also("sort_names", check_sort_names, shim)
+    report.also("what is installed", check_installed, room)
     report.also("calls", check_calls)
     report.also("tests in Rattle", check_rattle_tests)
     report.also("rows", check_rows, drivers())
