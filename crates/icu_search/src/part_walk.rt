@@ -143,6 +143,9 @@ impl<'s, 'c> SearchedText<'s, 'c> {
         if self.searcher.equals_empty() {
             return Ok(Some(start));
         }
+        if self.searcher.count_of_pattern() == 0 {
+            return self.looked_stop(start);
+        }
         let told = self.counted_stop(start)?;
         match told {
             Some(stop) => Ok(stop),

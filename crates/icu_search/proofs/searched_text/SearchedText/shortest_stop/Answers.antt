@@ -25,8 +25,14 @@ returns-in-Some c =
     told (sym c.in_ok-here.ensures ∙ c.if-not-here.false) (sym c.is_allowed.ensures ∙ c.if-not-is_allowed.false)
     (empty_matches_not (searched_in t) (text_searched t) c.args.start (sym c.equals_empty.ensures ∙ c.if-equals_empty.false))
 
+pub returns-then-count_of_pattern-eq0 : goal.returns-then-count_of_pattern-eq0
+returns-then-count_of_pattern-eq0 c =
+    let t = c.args.self.now in
+    c.looked_stop.ensures (sym c.in_ok-here.ensures ∙ c.if-not-here.false) (sym c.is_allowed.ensures ∙ c.if-not-is_allowed.false)
+    (empty_matches_not (searched_in t) (text_searched t) c.args.start (sym c.equals_empty.ensures ∙ c.if-equals_empty.false))
+
 pub returns-in-None : goal.returns-in-None
 returns-in-None c =
     let t = c.args.self.now in
-    c.looked_stop.ensures (sym c.in_ok-here.ensures ∙ c.if-not-here.false) (sym c.is_allowed.ensures ∙ c.if-not-is_allowed.false)
+    c.looked_stop-in-None.ensures (sym c.in_ok-here.ensures ∙ c.if-not-here.false) (sym c.is_allowed.ensures ∙ c.if-not-is_allowed.false)
     (empty_matches_not (searched_in t) (text_searched t) c.args.start (sym c.equals_empty.ensures ∙ c.if-equals_empty.false))
