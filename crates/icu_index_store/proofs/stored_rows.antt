@@ -12,5 +12,6 @@ mod NextRows
 mod RekeyedNames
 mod RenewedNames
 pub mod RenewalLemmas
+pub mod ShownPrints
 mod MadeTables
 pub mod ListingLemmas

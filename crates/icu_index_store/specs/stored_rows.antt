@@ -3,3 +3,4 @@ pub mod KeptNames
 pub mod RowLaws
 pub mod NameListings
 pub mod Renewals
+pub mod StoredPrints

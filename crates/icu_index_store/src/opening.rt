@@ -1,7 +1,8 @@
 //! How an index is opened over a database.
 
-ghost use Rattle.std.specs.Prelude.{◌≡◌, IfErr, IfOk, IsTrue, OnOk};
+ghost use Rattle.std.specs.Prelude.{◌≡◌, IfErr, IfOk, IfSome, IsTrue, None, OnOk};
 ghost use Rattle.icu_index_store.specs.stored_rows.Renewals.{LeavesDatabase, StaysIndex};
+ghost use Rattle.icu_index_store.specs.stored_rows.StoredPrints.{BearsPrint};
 ghost use Rattle.sqlite.specs.Held.{state};
 ghost use Rattle.sqlite.specs.State.{HasCleanDisk, KeepsCommit, Survives};
 ghost use Rattle.icu_index_store.specs.Stores.{printed_collation, store_collation};
@@ -39,6 +40,11 @@ fn found_print<S: Alter>(
         → OnOk result (IsTrue (state S.Store transaction.new.conn.now).in_transaction
         × StaysIndex (state S.Store transaction.old.conn.now).now
         (state S.Store transaction.new.conn.now).now) }
+    ensures print { HasCleanDisk (state S.Store transaction.new.conn.now)
+        → IsTrue (state S.Store transaction.old.conn.now).in_transaction
+        → IfOk result (λ found. IfSome found (λ kept.
+        BearsPrint (state S.Store transaction.old.conn.now).now
+        (state S.Store transaction.new.conn.now).now kept.fingerprint.items)) }
     ensures kept { HasCleanDisk (state S.Store transaction.new.conn.now)
         → IsTrue (state S.Store transaction.old.conn.now).in_transaction
         → KeepsCommit (state S.Store transaction.old.conn.now)
@@ -51,7 +57,18 @@ fn found_print<S: Alter>(
     Ok(kept)
 }
 
-/// Whether a database's fingerprint is the collator's; one that has none gets it.
+/// A fingerprint, unless it is the collator's.
+fn other_print(kept: KeptFingerprint, collator: &PrintedCollator) -> Option<KeptFingerprint>
+    ensures { result ≡ None → kept.fingerprint.items ≡ collator.now.print }
+{
+    if kept.fingerprint.as_slice() == collator.fingerprint() {
+        None
+    } else {
+        Some(kept)
+    }
+}
+
+/// Whether a database's fingerprint is the collator's; one that has none gets it. Another one is returned.
 pub(crate) fn fits<S: Alter>(
     transaction: &mut Transaction<'_, S>,
     collator: &PrintedCollator,
@@ -63,6 +80,11 @@ pub(crate) fn fits<S: Alter>(
         → OnOk result (IsTrue (state S.Store transaction.new.conn.now).in_transaction
         × StaysIndex (state S.Store transaction.old.conn.now).now
         (state S.Store transaction.new.conn.now).now) }
+    ensures print { HasCleanDisk (state S.Store transaction.new.conn.now)
+        → IsTrue (state S.Store transaction.old.conn.now).in_transaction
+        → IfOk result (λ other. other ≡ None
+        → BearsPrint (state S.Store transaction.old.conn.now).now
+        (state S.Store transaction.new.conn.now).now collator.now.print) }
     ensures kept { HasCleanDisk (state S.Store transaction.new.conn.now)
         → IsTrue (state S.Store transaction.old.conn.now).in_transaction
         → KeepsCommit (state S.Store transaction.old.conn.now)
@@ -70,13 +92,13 @@ pub(crate) fn fits<S: Alter>(
     ensures survives { Survives (state S.Store transaction.old.conn.now)
         (state S.Store transaction.new.conn.now) (λ _. ⊥) }
 {
+    if let Some(kept) = found_print(transaction)? {
+        return Ok(other_print(kept, collator));
+    }
+    keep_fingerprint(transaction, collator.fingerprint(), wanted)?;
     match found_print(transaction)? {
-        Some(kept) if kept.fingerprint.as_slice() != collator.fingerprint() => Ok(Some(kept)),
-        Some(_) => Ok(None),
-        None => {
-            keep_fingerprint(transaction, collator.fingerprint(), wanted)?;
-            Ok(None)
-        }
+        Some(kept) => Ok(other_print(kept, collator)),
+        None => Err(Error::QueryReturnedNoRows),
     }
 }
 
@@ -91,6 +113,9 @@ pub fn open<'c, S: Alter>(
         store_collation index ≡ printed_collation collator.entry.now) }
     ensures names { HasCleanDisk (state S.Store connection.new) → OnOk result (StaysIndex
         (state S.Store connection.old).now (state S.Store connection.new).now) }
+    ensures fingerprint { HasCleanDisk (state S.Store connection.new) → OnOk result (BearsPrint
+        (state S.Store connection.old).now (state S.Store connection.new).now
+        collator.entry.now.print) }
     ensures undone { HasCleanDisk (state S.Store connection.new) → IfErr result (λ _.
         LeavesDatabase (state S.Store connection.old) (state S.Store connection.new)) }
 {

@@ -81,7 +81,7 @@ module _ {S : Type 0} (g : Ghosts S) where
   pub index_read : (old mid new : Held S) (rows : List Row) → StaysIndex (state g old).now (state g mid).now → Shown fingerprint_text [] (state g mid) (state g new) rows
       → StaysIndex (state g old).now (state g new).now
   index_read old mid new rows stays h =
-      let on : (kept : List KeptName) → Keeps (state g mid).now kept → Keeps (state g new).now kept = λ kept keeps. keeps_shown fingerprint_text [] (state g mid) (state g new) rows kept print_is keeps h in
+      let on : (kept : List KeptName) → Keeps (state g mid).now kept → Keeps (state g new).now kept = λ kept keeps. keeps_shown fingerprint_text [] (state g mid) (state g new) rows kept print_is.0 keeps h in
       record { made = λ none. on [] (stays.made none); stays = λ kept keeps. on kept (stays.stays kept keeps) }
 
   pub index_printed : (fingerprint settings : List ℕ) (old mid new : Held S) (count : ℕ) → StaysIndex (state g old).now (state g mid).now

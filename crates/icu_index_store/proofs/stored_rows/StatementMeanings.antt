@@ -145,6 +145,6 @@ after_is = (refl, (refl, refl), refl)
 
 -- ---- the fingerprint that is there
 
-pub print_is : IsPlain (understood names_schema fingerprint_text)
+pub print_is : IsPlain (understood names_schema fingerprint_text) × (reads_listing names_schema fingerprint_text ≡ false)
 unfolding understood everything
-print_is = (refl, refl)
+print_is = ((refl, refl), refl)
