@@ -140,39 +140,16 @@ def wrong_runs(program):
     return found
 
 
-# ---- the manual page
-
-MANUAL = os.path.join(TOP, "docs", "COLLATE_CLDR.md")
 COMMANDS_SAID = re.compile(r"(?m)^Commands:\n((?: .*\n)+)")
 
 
-def options_of_help(program):
-    """The options that the program and each of its commands say they take, by the command; `none` is the program without one."""
+def wide_help(program):
+    """Lines of help that don't fit into 80 columns, with how many texts of help there are."""
     names = re.findall(r"(?m)^  (\w+)", COMMANDS_SAID.search(run(program, ["--help"]).output.decode())[1])
-    words = {"none": ["--help"], **{name: [name, "--help"] for name in names if name != "help"}}
-    lines = {name: re.findall(r"(?m)^ {2,6}((?:-\w, )?--[\w-]+)", run(program, it).output.decode()) for name, it in words.items()}
-    return {(name, it) for name, said in lines.items() for line in said for it in line.split(", ") if it != "--help"}
-
-
-def options_of_page(page, commands):
-    """The options of the page's table, by the commands that they are for: some that it names, `all`, and all but some."""
-    found = set()
-    for options, said in re.findall(r"(?m)^\| (`-(?:[^|]|\\\|)*?) \| ([^|]*) \|", page):
-        named = set(re.findall(r"`(\w+)`", said)) | {it for it in ("none",) if said.endswith(it)}
-        named = commands - {"none"} - named if said.startswith("all but") else commands - {"none"} | named if said.startswith("all") else named
-        found |= {(name, it) for name in named for it in re.findall(r"`(--?[\w-]+)", options)}
-    return found
-
-
-def wrong_manual(program, page):
-    """Options of commands that the manual page has and no --help, or the other way round."""
-    said = options_of_help(program)
-    listed = options_of_page(page, {name for name, _ in said})
-    wide = [f"--help of {name} has {len(line)} columns: {line}" for name in {name for name, _ in said}
-            for line in run(program, [name, "--help"] if name != "none" else ["--help"]).output.decode().splitlines() if len(line) > 80]
-    unlisted = [f"the synopsis hasn't {name}" for name, _ in said if name != "none" and f"\n    collate-cldr {name} [OPTIONS]" not in page]
-    return ([f"no --help of {name} has {it}" for name, it in sorted(listed - said)]
-            + [f"the manual hasn't {it} of {name}" for name, it in sorted(said - listed)] + sorted(set(unlisted)) + wide)
+    texts = {"": ["--help"], **{name: [name, "--help"] for name in names if name != "help"}}
+    found = [f"collate-cldr {name} --help has {len(line)} columns: {line}" for name, words in texts.items()
+             for line in run(program, words).output.decode().splitlines() if len(line) > 80]
+    return found, len(texts)
 
 
 def wrong_files(program, room):
@@ -442,12 +419,7 @@ def check_collate_cldr(report, room, shim):
     folder = os.path.join(room, "files")
     os.mkdir(folder)
     report.say("collate-cldr: files", wrong_files(program, folder), 4)
-    with open(MANUAL, encoding="utf-8") as it:
-        page = it.read()
-    report.say("collate-cldr: options of the manual page", wrong_manual(program, page), len(options_of_help(program)))
-    others = [("| `--csv`", "| `--lines`"), ("`-l TAG`", "`-k TAG`"), ("| all but `compile` |", "| all |"), ("collate-cldr why", "collate-cldr")]
-    missed = [f"not found: {new} for {old} in the manual page" for old, new in others if not wrong_manual(program, page.replace(old, new, 1))]
-    report.say("collate-cldr: other options in the manual page are found", missed, len(others))
+    report.say("collate-cldr: help fits 80 columns", *wide_help(program))
     check_locales(report, folder, program)
     check_refused_files(report, folder, program)
     check_input_files(report, folder, program)
