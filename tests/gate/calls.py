@@ -28,7 +28,7 @@ METHOD = re.compile(r"(?:<[^(]*>)?\(\s*(?:&(?:'\w+ )?)?(?:mut )?self\b")
 VALUES = {"CollatorBorrowed": "as_borrowed", "Mappings": "mappings", "OverlappingMatches": "find_overlapping_iter",
           "WeightTreeBuilder": "tree"}
 # Programs, and crates of tests: what the driver asks about are libraries.
-OTHERS = {"cldr_collators", "cldr_languages", "collate", "collate_cldr", "collate_commands", "collate_index", "program_files",
+OTHERS = {"cldr_collators", "cldr_languages", "collate", "collate_c", "collate_cldr", "collate_commands", "collate_index", "program_files",
           "program_words", "resolve_tags", "sort_names", "test_contracts", DRIVER}
 KEY, CHECK, FILE, READ, LINE, INDEX = "`key`", "`check`", "`root`", "`next` and `whole`", "`line`", "`names`"
 # Calls to which no question comes: each request of this program is refused by itself, and some are made by tests in Rattle alone,

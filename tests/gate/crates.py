@@ -10,10 +10,11 @@ FUNCTION = re.compile(r"^\s*(?:pub(?:\([a-z]+\))? )?(?:const )?(?:unsafe )?fn ",
 
 
 class Crate:
-    """A crate: its name, its folder, the crates of the repository right below it, and the kit's libraries that it names."""
+    """A crate: its name, its folder, the crates of the repository right below it, the kit's libraries that it names, and whether it
+    is a static library."""
 
-    def __init__(self, name, named, listed):
-        self.name, self.folder = name, os.path.join(TOP, "crates", name)
+    def __init__(self, name, named, listed, is_static=False):
+        self.name, self.folder, self.is_static = name, os.path.join(TOP, "crates", name), is_static
         self.deps = [it for it in named if it in listed]
         self.of_kit = [it for it in named if it not in listed]
         self.is_program = os.path.isfile(os.path.join(self.folder, "src", "main.rt"))
@@ -66,8 +67,8 @@ def listed():
     for line in read(os.path.join(TOP, "crates.txt")).splitlines():
         name, colon, named = line.partition("#")[0].partition(":")
         if colon:
-            found[name.split()[0]] = named.split()
-    return {name: Crate(name, named, found) for name, named in found.items()}
+            found[name.split()[0]] = name.split()[1:], named.split()
+    return {name: Crate(name, named, found, "staticlib" in kind) for name, (kind, named) in found.items()}
 
 
 def below(crates, name):
@@ -118,3 +119,28 @@ def kit():
     """The folder of the toolchain that the command `rt` belongs to, or None where there is none."""
     rt = shutil.which("rt")
     return rt and os.path.dirname(os.path.dirname(os.path.realpath(rt)))
+
+
+def words_of(command, crate, listed, top=TOP):
+    """The words by which rattle checks or builds a crate over the libraries that are built below `top`, as `rt` gives them, with
+    nothing kept."""
+    at = kit()
+    words = ["--crate-name", crate.name, "src/main.rt" if crate.is_program else "src/lib.rt"]
+    for it in ["std", *crate.of_kit]:
+        words += ["--extern", f"{it}={at}/rlibs/{it}.rlib"]
+    words += ["-L", f"dependency={at}/rlibs"]
+    for it in crate.deps:
+        words += ["--extern", f"{it}={top}/crates/{it}/out/rlib/{it}.rlib"]
+    for it in below(listed, crate.name):
+        words += ["-L", f"dependency={top}/crates/{it}/out/rlib"]
+    words += ["--antt-project", f"{at}/rattle/logic/antt-project.json", "--logic-built", f"{at}/logic_built"]
+    words += ["--links", f"{crate.name}="]
+    words += ["--test"] if crate.is_tests_alone() else ["--crate-type", "staticlib"] if crate.is_static else []
+    return [os.path.join(at, "bin", "rattle"), command, *words]
+
+
+def archive_words(crate, listed, top):
+    """The words by which rattle proves a static library once more, over the libraries below `top`, and makes its archive of what it
+    proved: `rt ci` makes none."""
+    tools = ["--toolchain", os.path.join(kit(), "toolchain"), "--backend", "llvm", "--jobs", "1"]
+    return [*words_of("build", crate, listed, top), *tools, "-o", f"out/lib{crate.name}.a"]

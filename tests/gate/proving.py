@@ -165,9 +165,24 @@ class Run:
             if self.counts is None or status and not self.faults:
                 self.faults["rt ci"] = self.last[-8:] or [f"it ended with status {status}"]
             for name in self.names:
-                if self.listed[name].is_program and name not in self.faults and self.counts:
-                    self.place(name, os.path.join(folder, "crates", name, "out"), begun)
+                if name in self.faults or not self.counts:
+                    continue
+                if self.listed[name].is_program:
+                    self.place([name + it for it in BUILDS], name, folder, begun)
+                elif self.listed[name].is_static and self.archive(name, folder):
+                    self.place([f"lib{name}.a"], name, folder, begun)
         return self.faults
+
+    def archive(self, name, folder):
+        """Builds the archive of a static library over the libraries that the copy's run left; whether it could."""
+        self.say(f"the archive of {name} is built, over the libraries that are proved")
+        words = crates.archive_words(self.listed[name], self.listed, folder)
+        how = {"cwd": os.path.join(folder, "crates", name), "stdin": subprocess.DEVNULL, "errors": "replace"}
+        ran = subprocess.run(words, stdout=subprocess.PIPE, stderr=subprocess.STDOUT, text=True, check=False, **how)
+        self.log.write(ran.stdout)
+        if ran.returncode:
+            self.faults[name] = [it for it in ran.stdout.splitlines() if FAULT.match(it)] or ran.stdout.splitlines()[-8:]
+        return not ran.returncode
 
     def follow(self, folder):
         lines = queue.Queue()
@@ -193,10 +208,11 @@ class Run:
             wrong = [it for it in lines if "as it must be" not in it and ": trying its" not in it]
             self.faults.setdefault(name, wrong or ["see the log"])
 
-    def place(self, name, built, begun):
-        """Puts a program beside its sources, as old as the copy that it was proved from: a source that has changed since is newer."""
-        for ending in BUILDS:
-            source, to = (os.path.join(it, name + ending) for it in (built, os.path.join(self.listed[name].folder, "out")))
+    def place(self, files, name, folder, begun):
+        """Puts what was built beside the crate's sources, as old as the copy that it was proved from: a source that has changed since
+        is newer."""
+        for file in files:
+            source, to = (os.path.join(it, "crates", name, "out", file) for it in (folder, crates.TOP))
             if os.path.isfile(source):
                 os.makedirs(os.path.dirname(to), exist_ok=True)
                 shutil.copy(source, f"{to}.new")

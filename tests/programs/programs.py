@@ -18,6 +18,7 @@ import tempfile
 
 sys.path[:0] = [it.path for it in os.scandir(os.path.dirname(os.path.dirname(os.path.realpath(__file__)))) if it.is_dir()]
 import sweeps
+from c_library import check_c_library
 from calls import check_calls
 from cldr_program import check_collate_cldr, cut_lines, letter_lines, wrong_cuts
 from examples import check_examples
@@ -347,6 +348,7 @@ def check_all(report, room):
     report.also("collate", check_collate, room, shim)
     report.also("collate-cldr", check_collate_cldr, room, shim)
     report.also("searches that are made to be slow", check_slow_searches, room, built("collate_cldr"))
+    report.also("the library for C", check_c_library, room, built("collate_cldr"))
     report.also("collate-index", check_collate_index, room, built("collate_index"), compiled(room, "stop", "-shared", "-fPIC"))
     report.also("sort_names", check_sort_names, shim)
     report.also("what is installed", check_installed, room)

@@ -1,0 +1,5 @@
+pub mod HeldSessions
+pub mod Openings
+pub mod Statuses
+pub mod TextBatches
+pub mod WrittenBytes

@@ -1,0 +1,233 @@
+"""The library for C, and what SQLite and Python make of it: each over a small table file, beside the program `collate-cldr`.
+
+What is linked is the archive that bin/c-library makes, over the crates that `rt ci` proved. If SQLite or what its extension is
+compiled with is missing, this says so."""
+import ctypes
+import importlib.util
+import os
+import random
+import shutil
+import subprocess
+import sys
+
+from cldr_locales import FOLDER
+from random_texts import DAMAGED_UTF8
+from sweeps import TOP, run
+
+BINDINGS, BUILT = os.path.join(TOP, "bindings"), os.path.join(TOP, "out", "c-library")
+# Letters, marks and digits of the small root, and such as it doesn't have.
+LETTERS = ["a", "b", "c", "d", "z", "A", "B", "á", "ä", "ö", "å", "ß", "0", "1", "9", " ", "-", ".", "\u0301", "\u0308", "\u4E00", "\uAC01"]
+TEXTS, CALLS = 2000, 10_000
+SANITIZED = ["-g", "-O1", "-fsanitize=address,undefined", "-fno-sanitize-recover=all"]
+STRICT = ["-std=c11", "-Wall", "-Wextra", "-Werror"]
+
+
+def ended(words, given="", **env):
+    """The status of a command, and what it said on both streams."""
+    ran = subprocess.run(words, input=given, capture_output=True, text=True, errors="replace", env={**os.environ, **env}, check=False)
+    return ran.returncode, ran.stdout, ran.stderr
+
+
+def texts():
+    """Texts without line ends, as bytes: some are damaged."""
+    draw = random.Random(84)
+    for _ in range(TEXTS):
+        made = [draw.choice(LETTERS).encode() for _ in range(draw.randrange(12))]
+        if not draw.randrange(10):
+            damaged = bytes.fromhex(draw.choice(DAMAGED_UTF8)[0])
+            made.insert(draw.randrange(len(made) + 1), damaged)
+        yield b"".join(made)
+
+
+def keys_of_program(program, table, given, *options):
+    """The keys of texts, each as the program prints it before its line."""
+    ran = run(program, ["keys", "--tables", table, *options], b"".join(it + b"\n" for it in given))
+    lines = ran.output.split(b"\n")[:-1]
+    return [bytes.fromhex(it.split(b"\t")[0].decode()) for it in lines]
+
+
+def module():
+    """The module of Python, over the built library."""
+    os.environ["COLLATE_LIBRARY"] = os.path.join(BUILT, "libcollate.so.1")
+    spec = importlib.util.spec_from_file_location("collate", os.path.join(BINDINGS, "python", "collate.py"))
+    made = importlib.util.module_from_spec(spec)
+    sys.modules["collate"] = made
+    spec.loader.exec_module(made)
+    return made
+
+
+# ---- Python
+
+
+def key_by(made, collator, text):
+    """The key of bytes, as C is given them."""
+    out, needed = ctypes.create_string_buffer(1 << 12), ctypes.c_size_t()
+    status = made._LIB.collate_key_utf8(collator._at, text, len(text), out, len(out), ctypes.byref(needed))
+    return out.raw[: needed.value] if status == 0 else None
+
+
+def wrong_keys(made, program, table):
+    """Keys and signs that aren't those of the program."""
+    found, given = [], [*texts()]
+    for options, settings in (([], ""), (["--strength=1"], "und-u-ks-level1"), (["--numeric"], "und-u-kn"), (["--strength=i"], "und-u-ks-identic")):
+        collator = made.Collator.open(table, settings)
+        wanted = keys_of_program(program, table, given, *options)
+        if len(wanted) != len(given):
+            return [f"the program has {len(wanted)} keys of {len(given)} texts"]
+        found += [f"{settings} {text!r}: another key" for text, key in zip(given, wanted) if key_by(made, collator, text) != key]
+        decoded = [it.decode("utf-8", "surrogateescape") for it in given]
+        whole = [(text, key) for text, key in zip(decoded, wanted) if text.isprintable()]
+        if collator.keys(text for text, _ in whole) != [key for _, key in whole] or collator.keys([]) != []:
+            found.append(f"{settings}: other keys by one call")
+        for (one, key), (other, second) in zip(zip(given, wanted), zip(given[1:], wanted[1:])):
+            order = made._LIB.collate_compare_utf8(collator._at, one, len(one), other, len(other))
+            if order != (key > second) - (key < second):
+                found.append(f"{settings} {one!r} and {other!r}: {order}")
+        collator.close()
+    return found
+
+
+def raised(kind, call, *given):
+    try:
+        call(*given)
+    except kind:
+        return []
+    except Exception as error:
+        return [f"{kind.__name__} is wanted, not {error!r}"]
+    return [f"{kind.__name__} is wanted"]
+
+
+def wrong_errors(made, table, room):
+    found = []
+    bad = os.path.join(room, "bad.table")
+    with open(table, "rb") as it:
+        whole = it.read()
+    for data in (b"", b"a\n", whole[:-1], whole + b"\n", whole[:99] + b"\xff" + whole[100:]):
+        with open(bad, "wb") as it:
+            it.write(data)
+        found += raised(made.BadTables, made.Collator.open, bad)
+    for tag in ("-", "und-u-ks-level9", "x", "und-u-ks-level1-"):
+        found += raised(made.BadSettings, made.Collator.open, table, tag)
+    found += raised(FileNotFoundError, made.Collator.open, os.path.join(room, "absent"))
+    found += raised(ValueError, made.Collator, "../sv")
+    collator = made.Collator.open(table)
+    other = collator.share()
+    collator.close()
+    for call in (collator.key, collator.bounds):
+        found += raised(made.ClosedCollator, call, "a")
+    found += raised(made.ClosedCollator, collator.compare, "a", "b")
+    found += raised(made.ClosedCollator, collator.share)
+    if other.compare("a", "b") != -1 or other.key("\ud800") != other.key("\ufffd") or len(other.key("a" * 5000)) < 5000:
+        found.append("a shared collator")
+    return found
+
+
+def wrong_doctests(room, library):
+    words = [sys.executable, "-m", "doctest", os.path.join(BINDINGS, "python", "collate.py")]
+    status, said, error = ended(words, COLLATE_TABLES=room, COLLATE_LIBRARY=library)
+    return [] if status == 0 else [said + error]
+
+
+# ---- C
+
+
+def compiled(path, source, *words):
+    status, said, error = ended(["cc", *words[:-1], "-I", BUILT, "-o", path, os.path.join(TOP, source), os.path.join(BUILT, words[-1])])
+    return [] if status == 0 else [f"{source}: {said}{error}"]
+
+
+def wrong_demo(room, table, program):
+    path = os.path.join(room, "demo")
+    found = compiled(path, "bindings/c/demo.c", *STRICT, "libcollate.a")
+    status, said, error = ended([path, table, "a", "b"]) if not found else (0, "", "")
+    keys = [" ".join(f"{it:02X}" for it in key) for key in keys_of_program(program, table, [b"a", b"b"])]
+    wanted = f"a < b\na: {keys[0]}\nb: {keys[1]}\n"
+    return found or [f"demo: {status} {said}{error}"] * ((status, said) != (0, wanted))
+
+
+def wrong_calls(room, table):
+    path = os.path.join(room, "c_calls")
+    found = compiled(path, "tests/programs/c_calls.c", *STRICT, *SANITIZED, "-pthread", "libcollate.a")
+    if not found:
+        status, said, error = ended([path, table, str(CALLS), "84"])
+        found += [said[-2000:] + error[-2000:]] * ((status, said) != (0, f"{CALLS} calls\n"))
+    return found
+
+
+def wrong_exports():
+    """What the shared library shows but for its calls."""
+    status, said, _ = ended(["nm", "-D", "--defined-only", os.path.join(BUILT, "libcollate.so.1")])
+    names = [line.split()[-1] for line in said.splitlines()]
+    others = [it for it in names if not it.startswith("collate_") and it != "COLLATE_1"]
+    return [f"it shows {others}"] * bool(others) + ["nm failed"] * (status != 0 or not names)
+
+
+# ---- SQLite
+
+
+SCRIPT = """.load {extension}
+CREATE TABLE names (name TEXT);
+INSERT INTO names VALUES ('zebra'), ('ab'), (NULL), (''), ('Ab'), ('b'), ('ba'), (CAST(X'61FF' AS TEXT));
+SELECT group_concat(hex(name), ' ') FROM (SELECT name FROM names WHERE name IS NOT NULL ORDER BY name COLLATE sv);
+SELECT hex(collate_key('ab', 'sv'));
+CREATE INDEX by_key ON names (collate_key(name, 'sv'));
+SELECT group_concat(hex(name), ' ') FROM (SELECT name FROM names WHERE name IS NOT NULL ORDER BY collate_key(name, 'sv'));
+SELECT count(*) FROM names WHERE collate_key(name, 'sv') >= collate_low('b', 'sv') AND collate_key(name, 'sv') < collate_high('b', 'sv');
+SELECT collate_load('first', '{table}', 'und-u-ks-level1');
+SELECT 'a' = 'A' COLLATE first, collate_high('', 'sv') IS NULL;
+SELECT collate_expect('sv', collate_fingerprint('sv'));
+PRAGMA trusted_schema = off;
+SELECT count(*) FROM names INDEXED BY by_key WHERE collate_key(name, 'sv') > X'';
+"""
+# What is refused, and what is said of it.
+REFUSED = [
+    ("SELECT collate_key('a', 'absent')", "absent.table can't be read"),
+    ("SELECT collate_key('a', '../sv')", "no collation ../sv is loaded"),
+    ("SELECT 'a' < 'b' COLLATE absent", "no such collation sequence: absent"),
+    ("SELECT collate_load('sv', '{table}'), collate_load('sv', '{table}', 'und-u-kn')", "is loaded already"),
+    ("SELECT collate_load('x', '{table}', 'und-u-ks-level9')", "language tag"),
+    ("SELECT collate_load('x', '{bad}')", "no table file"),
+    ("SELECT collate_expect('sv', '00')", "has the fingerprint"),
+]
+
+
+def wrong_sqlite(room, table, program):
+    names = {"extension": os.path.join(BUILT, "collate_sqlite"), "table": table, "bad": os.path.join(room, "bad.table")}
+    database = os.path.join(room, "names.db")
+    status, said, error = ended(["sqlite3", database], SCRIPT.format(**names), COLLATE_TABLES=room)
+    given = [b"zebra", b"ab", b"", b"Ab", b"b", b"ba", b"a\xff"]
+    key_of = dict(zip(given, keys_of_program(program, table, given)))
+    order = " ".join(it.hex().upper() for it in sorted(given, key=key_of.get))
+    wanted = f"{order}\n{key_of[b'ab'].hex().upper()}\n{order}\n2\nfirst\n1|1\n1\n7\n"
+    found = [f"sqlite3: {status} {said}{error}; wanted: {wanted}"] * ((status, said, error) != (0, wanted, ""))
+    # A file that is opened again: its collation and its index are found by their names.
+    again = f".load {names['extension']}\nSELECT name FROM names ORDER BY name COLLATE sv LIMIT 1 OFFSET 2;\nPRAGMA integrity_check;\n"
+    status, said, error = ended(["sqlite3", database], again, COLLATE_TABLES=room)
+    found += [f"opened again: {status} {said}{error}"] * (status != 0 or not said.endswith("ok\n"))
+    for query, fault in REFUSED:
+        status, said, error = ended(["sqlite3", ":memory:"], f".load {names['extension']}\n{query.format(**names)};\n", COLLATE_TABLES=room)
+        found += [f"{query}: {said}{error}; wanted: {fault}"] * (fault not in error)
+    return found
+
+
+def check_c_library(report, room, program):
+    status, said, error = ended([os.path.join(TOP, "bin", "c-library")])
+    report.say("the library for C is built", [f"{said}{error}"[-2000:]] * (status != 0), 1)
+    if status:
+        return
+    table = os.path.join(room, "sv.table")
+    ran = run(program, ["compile", "--cldr", FOLDER, "-l", "sv", "-o", table])
+    report.say("a small table file is written", [str(ran)] * (ran.status != 0), 1)
+    if ran.status:
+        return
+    report.say("the shared library shows its calls alone", wrong_exports(), 1)
+    report.say("the demo prints the program's keys", wrong_demo(room, table, program), 1)
+    report.say("random calls under the sanitizers", wrong_calls(room, table), CALLS)
+    made = module()
+    report.say("Python's keys and signs are the program's", wrong_keys(made, program, table), TEXTS)
+    report.say("Python's errors", wrong_errors(made, table, room), 1)
+    report.say("Python's examples", wrong_doctests(room, os.environ["COLLATE_LIBRARY"]), 1)
+    if shutil.which("sqlite3") and os.path.isfile(os.path.join(BUILT, "collate_sqlite.so")):
+        report.say("SQLite's collations, keys and indexes", wrong_sqlite(room, table, program), len(REFUSED) + 2)
+    else:
+        print("there is no sqlite3 or no sqlite3ext.h: the extension of SQLite isn't tried")
