@@ -143,13 +143,23 @@ def wrong_runs(program):
 COMMANDS_SAID = re.compile(r"(?m)^Commands:\n((?: .*\n)+)")
 
 
+def helps(program):
+    """What the program prints as help, by its commands; `none` is the program without one."""
+    names = re.findall(r"(?m)^  (\w+)", COMMANDS_SAID.search(run(program, ["--help"]).output.decode())[1])
+    words = {"none": ["--help"], **{name: [name, "--help"] for name in names if name != "help"}}
+    return {name: run(program, it).output.decode() for name, it in words.items()}
+
+
+def options_of_help(program):
+    """The options that the program and each of its commands say they take, by the command."""
+    lines = {name: re.findall(r"(?m)^ {2,6}((?:-\w, )?--[\w-]+)", said) for name, said in helps(program).items()}
+    return {(name, it) for name, said in lines.items() for line in said for it in line.split(", ") if it != "--help"}
+
+
 def wide_help(program):
     """Lines of help that don't fit into 80 columns, with how many texts of help there are."""
-    names = re.findall(r"(?m)^  (\w+)", COMMANDS_SAID.search(run(program, ["--help"]).output.decode())[1])
-    texts = {"": ["--help"], **{name: [name, "--help"] for name in names if name != "help"}}
-    found = [f"collate-cldr {name} --help has {len(line)} columns: {line}" for name, words in texts.items()
-             for line in run(program, words).output.decode().splitlines() if len(line) > 80]
-    return found, len(texts)
+    said = helps(program)
+    return [f"help of {name} has {len(line)} columns: {line}" for name, it in said.items() for line in it.splitlines() if len(line) > 80], len(said)
 
 
 def wrong_files(program, room):
