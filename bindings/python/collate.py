@@ -1,6 +1,6 @@
 """Collation (UTS #10) by table files, over libcollate: `sorted(names, key=Collator("sv").key)`.
 
-`Collator("sv")` opens `FOLDER/sv.table`, FOLDER being COLLATE_TABLES of the environment, or else /usr/share/collate;
+`Collator("sv")` opens `FOLDER/sv.table`, FOLDER being COLLATE_TABLES of the environment, or else that of the installation;
 `Collator.open(path)` opens a file. `collate-cldr compile -l sv -o sv.table` writes one. The library is the one that
 COLLATE_LIBRARY of the environment names, or else libcollate.so.1 beside this file or of the system.
 
