@@ -11,7 +11,7 @@ import string
 import sys
 import xml.etree.ElementTree as ET
 
-HERE = pathlib.Path(__file__).resolve().parent.parent / "crates/icu_cldr_locales/src/resolution/compiled"
+HERE = pathlib.Path(__file__).resolve().parents[2] / "crates/icu_cldr_locales/src/resolution/compiled"
 LETTERS = string.ascii_lowercase
 # How many characters of a list stand on a line of the source.
 WIDTH = 100

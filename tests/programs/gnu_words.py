@@ -66,8 +66,8 @@ def reason_of_search(words, patterns):
     # GNU grep passes over an empty pattern if it prints matches, and where lines end with zero bytes takes a line feed for no end of a pattern.
     if "-o" in words and "-v" not in words and "" in patterns:
         return EMPTY
-    # GNU grep prints no count of no lines.
-    if "-m0" in words and "-c" in words:
+    # GNU grep prints no count if no line is wanted, as with -m0, or if those without an empty text are.
+    if "-c" in words and ("-m0" in words or "-v" in words and patterns == [""]):
         return NONE_COUNTED
     # GNU grep prints the matches of lines near those that hold none.
     if {"-o", "-v"} <= {*words} and any(it[:2] in ("-A", "-B", "-C") for it in words):
