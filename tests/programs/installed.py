@@ -21,7 +21,7 @@ from sweeps import ENVIRONMENT, TOP, built, run
 PROGRAMS = {"collate-cldr": "collate_cldr", "collate-index": "collate_index"}
 PREFIX, SUMS, LIST = "/opt/names", "share/doc/collate/SHA256SUMS", "share/doc/collate/INSTALLED"
 # Languages whose rules are refused.
-REFUSED = ["ta", "te"]
+REFUSED = ["ko", "ta", "te"]
 BASH, ZSH, FISH = "share/bash-completion/completions/{}", "share/zsh/site-functions/_{}", "share/fish/vendor_completions.d/{}.fish"
 WHEN = 1_000_000_000
 
@@ -231,7 +231,9 @@ def wrong_again(place):
     status, _, faults = place.run(umask=0o002, cldr=FOLDER)
     found = [f"a second run: status {status}, {faults}"] * (status != 1)
     found += [f"{it} isn't named: {faults}" for it in REFUSED if f"no table file of {it}: collate-cldr: " not in faults]
-    return found + [f"other files: {before ^ {*place.files()}}"] * ({*place.files()} != before - {"share/collate/LICENSE"})
+    # A type for searches may be taken of a language whose default type is refused.
+    files = {*place.files()} - {f"share/collate/{it}-u-co-search.table" for it in REFUSED}
+    return found + [f"other files: {before ^ files}"] * (files != before - {"share/collate/LICENSE"})
 
 
 def wrong_uninstall(place):
