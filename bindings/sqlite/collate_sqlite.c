@@ -194,18 +194,21 @@ static void load(sqlite3_context *call, int count, sqlite3_value **values) {
     sqlite3_result_text(call, name, -1, SQLITE_TRANSIENT);
 }
 
+/* The collation of a name, or NULL after the call has failed with the reason. */
+static named *asked(sqlite3_context *call, const char *name) {
+    char *fault = NULL;
+    named *with = name ? needed(sqlite3_context_db_handle(call), sqlite3_user_data(call), name, &fault) : NULL;
+    if (!with) fail(call, name ? fault : sqlite3_mprintf("no collation is named"));
+    return with;
+}
+
 typedef int32_t writer(collate_handle *, const uint8_t *, size_t, uint8_t *, size_t, size_t *);
 
 /* What a call writes of a text, as a BLOB; NULL of NULL, and if there is no bound. */
 static void write_by(sqlite3_context *call, sqlite3_value **values, writer *write) {
     if (sqlite3_value_type(values[0]) == SQLITE_NULL) return;
-    const char *name = (const char *)sqlite3_value_text(values[1]);
-    char *fault = NULL;
-    named *with = name ? needed(sqlite3_context_db_handle(call), sqlite3_user_data(call), name, &fault) : NULL;
-    if (!with) {
-        fail(call, name ? fault : sqlite3_mprintf("no collation is named"));
-        return;
-    }
+    named *with = asked(call, (const char *)sqlite3_value_text(values[1]));
+    if (!with) return;
     const uint8_t *text = collate_text(sqlite3_value_text(values[0]));
     size_t length = (size_t)sqlite3_value_bytes(values[0]), takes = 0;
     uint8_t small[512], *out = small;
@@ -236,17 +239,19 @@ static void high(sqlite3_context *call, int count, sqlite3_value **values) {
     write_by(call, values, collate_upper_bound_utf8);
 }
 
+/* Writes the fingerprint of a collation in hexadecimal digits; 0 after the call has failed with the reason. */
+static int digits(sqlite3_context *call, const char *name, char *has) {
+    named *with = asked(call, name);
+    for (size_t at = 0; with && at < COLLATE_FINGERPRINT; at++) sprintf(has + 2 * at, "%02x", with->fingerprint[at]);
+    return with != NULL;
+}
+
 /* collate_expect(name, fingerprint): 1 if the collation has this fingerprint, in hexadecimal digits; else an error. */
 static void expect(sqlite3_context *call, int count, sqlite3_value **values) {
     (void)count;
     const char *name = (const char *)sqlite3_value_text(values[0]), *wanted = (const char *)sqlite3_value_text(values[1]);
-    char *fault = NULL, has[2 * COLLATE_FINGERPRINT + 1];
-    named *with = name ? needed(sqlite3_context_db_handle(call), sqlite3_user_data(call), name, &fault) : NULL;
-    if (!with) {
-        fail(call, name ? fault : sqlite3_mprintf("no collation is named"));
-        return;
-    }
-    for (size_t at = 0; at < COLLATE_FINGERPRINT; at++) sprintf(has + 2 * at, "%02x", with->fingerprint[at]);
+    char has[2 * COLLATE_FINGERPRINT + 1];
+    if (!digits(call, name, has)) return;
     if (wanted && !sqlite3_stricmp(wanted, has)) {
         sqlite3_result_int(call, 1);
         return;
@@ -257,15 +262,8 @@ static void expect(sqlite3_context *call, int count, sqlite3_value **values) {
 /* collate_fingerprint(name): in hexadecimal digits. */
 static void fingerprint(sqlite3_context *call, int count, sqlite3_value **values) {
     (void)count;
-    const char *name = (const char *)sqlite3_value_text(values[0]);
-    char *fault = NULL, has[2 * COLLATE_FINGERPRINT + 1];
-    named *with = name ? needed(sqlite3_context_db_handle(call), sqlite3_user_data(call), name, &fault) : NULL;
-    if (!with) {
-        fail(call, name ? fault : sqlite3_mprintf("no collation is named"));
-        return;
-    }
-    for (size_t at = 0; at < COLLATE_FINGERPRINT; at++) sprintf(has + 2 * at, "%02x", with->fingerprint[at]);
-    sqlite3_result_text(call, has, -1, SQLITE_TRANSIENT);
+    char has[2 * COLLATE_FINGERPRINT + 1];
+    if (digits(call, (const char *)sqlite3_value_text(values[0]), has)) sqlite3_result_text(call, has, -1, SQLITE_TRANSIENT);
 }
 
 int sqlite3_collatesqlite_init(sqlite3 *db, char **error, const sqlite3_api_routines *api) {
