@@ -27,7 +27,8 @@ const ELEMENTS_IN_STEP: u32 = 256;
 /// How many weights are compared out of step, at most, and how many elements are passed over to the next weight.
 const ELEMENTS_AHEAD: usize = 64;
 
-/// So many common units, or fewer, are read and not passed over, and so many weights are read before the next try.
+/// So many common units, or fewer, are read and not passed over if more follows them, and so many weights are read
+/// before the next try.
 const FEW_UNITS: usize = 8;
 
 /// The rests of two texts from a place within their common beginning on, where both may be cut there, as these cursors
@@ -103,8 +104,8 @@ fn pass_beginning<L: EncodedText, R: EncodedText>(
     }
 }
 
-/// Passes over what two texts have in common from here on, if that is wanted and more than some units, up to a place
-/// where both may be cut. False where there is none: another try isn't worth it.
+/// Passes over what two texts have in common from here on, if that is wanted and is more than some units or all that is
+/// left of both, up to a place where both may be cut. False where there is none: another try isn't worth it.
 #[inline(always)]
 fn pass_common<L: CommonUnits<R>, R: EncodedText>(
     wanted: bool,
@@ -126,7 +127,12 @@ fn pass_common<L: CommonUnits<R>, R: EncodedText>(
         return true;
     };
     let common = one.common_units(other);
-    common <= few || pass_beginning(left, right, one, other, common)
+    let is_all = common == one.unit_count() && common == other.unit_count();
+    let is_worth = common > few || (is_all && common > 0);
+    if !is_worth {
+        return true;
+    }
+    pass_beginning(left, right, one, other, common)
 }
 
 /// The next element of a text, as it is where none is variable: `Some(None)` after the last one. `None` says nothing.

@@ -207,6 +207,7 @@ impl<'d> Level<'d> {
     }
 
     /// The order that an element decides where the other list has ended: it does if the level has a weight for it.
+    #[inline(always)]
     fn decide_at_end(self, element: Handled, order: Ordering) -> Option<Ordering>
         ensures { IfSome result (λ o. (o ≡ order) × HasWeight self.entry element) }
     {
@@ -217,6 +218,7 @@ impl<'d> Level<'d> {
     }
 
     /// The order that two elements decide: they do if the level has weights for both that differ.
+    #[inline(always)]
     fn decide_by_weights(self, one: Handled, other: Handled) -> Option<Ordering>
         ensures { IfSome result (λ o. DecidesOn self.entry (Some one) (Some other) o) }
     {

@@ -11,5 +11,5 @@ returns-in_default-clause-passes g c = nothing_passed g.L.EncodedText.text g.R.E
 pub returns-in_default-unread-clause-passes : goal.returns-in_default-unread-clause-passes
 returns-in_default-unread-clause-passes g c = nothing_passed g.L.EncodedText.text g.R.EncodedText.text c.args.left.now c.args.right.now
 
-pub returns-then-common-few-clause-passes : goal.returns-then-common-few-clause-passes
-returns-then-common-few-clause-passes g c = nothing_passed g.L.EncodedText.text g.R.EncodedText.text c.args.left.now c.args.right.now
+pub returns-then-not-is_worth-clause-passes : goal.returns-then-not-is_worth-clause-passes
+returns-then-not-is_worth-clause-passes g c = nothing_passed g.L.EncodedText.text g.R.EncodedText.text c.args.left.now c.args.right.now
