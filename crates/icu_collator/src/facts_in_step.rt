@@ -27,9 +27,12 @@ const ELEMENTS_IN_STEP: u32 = 256;
 /// How many weights are compared out of step, at most, and how many elements are passed over to the next weight.
 const ELEMENTS_AHEAD: usize = 64;
 
-/// So many common units, or fewer, are read and not passed over if more follows them, and so many weights are read
-/// before the next try.
+/// At most this many common units are read and not passed over, if more follows them. As many weights are read before the
+/// next try.
 const FEW_UNITS: usize = 8;
+
+/// At most this many common units are read and not passed over, if nothing follows them.
+const LITTLE_UNITS: usize = 2;
 
 /// The rests of two texts from a place within their common beginning on, where both may be cut there, as these cursors
 /// read.
@@ -128,7 +131,7 @@ fn pass_common<L: CommonUnits<R>, R: EncodedText>(
     };
     let common = one.common_units(other);
     let is_all = common == one.unit_count() && common == other.unit_count();
-    let is_worth = common > few || (is_all && common > 0);
+    let is_worth = common > few || (is_all && common > LITTLE_UNITS);
     if !is_worth {
         return true;
     }
