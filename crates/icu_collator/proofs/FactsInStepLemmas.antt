@@ -226,7 +226,7 @@ then_nothing Equal p e = e
 then_nothing Greater p e = refl
 
 module _ (collation : Collation) (none : last_variable_by collation ≡ 0) where
-  plain_elements : (t : List ℕ) → handled_by collation (nfd t) ≡ map stayed (elements_of (reading_by collation) (nfd t))
+  pub plain_elements : (t : List ℕ) → handled_by collation (nfd t) ≡ map stayed (elements_of (reading_by collation) (nfd t))
   plain_elements t = all_stay collation.settings.alternate_handling (last_variable_by collation) (elements_of (reading_by collation) (nfd t)) none
 
   -- what two cursors give on a level is what the texts have

@@ -9,5 +9,6 @@ mod FirstPrimaryLemmas
 mod TieLemmas
 pub mod OtherSettings
 pub mod FactsInStepLemmas
+pub mod BackwardInStepLemmas
 mod TotalOrder
 pub mod NameOrderLemmas

@@ -5,6 +5,7 @@ pub mod ElementOrders
 pub mod FirstPrimaries
 pub mod InStep
 pub mod FactsInStep
+pub mod BackwardInStep
 pub mod KeyElements
 pub mod KeyCharacters
 pub mod ReadElements

@@ -4,7 +4,7 @@ ghost use Rattle.std.specs.Prelude.{◌≡◌, ℕ, List, IfOk, IfSome, IsTrue, 
 ghost use Rattle.std.specs.declared.cmp.Ordering.TheVariants.{Equal};
 ghost use Rattle.icu_order_levels.specs.ListOrder.{list_order, segments_order};
 ghost use Rattle.icu_order_levels.specs.Keys.{secondaries_order, cases_order, tertiaries_order, quaternaries_order};
-ghost use Rattle.icu_order_texts.specs.weighting.Forms.{form_by};
+ghost use Rattle.icu_order_texts.specs.weighting.Forms.{form_by, last_variable_by};
 ghost use Rattle.icu_element_reading.specs.TextElements.{elements_of};
 ghost use Rattle.icu_order_texts.specs.TextOrder.{handled_by, lists_by, reading_by};
 ghost use Rattle.icu_collator.specs.HandledRests.{handled_rest};
@@ -12,16 +12,18 @@ ghost use Rattle.icu_collator.specs.inner.ReadElements.{HasRead, held};
 ghost use Rattle.icu_collator.specs.inner.LevelWeights.{level_weights};
 ghost use Rattle.unicode_normalization.specs.Forms.{nfd};
 
+use crate::backward_in_step::order_backward;
 use crate::collator::CollatorBorrowed;
 use crate::forward_levels::Level;
 use crate::handled::HandledElements;
 use crate::in_step::{compare_from_difference, compare_in_step};
 use crate::room::Room;
 use crate::segments::{TwoReaders, compare_segments};
-use icu_element_cursor::{ElementCursor, LongPiece};
+use icu_element_cursor::{ElementCursor, FactsCursor, LongPiece};
 use icu_order_levels::forms::{SecondaryForm, TertiaryForm};
 use icu_order_texts::weighting::HandledSource;
 use icu_text_decomposition::CountedText;
+use icu_text_encodings::EncodedText;
 use std::cmp::Ordering;
 
 /// Two texts, with their elements as the collation handles variable ones, if these were read.
@@ -35,6 +37,7 @@ struct TwoTexts<'r, L, R> {
 impl<'a> CollatorBorrowed<'a> {
     ghost use Rattle.icu_collator.specs.Collators.{collation_borrowed};
     ghost use Rattle.icu_collator.specs.inner.ElementOrders.{elements_order, leading_order, later_levels_order};
+    ghost use Rattle.icu_collator.specs.inner.BackwardInStep.{IsBackward};
     ghost use Rattle.icu_collator.specs.inner.InStep.{order_on, IsThreeLevel};
     ghost use Rattle.icu_collator.specs.inner.ElementOrders.{ReadsElementsAlone};
 
@@ -268,14 +271,59 @@ impl<'a> CollatorBorrowed<'a> {
         HandledElements::new(room.as_slice(), handling, self.last_variable())
     }
 
-    /// The order of two texts on the later levels, those between the primary and the identical one. The elements of
-    /// both are read once, if there is room for them.
+    /// The form of the tertiary level, where that and the secondary one, backward, are all between the primary and the
+    /// identical one, and no element is variable.
+    fn backward_form(&self) -> Option<TertiaryForm>
+        ensures form { IfSome result
+            (λ form. IsBackward (form_by (collation_borrowed self.now)) form) }
+        ensures plain { IfSome result (λ _. last_variable_by (collation_borrowed self.now) ≡ 0) }
+    {
+        if self.last_variable() != 0 {
+            return None;
+        }
+        let form = self.key_form();
+        match (form.secondary, form.cases, form.tertiary, form.quaternary) {
+            (Some(SecondaryForm::Backward), None, Some(tertiary), None) => Some(tertiary),
+            _ => None,
+        }
+    }
+
+    /// The order of two texts on the later levels by what is kept of their characters, where secondary weights are read
+    /// backward. `None` says nothing.
+    fn compare_backward_in_step<L: EncodedText, R: EncodedText>(
+        &self,
+        left: L,
+        right: R,
+    ) -> Option<Ordering>
+        ensures { let collation = collation_borrowed self.now in IfSome result
+            (λ o. o ≡ later_levels_order collation (nfd (L.text left)) (nfd (R.text right))) }
+    {
+        let form = self.backward_form()?;
+        let tables = self.cursor_tables();
+        let mut one = FactsCursor::new(&tables, left);
+        let mut other = FactsCursor::new(&tables, right);
+        order_backward(form, &mut one, &mut other)
+    }
+
+    /// The order of two texts on the later levels, those between the primary and the identical one.
     #[inline(never)]
     pub(crate) fn compare_later_levels<L: CountedText, R: CountedText>(
         &self,
         left: L,
         right: R,
     ) -> Ordering
+        ensures { result ≡ later_levels_order (collation_borrowed self.now)
+            (nfd (L.text left)) (nfd (R.text right)) }
+    {
+        match self.compare_backward_in_step(left, right) {
+            Some(order) => order,
+            None => self.compare_read_levels(left, right),
+        }
+    }
+
+    /// The order of two texts on the later levels. The elements of both are read once, if there is room for them.
+    #[inline(never)]
+    fn compare_read_levels<L: CountedText, R: CountedText>(&self, left: L, right: R) -> Ordering
         ensures { result ≡ later_levels_order (collation_borrowed self.now)
             (nfd (L.text left)) (nfd (R.text right)) }
     {

@@ -7,6 +7,7 @@
 //! `comparison` and `laws`, so that a caller lists this crate alone.
 #![tactic(auto)]
 
+mod backward_in_step;
 pub mod collator;
 pub mod compare;
 mod compare_calls;
