@@ -47,15 +47,23 @@ use icu_text_encodings::{Characters, EncodedText};
 use std::alloc::{AllocError, Global};
 
 /// Compares texts by a language's rules (UTS #10). Owns copies of its tables, which were checked
-/// together, and its settings.
+/// together, and its settings, with what each comparison asks of them.
 #[derive(Debug, Drop)]
 pub struct Collator {
     tables: CheckedTables,
     kept_facts: KeptFacts,
     settings: CollatorOptionsBitField,
+    form: KeyForm,
+    last_variable: u32,
+    /// No lead of a primary weight below it is compressible.
+    first_asked: u8,
     ghost backward: { (values_of settings).backward_second_level
         ≡ is_backward (checked_tables tables).bits },
     ghost known: { AreFacts (reading_by (collation_of tables settings)) kept_facts },
+    ghost levels: { form ≡ form_by (collation_of tables settings) },
+    ghost variable: { last_variable ≡ last_variable_by (collation_of tables settings) },
+    ghost asked: { (lead : ℕ) → lead < first_asked
+        → is_compressible (checked_tables tables).special lead ≡ false },
 }
 
 impl Collator {
@@ -146,10 +154,16 @@ impl Collator {
         let settings = merged_options(options, preferences, tables.metadata().settings());
         let places = boundaries(&tables, settings);
         let kept_facts = refused_as_root(KeptFacts::new(alloc, &tables, places))?;
+        let form = key_form(&tables, settings);
+        let last_variable = last_variable(&tables, settings);
+        let first_asked = first_asked(&tables);
         Ok(Collator {
             tables,
             kept_facts,
             settings,
+            form,
+            last_variable,
+            first_asked,
         })
     }
 
@@ -177,10 +191,15 @@ impl Collator {
         if settings.numeric() != self.settings.numeric() {
             return Collator::from_checked_tables(alloc, self.tables, preferences, options);
         }
+        let form = key_form(&self.tables, settings);
+        let last_variable = last_variable(&self.tables, settings);
         Ok(Collator {
             tables: self.tables,
             kept_facts: self.kept_facts,
             settings,
+            form,
+            last_variable,
+            first_asked: self.first_asked,
         })
     }
 
@@ -198,8 +217,7 @@ impl Collator {
         self.settings
     }
 
-    /// The same collator, borrowed: copies nothing of the tables. What each comparison asks of the settings is worked
-    /// out here, so that one borrowed collator serves for many comparisons.
+    /// The same collator, borrowed: copies nothing of the tables, and works nothing out.
     pub fn as_borrowed(&self) -> CollatorBorrowed<'_>
         ensures { collation_borrowed result ≡ collation_kept self.now }
     {
@@ -207,9 +225,9 @@ impl Collator {
             tables: &self.tables,
             kept_facts: &self.kept_facts,
             settings: self.settings,
-            form: key_form(&self.tables, self.settings),
-            last_variable: last_variable(&self.tables, self.settings),
-            first_asked: first_asked(&self.tables),
+            form: self.form,
+            last_variable: self.last_variable,
+            first_asked: self.first_asked,
         }
     }
 }

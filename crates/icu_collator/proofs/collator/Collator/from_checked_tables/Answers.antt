@@ -15,4 +15,7 @@ invariant_of-result c =
     record {
       backward = search rules;
       known = subst (λ (r : Reading). AreFacts r c.in_ok-kept_facts.kept_facts) c.boundaries-places.ensures kept_facts;
+      levels = c.key_form-form.ensures;
+      variable = c.last_variable-last_variable.ensures;
+      asked = c.first_asked-first_asked.ensures;
     }
