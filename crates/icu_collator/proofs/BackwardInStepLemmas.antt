@@ -100,7 +100,7 @@ unfolding parted order_on level_weights
 nothing_left form second third = ap (ordering_then second) (then_equal third)
 
 module _ {T U : Type 0} (text : T → List ℕ) (other_text : U → List ℕ) (form : TertiaryForm) (left : FactsCursor T) (right : FactsCursor U) where
-  -- if what is left is as long, the whole is, and it has the order of what is left after elements that have these orders
+  -- if what is left is as long, so is the whole, which has the order of what is left after elements of these orders
   abbrev pub LeavesBackward : Ordering → Ordering → FactsCursor T → FactsCursor U → Type 0
   LeavesBackward second third one other =
       (b d : List ℕ) → (b' : List ℕ) × (d' : List ℕ)

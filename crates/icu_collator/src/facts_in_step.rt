@@ -27,8 +27,8 @@ const ELEMENTS_IN_STEP: u32 = 256;
 /// How many weights are compared out of step, at most, and how many elements are passed over to the next weight.
 const ELEMENTS_AHEAD: usize = 64;
 
-/// At most this many common units are read and not passed over, if more follows them. As many weights are read before the
-/// next try.
+/// At most this many common units are read and not passed over, if more follows them. As many weights are read before
+/// the next try.
 const FEW_UNITS: usize = 8;
 
 /// At most this many common units are read and not passed over, if nothing follows them.

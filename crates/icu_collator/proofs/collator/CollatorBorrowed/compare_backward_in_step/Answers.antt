@@ -8,12 +8,10 @@ use Rattle.icu_collator.proofs.collator.CollatorBorrowed.compare_backward_in_ste
 
 pub returns : goal.returns
 returns g c =
-    let collation = collation_borrowed c.args.self.now in
-    let left = g.L.EncodedText.text in
-    let right = g.R.EncodedText.text in
-    let t = left c.args.left in
-    let u = right c.args.right in
-    backward_found collation c.in_ok-form.ensures.plain left right c.new-one.result c.new-other.result t u c.in_ok-form.form c.order_backward.result
+    let t = g.L.EncodedText.text c.args.left in
+    let u = g.R.EncodedText.text c.args.right in
+    backward_found (collation_borrowed c.args.self.now) c.in_ok-form.ensures.plain g.L.EncodedText.text g.R.EncodedText.text
+    c.new-one.result c.new-other.result t u c.in_ok-form.form c.order_backward.result
     (c.new-one.ensures.gives [] ∙ ap (λ (r : Reading). elements_after r [] (nfd t)) c.cursor_tables-tables.ensures)
     (c.new-other.ensures.gives [] ∙ ap (λ (r : Reading). elements_after r [] (nfd u)) c.cursor_tables-tables.ensures)
     c.in_ok-form.ensures.form (c.order_backward.ensures [] [])
