@@ -1,11 +1,13 @@
-"""The library for C, and what SQLite and Python make of it: each over a small table file, beside the program `collate-cldr`.
+"""The library for C, and what SQLite, PostgreSQL and Python make of it: each over a small table file, beside the program
+`collate-cldr`.
 
 What is linked is the archive that bin/c-library makes, over the crates that `rt ci` proved. If SQLite or what its extension is
-compiled with is missing, this says so."""
+compiled with is missing, this says so. PostgreSQL's extension is compiled against what postgres_stubs.h has of the server."""
 import ctypes
 import importlib.util
 import os
 import random
+import re
 import shutil
 import subprocess
 import sys
@@ -210,6 +212,67 @@ def wrong_sqlite(room, table, program):
     return found
 
 
+# ---- PostgreSQL
+
+
+SHIM = os.path.join(BINDINGS, "postgresql", "collate_postgresql.c")
+OTHER = "0" * 64
+# What is refused of PostgreSQL, by questions one after the other, and what is said of it.
+REFUSED_CALLS = [
+    ("key x61 sv", "\"sv\" isn't registered in this database | Run SELECT collate_use('sv') once"),
+    (f"register sv {OTHER}\nkey x61 sv", f"Registered in collate_names is {OTHER}, and "),
+    ("low x61 sv", "collate_accept('sv')"),
+    ("compare x61 x62 ../sv", "no name of a collation"),
+    ("fingerprint absent", "absent.table"),
+    ("fingerprint bad", "bad.table: "),
+    ("replica\nhigh x61 sv", "This server is a replica"),
+    ("encoding 8\nfingerprint sv", "needs a database in UTF8"),
+]
+
+
+def stubs(room):
+    """A folder of the headers that the extension names: all but the first are empty."""
+    folder = os.path.join(room, "stubs")
+    with open(SHIM, encoding="utf-8") as it:
+        names = re.findall(r'(?m)^#include "([\w/]+\.h)"', it.read())
+    for name in names:
+        path = os.path.join(folder, name)
+        os.makedirs(os.path.dirname(path), exist_ok=True)
+        with open(path, "w", encoding="utf-8") as it:
+            it.write(f'#include "{TOP}/tests/programs/postgres_stubs.h"\n' if name == "postgres.h" else "")
+    return folder
+
+
+def postgres_answers(path, room, questions):
+    status, said, error = ended([path], "".join(f"{it}\n" for it in questions), COLLATE_TABLES=room, ASAN_OPTIONS="detect_leaks=0")
+    return said.splitlines() if (status, error) == (0, "") else [f"status {status}: {error[-2000:]}"]
+
+
+def wrong_postgres(room, table, program):
+    path = os.path.join(room, "postgres_calls")
+    options = ["-std=gnu11", "-D_GNU_SOURCE", *STRICT[1:], *SANITIZED, "-I", stubs(room), f'-DSOURCE="{SHIM}"']
+    found = compiled(path, "tests/programs/postgres_calls.c", *options, "libcollate.a")
+    if found:
+        return found
+    digits = postgres_answers(path, room, ["fingerprint sv"])[0]
+    given = [it for it in texts() if it]
+    keys = keys_of_program(program, table, given)
+    said = postgres_answers(path, room, [f"register sv {digits}", *(f"key x{it.hex()} sv" for it in given)])
+    found += [f"{text!r}: {one}" for text, key, one in zip(given, keys, said[1:]) if one != key.hex()]
+    asked = [f"register sv {digits}", "compare x61 x41 sv", "compare x x sv", "key x sv", "high x sv", "low x61 sv", "key x41 sv", "high x61 sv"]
+    said = postgres_answers(path, room, asked)
+    if said[1:3] + said[4:5] != ["-1", "0", "NULL"] or not said[5] <= said[6] < said[7]:
+        found.append(f"bounds: {said}")
+    # Other tables are registered, and the right ones again.
+    said = postgres_answers(path, room, [f"register sv {it}\nkey x61 sv" for it in (digits, OTHER, digits)])
+    if len(said) != 6 or said[1] != said[5] or not said[3].startswith("ERROR"):
+        found.append(f"registered anew: {said}")
+    for at, (_, fault) in enumerate(REFUSED_CALLS, 1):
+        said = postgres_answers(path, room, [it for it, _ in REFUSED_CALLS[:at]])
+        found += [f"{said[-1]}; wanted: {fault}"] * (fault not in said[-1])
+    return found
+
+
 def check_c_library(report, room, program):
     status, said, error = ended([os.path.join(TOP, "bin", "c-library")])
     report.say("the library for C is built", [f"{said}{error}"[-2000:]] * (status != 0), 1)
@@ -227,6 +290,7 @@ def check_c_library(report, room, program):
     report.say("Python's keys and signs are the program's", wrong_keys(made, program, table), TEXTS)
     report.say("Python's errors", wrong_errors(made, table, room), 1)
     report.say("Python's examples", wrong_doctests(room, os.environ["COLLATE_LIBRARY"]), 1)
+    report.say("PostgreSQL's extension without a server", wrong_postgres(room, table, program), TEXTS)
     if shutil.which("sqlite3") and os.path.isfile(os.path.join(BUILT, "collate_sqlite.so")):
         report.say("SQLite's collations, keys and indexes", wrong_sqlite(room, table, program), len(REFUSED) + 2)
     else:
