@@ -3,14 +3,16 @@
 
 What is linked is the archive that bin/c-library makes, over the crates that `rt ci` proved. If SQLite or what its extension is
 compiled with is missing, this says so. PostgreSQL's extension is compiled against what postgres_stubs.h has of the server."""
+import concurrent.futures
 import ctypes
-import importlib.util
+import importlib
 import os
 import random
 import re
 import shutil
 import subprocess
 import sys
+import zipfile
 
 from cldr_locales import FOLDER
 from random_texts import DAMAGED_UTF8
@@ -51,11 +53,8 @@ def keys_of_program(program, table, given, *options):
 def module():
     """The module of Python, over the built library."""
     os.environ["COLLATE_LIBRARY"] = os.path.join(BUILT, "libcollate.so.1")
-    spec = importlib.util.spec_from_file_location("collate", os.path.join(BINDINGS, "python", "collate.py"))
-    made = importlib.util.module_from_spec(spec)
-    sys.modules["collate"] = made
-    spec.loader.exec_module(made)
-    return made
+    sys.path.insert(0, os.path.join(BINDINGS, "python"))
+    return importlib.import_module("collate")
 
 
 # ---- Python
@@ -124,10 +123,52 @@ def wrong_errors(made, table, room):
     return found
 
 
-def wrong_doctests(room, library):
-    words = [sys.executable, "-m", "doctest", os.path.join(BINDINGS, "python", "collate.py")]
-    status, said, error = ended(words, COLLATE_TABLES=room, COLLATE_LIBRARY=library)
-    return [] if status == 0 else [said + error]
+def wrong_surrogates(made, table):
+    """Texts of two kinds, and surrogates, which count as U+FFFD each."""
+    found, collator = [], made.Collator.open(table)
+    for text, other in (("\ud800", "\ufffd"), ("a\ud83d\ude00b", "a\ufffd\ufffdb"), ("ä", "ä".encode()), ("\ufffd", b"\xc3"), ("", b"")):
+        keys = {collator.key(text), collator.key(other), *collator.keys([text, other])}
+        found += [f"{text!a} and {other!a}: other keys"] * (len(keys) != 1 or collator.compare(text, other) != 0)
+    return found
+
+
+def wrong_sorts(made, table):
+    """Lists of several batches, the longest key first, sorted by keys and by comparisons, and by several threads."""
+    collator, draw = made.Collator.open(table), random.Random(85)
+    words = ["b" * 50_000, *("".join(draw.choices(LETTERS, k=draw.randrange(9))) for _ in range(3 * made.BATCH))]
+    wanted = sorted(words, key=collator.key)
+    found = ["sorted by keys"] * (collator.sorted(words) != wanted)
+    found += ["sorted backwards"] * (collator.sorted(words, reverse=True) != sorted(words, key=collator.key, reverse=True))
+    found += ["sorted by comparisons"] * (sorted(words[1:500], key=collator.cmp_key) != sorted(words[1:500], key=collator.key))
+    items = [*enumerate(words)]
+    found += ["items by their texts"] * (collator.sorted(items, key=lambda it: it[1]) != sorted(items, key=lambda it: collator.key(it[1])))
+    with concurrent.futures.ThreadPoolExecutor(4) as pool:
+        keys, first = collator.keys(words), collator.share(strength=1)
+        ran = pool.map(lambda it: it.keys(words) == keys, [collator, collator, collator.share(), collator.share()])
+        found += ["keys by threads"] * (not all(ran))
+    found += ["shared with settings"] * (first.compare("a", "A") != 0 or collator.compare("a", "A") == 0)
+    return found
+
+
+def wrong_wheel(room, table):
+    """Two wheels are alike, and what is in one runs the module's examples, by its own library and tables."""
+    tables, made = os.path.join(room, "tables"), []
+    os.makedirs(tables)
+    shutil.copy(table, os.path.join(tables, "sv.table"))
+    for to in ("one", "two"):
+        words = [os.path.join(BINDINGS, "python", "wheel.py"), os.path.join(BUILT, "libcollate.so.1"), tables, room]
+        status, said, error = ended([sys.executable, *words])
+        if status:
+            return [said + error]
+        made.append(shutil.move(said.strip(), os.path.join(room, f"{to}.whl")))
+    with open(made[0], "rb") as one, open(made[1], "rb") as two:
+        found = ["two wheels differ"] * (one.read() != two.read())
+    whole = os.path.join(room, "site")
+    with zipfile.ZipFile(made[0]) as it:
+        it.extractall(whole)
+    script = "import collate, doctest, sys; print(collate.__file__); sys.exit(doctest.testmod(collate)[0])"
+    status, said, error = ended([sys.executable, "-c", script], PYTHONPATH=whole, COLLATE_LIBRARY="", COLLATE_TABLES="")
+    return found + [said + error] * (status != 0 or not said.startswith(whole))
 
 
 # ---- C
@@ -289,7 +330,9 @@ def check_c_library(report, room, program):
     made = module()
     report.say("Python's keys and signs are the program's", wrong_keys(made, program, table), TEXTS)
     report.say("Python's errors", wrong_errors(made, table, room), 1)
-    report.say("Python's examples", wrong_doctests(room, os.environ["COLLATE_LIBRARY"]), 1)
+    report.say("Python's texts with surrogates, and bytes", wrong_surrogates(made, table), 1)
+    report.say("Python's sorts, and threads", wrong_sorts(made, table), 1)
+    report.say("Python's examples, in a wheel", wrong_wheel(room, table), 1)
     report.say("PostgreSQL's extension without a server", wrong_postgres(room, table, program), TEXTS)
     if shutil.which("sqlite3") and os.path.isfile(os.path.join(BUILT, "collate_sqlite.so")):
         report.say("SQLite's collations, keys and indexes", wrong_sqlite(room, table, program), len(REFUSED) + 2)
