@@ -53,7 +53,7 @@ def keys_of_program(program, table, given, *options):
 def module():
     """The module of Python, over the built library."""
     os.environ["COLLATE_LIBRARY"] = os.path.join(BUILT, "libcollate.so.1")
-    sys.path.insert(0, os.path.join(BINDINGS, "python"))
+    sys.path[:0] = [os.path.join(BINDINGS, it) for it in ("python", "dask")]
     return importlib.import_module("collate")
 
 
@@ -169,6 +169,22 @@ def wrong_wheel(room, table):
     script = "import collate, doctest, sys; print(collate.__file__); sys.exit(doctest.testmod(collate)[0])"
     status, said, error = ended([sys.executable, "-c", script], PYTHONPATH=whole, COLLATE_LIBRARY="", COLLATE_TABLES="")
     return found + [said + error] * (status != 0 or not said.startswith(whole))
+
+
+def wrong_shuffle(room, program, table):
+    """Lines that are sorted by runs and merges of files are those that the program sorts."""
+    shuffle, found = importlib.import_module("collate_dask"), []
+    given = [*texts()]
+    for mark, last in ((b"", b"\n"), (shuffle.MARK, b"")):
+        path, to = os.path.join(room, "shuffled"), os.path.join(room, "parts")
+        with open(path, "wb") as it:
+            it.write(mark + b"\n".join(given) + last)
+        wanted = run(program, ["sort", "--tables", table, path], b"").output
+        for size in (700, 5000, 1 << 20):
+            made = b"".join(shuffle.joined(shuffle.sort_here([path], to, table, size=size), path))
+            found += [f"pieces of {size} bytes: other lines"] * (made != wanted or not made)
+    other = shuffle.Order.of(table)._replace(fingerprint=bytes(32))
+    return found + raised(shuffle.OtherTables, shuffle.sample, other, shuffle.Piece(path, 0, 1))
 
 
 # ---- C
@@ -333,7 +349,11 @@ def check_c_library(report, room, program):
     report.say("Python's texts with surrogates, and bytes", wrong_surrogates(made, table), 1)
     report.say("Python's sorts, and threads", wrong_sorts(made, table), 1)
     report.say("Python's examples, in a wheel", wrong_wheel(room, table), 1)
+<<<<<<< HEAD
     report.say("PostgreSQL's extension without a server", wrong_postgres(room, table, program), TEXTS)
+=======
+    report.say("lines sorted by runs and merges", wrong_shuffle(room, program, table), TEXTS)
+>>>>>>> e4447809 (bindings: lines sorted over workers of Dask, by keys)
     if shutil.which("sqlite3") and os.path.isfile(os.path.join(BUILT, "collate_sqlite.so")):
         report.say("SQLite's collations, keys and indexes", wrong_sqlite(room, table, program), len(REFUSED) + 2)
     else:
