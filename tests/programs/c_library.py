@@ -349,11 +349,8 @@ def check_c_library(report, room, program):
     report.say("Python's texts with surrogates, and bytes", wrong_surrogates(made, table), 1)
     report.say("Python's sorts, and threads", wrong_sorts(made, table), 1)
     report.say("Python's examples, in a wheel", wrong_wheel(room, table), 1)
-<<<<<<< HEAD
     report.say("PostgreSQL's extension without a server", wrong_postgres(room, table, program), TEXTS)
-=======
     report.say("lines sorted by runs and merges", wrong_shuffle(room, program, table), TEXTS)
->>>>>>> e4447809 (bindings: lines sorted over workers of Dask, by keys)
     if shutil.which("sqlite3") and os.path.isfile(os.path.join(BUILT, "collate_sqlite.so")):
         report.say("SQLite's collations, keys and indexes", wrong_sqlite(room, table, program), len(REFUSED) + 2)
     else:
