@@ -58,7 +58,9 @@ int32_t collate_open(collate_handle *handle, const uint8_t *file, size_t file_le
 void collate_close(collate_handle *handle);
 
 /* Opens `other` over the tables and settings of `handle`, which both share: nothing is copied or checked again. What
-   `other` had is dropped. What they share is only read, but for a count of its owners, which is atomic. */
+   `other` had is dropped. What they share is only read, but for a count of its owners, which is atomic. Proved is that both
+   have the same tables and settings, and that a handle may go to another thread between two calls. That threads may count
+   owners at the same time is a statement of the toolchain's, on `Arc`. */
 int32_t collate_share(collate_handle *handle, collate_handle *other);
 
 /* The order of two texts: -1, 0 or 1; COLLATE_NO_ORDER of a closed handle. Damaged UTF-8 and unpaired surrogates count
@@ -92,6 +94,20 @@ int32_t collate_lower_bound_utf8(collate_handle *handle, const uint8_t *text, si
                                  size_t *needed);
 int32_t collate_upper_bound_utf8(collate_handle *handle, const uint8_t *text, size_t length, uint8_t *out, size_t room,
                                  size_t *needed);
+
+/* A match: the bytes of a text from `start` on, before `end`. */
+typedef struct collate_match {
+    size_t start, end;
+} collate_match;
+
+/* Finds the parts of a text that are equal to a pattern by the handle's tables and settings, as UTS #10 says ("Searching
+   and Matching"). Of those that hold no other one, these are the first, and then each time the next that begins where
+   the last one ends or after it. No part begins or ends inside a contraction, or between a letter and its marks. A
+   pattern that is equal to the empty text is found, empty, at each place. Writes them from left to right to `out`, as
+   many as its room has, and how many there are to `*needed` (COLLATE_DONE, COLLATE_TOO_SMALL). Allocates in proportion
+   to the text (COLLATE_NO_MEMORY). */
+int32_t collate_find_all_utf8(collate_handle *handle, const uint8_t *pattern, size_t pattern_length, const uint8_t *text,
+                              size_t length, collate_match *out, size_t room, size_t *needed);
 
 /* Writes COLLATE_FINGERPRINT bytes that determine the keys: tables, settings and versions. Store them beside keys, and
    make the keys anew if they differ. */
