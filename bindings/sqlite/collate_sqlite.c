@@ -1,4 +1,4 @@
-/* An extension of SQLite: collations by name, and sort keys.
+/* An extension of SQLite: collations by name, sort keys, and search.
 
      .load ./collate_sqlite
      SELECT name FROM people ORDER BY name COLLATE sv;         -- by FOLDER/sv.table
@@ -6,6 +6,7 @@
      CREATE INDEX by_key ON people(collate_key(name, 'sv'));
      SELECT name FROM people WHERE collate_key(name, 'sv') >= collate_low('mü', 'sv')
        AND collate_key(name, 'sv') < collate_high('mü', 'sv');
+     SELECT name FROM people WHERE collate_find(name, 'muller', 'sv1');
 
    A collation that isn't there yet is looked for as FOLDER/NAME.table, FOLDER being COLLATE_TABLES of the environment,
    or else what this file was compiled with. What a table file says is checked each time one is opened.
@@ -239,6 +240,26 @@ static void high(sqlite3_context *call, int count, sqlite3_value **values) {
     write_by(call, values, collate_upper_bound_utf8);
 }
 
+/* collate_find(text, pattern, name): where the first match begins, in characters from 1 on, as instr has it; 0 if there is none. */
+static void place(sqlite3_context *call, int count, sqlite3_value **values) {
+    (void)count;
+    if (sqlite3_value_type(values[0]) == SQLITE_NULL || sqlite3_value_type(values[1]) == SQLITE_NULL) return;
+    named *with = asked(call, (const char *)sqlite3_value_text(values[2]));
+    if (!with) return;
+    const uint8_t *text = collate_text(sqlite3_value_text(values[0])), *pattern = collate_text(sqlite3_value_text(values[1]));
+    size_t length = (size_t)sqlite3_value_bytes(values[0]), pattern_length = (size_t)sqlite3_value_bytes(values[1]), matches = 0;
+    /* One that doesn't fit all has the first. */
+    collate_match first;
+    int32_t status = collate_find_all_utf8(&with->handle, pattern, pattern_length, text, length, &first, 1, &matches);
+    if (status != COLLATE_DONE && status != COLLATE_TOO_SMALL) {
+        sqlite3_result_error_nomem(call);
+        return;
+    }
+    sqlite3_int64 found = matches > 0;
+    for (size_t at = 0; matches && at < first.start; at++) found += (text[at] & 0xC0) != 0x80;
+    sqlite3_result_int64(call, found);
+}
+
 /* Writes the fingerprint of a collation in hexadecimal digits; 0 after the call has failed with the reason. */
 static int digits(sqlite3_context *call, const char *name, char *has) {
     named *with = asked(call, name);
@@ -291,6 +312,7 @@ int sqlite3_collatesqlite_init(sqlite3 *db, char **error, const sqlite3_api_rout
         { "collate_key", 2, keys, key },
         { "collate_low", 2, keys, low },
         { "collate_high", 2, keys, high },
+        { "collate_find", 3, keys, place },
     };
     int status = SQLITE_OK;
     for (size_t at = 0; status == SQLITE_OK && at < sizeof functions / sizeof *functions; at++) {

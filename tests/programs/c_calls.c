@@ -148,6 +148,42 @@ static void batch(collate_handle *handle, int is_open, long at) {
     free(all);
 }
 
+/* Matches are apart, from left to right, and equal to the pattern; with less room they are the first of them. */
+static void search(collate_handle *handle, int is_open, long at) {
+    size_t n, m = 0, needed = 99, again = 99;
+    uint8_t *in = text(&n), *pattern;
+    if (n && rnd(4)) {
+        size_t from = rnd((uint32_t)n);
+        m = n - from < 4 ? n - from : rnd(5);
+        pattern = memcpy(malloc(m ? m : 1), in + from, m);
+    } else {
+        pattern = text(&m);
+    }
+    size_t room = rnd(2) ? rnd(4) : n + 1;
+    collate_match *out = malloc((room + 1) * sizeof *out);
+    int32_t status = collate_find_all_utf8(handle, pattern, m, in, n, out, room, &needed);
+    if (!is_open) {
+        if (status != COLLATE_IS_CLOSED) wrong("a closed handle has matches", at);
+        needed = 0;
+    } else if (status != (needed > room ? COLLATE_TOO_SMALL : COLLATE_DONE) || needed > n + 1) {
+        wrong("another status of a search", at);
+    }
+    collate_match *all = malloc((needed + 1) * sizeof *all);
+    if (is_open && (collate_find_all_utf8(handle, pattern, m, in, n, all, needed, &again) || again != needed)) wrong("two counts", at);
+    for (size_t i = 0; i < needed; i++) {
+        collate_match it = all[i];
+        if (it.start > it.end || it.end > n || (i && (it.start < all[i - 1].end || !memcmp(&it, &all[i - 1], sizeof it))))
+            wrong("a match out of order", at);
+        else if (collate_compare_utf8(handle, in + it.start, it.end - it.start, pattern, m))
+            wrong("a match that isn't equal", at);
+        if (i < room && memcmp(&it, &out[i], sizeof it)) wrong("another match with less room", at);
+    }
+    free(in);
+    free(pattern);
+    free(out);
+    free(all);
+}
+
 static int open_by(collate_handle *handle, long at) {
     size_t tag = rnd(TAG_COUNT), length = file_length;
     uint8_t *copy = malloc(file_length);
@@ -238,6 +274,9 @@ int main(int count, char **words) {
             break;
         case 8:
             batch(&handles[one], is_open[one], at);
+            break;
+        case 9:
+            search(&handles[one], is_open[one], at);
             break;
         case 6:
         case 7:

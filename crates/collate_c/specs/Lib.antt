@@ -1,3 +1,4 @@
+pub mod FoundMatches
 pub mod HeldSessions
 pub mod Openings
 pub mod Statuses

@@ -35,7 +35,7 @@ pub extern "C" fn collate_key_utf8(
     let Some(held) = handle.take(alloc) else {
         return status(Err(Failure::Closed));
     };
-    let written = write_key_utf8(held.as_ref(), text, out, needed);
+    let written = write_key_utf8(&held.as_ref().borrowed(), text, out, needed);
     handle.put(held);
     status(written)
 }
@@ -59,7 +59,7 @@ pub extern "C" fn collate_key_utf16(
     let Some(held) = handle.take(alloc) else {
         return status(Err(Failure::Closed));
     };
-    let written = write_key_utf16(held.as_ref(), text, out, needed);
+    let written = write_key_utf16(&held.as_ref().borrowed(), text, out, needed);
     handle.put(held);
     status(written)
 }
@@ -92,7 +92,14 @@ pub extern "C" fn collate_keys_utf8(
     let Some(held) = handle.take(alloc) else {
         return status(Err(Failure::Closed));
     };
-    let outcome = write_keys_utf8(held.as_ref(), texts, ends, out, key_ends, written);
+    let outcome = write_keys_utf8(
+        &held.as_ref().borrowed(),
+        texts,
+        ends,
+        out,
+        key_ends,
+        written,
+    );
     handle.put(held);
     status(outcome)
 }

@@ -5,13 +5,14 @@ ghost use Rattle.icu_text_encodings.specs.DecodedTexts.{utf16_text, utf8_text};
 ghost use Rattle.icu_order_texts.specs.TextOrder.{text_key};
 ghost use Rattle.icu_order_texts.specs.text_beginnings.TextBeginnings.{lower_bound, upper_bound};
 ghost use Rattle.icu_table_files.specs.fingerprint.FormLaws.{HasFingerprint};
+ghost use Rattle.icu_collator.specs.Collators.{collation_borrowed};
 ghost use Rattle.collate_c.specs.Openings.{collation_held};
 ghost use Rattle.collate_c.specs.WrittenBytes.{KeyOutcome, WritesBound, WritesFront};
 
 use crate::session::Session;
 use crate::statuses::Failure;
 use icu_collator::key_bounds::{lower_bound_key, upper_bound_key};
-use icu_collator::{SortKeyError, TooSmall};
+use icu_collator::{CollatorBorrowed, SortKeyError, TooSmall};
 use icu_table_files::fingerprint::fingerprint_by;
 use std::alloc::Global;
 
@@ -73,64 +74,60 @@ impl KeyRoom<'_> {
     /// Writes the sort key of a text in UTF-8, as far as it fits, and its length to `needed`.
     fn write_utf8(
         &mut self,
-        session: &Session,
+        collator: &CollatorBorrowed<'_>,
         text: &[u8],
         needed: &mut usize,
     ) -> Result<(), Failure>
         ensures same_reference { self.new.bytes.ghost_name ≡ self.old.bytes.ghost_name }
-        ensures key { WritesFront (text_key (collation_held session.now) (utf8_text text.now))
+        ensures key { WritesFront (text_key (collation_borrowed collator.now) (utf8_text text.now))
             result needed.new self.new.bytes.now }
     {
-        let written = session
-            .borrowed()
-            .write_sort_key_utf8_to(text, &mut self.bytes);
+        let written = collator.write_sort_key_utf8_to(text, &mut self.bytes);
         key_outcome(written, needed)
     }
 
     /// Writes the sort key of a text in UTF-16, as far as it fits, and its length to `needed`.
     fn write_utf16(
         &mut self,
-        session: &Session,
+        collator: &CollatorBorrowed<'_>,
         text: &[u16],
         needed: &mut usize,
     ) -> Result<(), Failure>
         ensures same_reference { self.new.bytes.ghost_name ≡ self.old.bytes.ghost_name }
-        ensures key { WritesFront (text_key (collation_held session.now) (utf16_text text.now))
+        ensures key { WritesFront (text_key (collation_borrowed collator.now) (utf16_text text.now))
             result needed.new self.new.bytes.now }
     {
-        let written = session
-            .borrowed()
-            .write_sort_key_utf16_to(text, &mut self.bytes);
+        let written = collator.write_sort_key_utf16_to(text, &mut self.bytes);
         key_outcome(written, needed)
     }
 }
 
 /// Writes the sort key of a text in UTF-8 to the front of `out`, if it fits, and its length to `needed`.
 pub(crate) fn write_key_utf8(
-    session: &Session,
+    collator: &CollatorBorrowed<'_>,
     text: &[u8],
     out: &mut [u8],
     needed: &mut usize,
 ) -> Result<(), Failure>
-    ensures { WritesFront (text_key (collation_held session.now) (utf8_text text.now))
+    ensures { WritesFront (text_key (collation_borrowed collator.now) (utf8_text text.now))
         result needed.new out.new }
 {
     let mut room = KeyRoom { bytes: out };
-    room.write_utf8(session, text, needed)
+    room.write_utf8(collator, text, needed)
 }
 
 /// Writes the sort key of a text in UTF-16 to the front of `out`, if it fits, and its length to `needed`.
 pub(crate) fn write_key_utf16(
-    session: &Session,
+    collator: &CollatorBorrowed<'_>,
     text: &[u16],
     out: &mut [u8],
     needed: &mut usize,
 ) -> Result<(), Failure>
-    ensures { WritesFront (text_key (collation_held session.now) (utf16_text text.now))
+    ensures { WritesFront (text_key (collation_borrowed collator.now) (utf16_text text.now))
         result needed.new out.new }
 {
     let mut room = KeyRoom { bytes: out };
-    room.write_utf16(session, text, needed)
+    room.write_utf16(collator, text, needed)
 }
 
 /// Writes the least key of texts that begin with this one to the front of `out`, if it fits, and its length to

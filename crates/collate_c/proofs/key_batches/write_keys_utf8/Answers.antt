@@ -2,13 +2,13 @@
 use Rattle.std.proofs.Common.{rules, ℕ, List, ◌≡◌, ◌<◌, ◌≤◌, ◌+◌, ◌++◌, length, take, get_or, set, sym, ap, ◌∙◌, subst}
 use Rattle.icu_order_texts.specs.TextOrder.{text_key}
 use Rattle.icu_text_encodings.specs.DecodedTexts.{utf8_text}
-use Rattle.collate_c.specs.Openings.{collation_held}
+use Rattle.icu_collator.specs.Collators.{collation_borrowed}
 use Rattle.collate_c.proofs.BatchLemmas.{Batched, batch_step}
 use Rattle.collate_c.proofs.key_batches.write_keys_utf8.Goals as goal
 
 pub loop-i-preserved : goal.loop-i-preserved
 loop-i-preserved c =
-    let f : List ℕ → List ℕ = λ t. text_key (collation_held c.args.session.now) (utf8_text t) in
+    let f : List ℕ → List ℕ = λ t. text_key (collation_borrowed c.args.collator.now) (utf8_text t) in
     let k = f c.part.result.now in
     let end : c.push_key_utf8.new.filled ≡ c.loop-i.filled + length k = search rules in
     let key : take c.push_key_utf8.new.filled c.push_key_utf8.new.out ≡ take c.loop-i.filled c.loop-i.out ++ k = search rules in
