@@ -73,9 +73,9 @@ def has_mark(path: str) -> bool:
 def pieces(paths: Iterable[str], size: int) -> List[Piece]:
     """The pieces of files, each of some `size` bytes."""
     made = []
-    for path in map(os.path.abspath, paths):
+    for path in paths:
         places = [*range(0, os.path.getsize(path), size), os.path.getsize(path)]
-        made += [Piece(path, *it) for it in zip(places, places[1:])]
+        made += [Piece(os.path.abspath(path), *it) for it in zip(places, places[1:])]
     return made
 
 

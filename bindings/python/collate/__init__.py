@@ -40,7 +40,7 @@ import itertools
 import os
 import re
 import threading
-from typing import TYPE_CHECKING, Any, Callable, Iterable, Iterator, List, NoReturn, Optional, Sequence, Tuple, TypeVar, Union
+from typing import TYPE_CHECKING, Any, Callable, Dict, Iterable, Iterator, List, NoReturn, Optional, Sequence, Tuple, TypeVar, Union
 
 if TYPE_CHECKING:
     from typing import Literal, TypedDict
@@ -125,7 +125,7 @@ _LIB = _library()
 _QUICK = ctypes.PyDLL(_LIB._name)
 _COMPARE, _KEY = _QUICK.collate_compare_utf8, _QUICK.collate_key_utf8
 # The type has `from_param`, which makes an argument.
-_as_size: Callable[[int], Any] = ctypes.c_size_t.from_param  # type: ignore[attr-defined]
+_as_size: Callable[[int], Any] = ctypes.c_size_t.from_param
 _SIZES = [_as_size(it) for it in range(256)]
 
 
@@ -169,7 +169,7 @@ def _raise(status: int, what: str = "") -> NoReturn:
     raise kinds.get(status, CollateError)(f"{what}{': ' if what else ''}{said.raw[: length.value].decode()}")
 
 
-_WORDS = {
+_WORDS: Dict[str, Tuple[str, Dict[Any, str]]] = {
     "strength": ("ks", {1: "level1", 2: "level2", 3: "level3", 4: "level4", "identical": "identic"}),
     "alternate": ("ka", {"non-ignorable": "noignore", "shifted": "shifted"}),
     "max_variable": ("kv", {it: it for it in ("space", "punct", "symbol", "currency")}),
@@ -237,7 +237,8 @@ class Collator:
 
     def _widen(self, size: int) -> None:
         """Makes room for keys of so many bytes."""
-        self._out, self._size = ctypes.create_string_buffer(size), size
+        self._size = size
+        self._out: Any = ctypes.create_string_buffer(size)
         self._out_at, self._size_given = ctypes.byref(self._out), _as_size(size)
 
     def _begin(self, path: str, data: bytes, tag: str) -> None:
@@ -260,7 +261,7 @@ class Collator:
                 self._widen(self._needed.value)
                 status = _KEY(self._at, data, size, self._out_at, self._size_given, self._needed_at)
             if not status:
-                return self._out[: self._needed.value]
+                return self._out[: self._needed.value]  # type: ignore[no-any-return]
         _raise(status)
 
     def keys(self, texts: Iterable[Text]) -> List[bytes]:
@@ -272,7 +273,8 @@ class Collator:
 
     def _batches(self, texts: Iterable[Text]) -> Iterator[Tuple[bytes, List[int]]]:
         """The sort keys of texts, some thousand at a time: one after the other, and where each ends."""
-        left, out, key_ends = iter(texts), ctypes.create_string_buffer(1), array.array("Q", bytes(8 * BATCH))
+        left, key_ends = iter(texts), array.array("Q", bytes(8 * BATCH))
+        out: Any = ctypes.create_string_buffer(1)
         while batch := _encoded([*itertools.islice(left, BATCH)]):
             joined, count = b"".join(batch), len(batch)
             ends = array.array("Q", itertools.accumulate(map(len, batch)))
@@ -303,7 +305,7 @@ class Collator:
             while (status := call(self._at, data, len(data), self._out, self._size, self._needed_at)) == TOO_SMALL:
                 self._widen(self._needed.value)
             if not status:
-                return self._out[: self._needed.value]
+                return self._out[: self._needed.value]  # type: ignore[no-any-return]
         if status != NO_BOUND:
             _raise(status)
         return None
