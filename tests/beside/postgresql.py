@@ -25,7 +25,7 @@ BEGIN_SO = f"SELECT name FROM people\n  WHERE {BETWEEN.format('mü')}\n    AND n
 # The names that begin so whatever their accents and case, in the order of their numbers.
 FOUND = f"SELECT string_agg(name, ' ' ORDER BY id) FROM people WHERE {BETWEEN.format('a')};"
 BY_SCAN, BY_INDEX = "SET enable_indexscan = off; SET enable_bitmapscan = off;", "SET enable_seqscan = off; SET enable_bitmapscan = off;"
-ROUNDS = 5
+ROUNDS = 3
 
 
 class Report:
@@ -270,39 +270,45 @@ SELECT name FROM collate_names FULL JOIN names1 USING (name, fingerprint) WHERE 
     report.show(check, one.shown("front", check))
 
 
-def try_times(report, one, room, count):
-    report.head(f"{count:,} names beside COLLATE \"sv-x-icu\"")
-    one.sql("postgres", "CREATE DATABASE times;")
-    one.sql("times", "CREATE EXTENSION collate_tables; SELECT collate_use('sv'); CREATE TABLE names (name text);")
+WAYS = ["collate_key(name, 'sv')", 'name COLLATE "sv-x-icu"', 'name COLLATE "C"']
+WORK = {"ORDER BY": "SELECT count(*) FROM (SELECT name FROM names ORDER BY {} OFFSET 0) x;", "CREATE INDEX": "CREATE INDEX made ON names (({}));"}
+
+
+def least_times(session, text):
+    """Of each way to order the least processor time and the least time, in seconds, and the size of the index that was made."""
+    took, sizes = {way: [] for way in WAYS}, {}
+    for _ in range(ROUNDS):
+        for way in WAYS:
+            took[way].append(session.seconds(text.format(way)))
+            sizes[way] = session.ask("SELECT round(pg_relation_size(to_regclass('made')) / 1e6, 1); DROP INDEX IF EXISTS made;")
+    return {way: (*map(min, zip(*it)), sizes[way]) for way, it in took.items()}
+
+
+def many_names(one, room, count):
+    """A session of a database with many names."""
     file = os.path.join(room, "names.txt")
     with open(file, "w", encoding="utf-8") as it:
         it.writelines(line.partition("\t")[0] + "\n" for line in made_names(count))
-    one.sql("times", f"\\copy names FROM '{file}'\nVACUUM ANALYZE names; CHECKPOINT;")
+    one.sql("postgres", "CREATE DATABASE times;")
+    one.sql("times", f"CREATE EXTENSION collate_tables; SELECT collate_use('sv'); CREATE TABLE names (name text);\n\\copy names FROM '{file}'\nVACUUM ANALYZE names; CHECKPOINT;")
     session = one.session("times")
-    session.ask("SET max_parallel_workers_per_gather = 0; SET max_parallel_maintenance_workers = 0; SELECT collate_key('a', 'sv');")
-    order = "SELECT count(*) FROM (SELECT name FROM names ORDER BY {} OFFSET 0) x;"
-    index = "DROP INDEX IF EXISTS made; CREATE INDEX made ON names ({});"
-    ways = {"collate_key": "collate_key(name, 'sv')", "icu": 'name COLLATE "sv-x-icu"', "bytes": 'name COLLATE "C"'}
+    session.ask("SET max_parallel_workers_per_gather = 0; SET max_parallel_maintenance_workers = 0; SET client_min_messages = warning; SELECT collate_key('a', 'sv');")
+    return session
+
+
+def try_times(report, one, room, count):
+    report.head(f"{count:,} names beside COLLATE \"sv-x-icu\"")
+    session = many_names(one, room, count)
     for memory in ("'512MB'", "DEFAULT"):
         session.ask(f"SET work_mem = {memory}; SET maintenance_work_mem = {memory};")
-        for what, text in (("ORDER BY", order), ("CREATE INDEX", index)):
-            text = text if what == "ORDER BY" else text.replace("({})", "(({}))")
-            took = {way: [] for way in ways}
-            sizes = {}
-            for _ in range(ROUNDS):
-                for way, by in ways.items():
-                    took[way].append(session.seconds(text.format(by)))
-                    if what != "ORDER BY":
-                        sizes[way] = int(session.ask("SELECT pg_relation_size('made');"))
-            least = {way: min(it) for way, it in took.items()}
-            for way, by in ways.items():
-                size = f", {sizes[way] / 1e6:.1f} MB" if sizes else ""
-                print(f"{what} {by}, memory {memory}: {least[way][0]:.2f} s of processor, {min(it[1] for it in took[way]):.2f} s{size}")
-            ratio = least["collate_key"][0] / least["icu"][0]
+        for what, text in WORK.items():
+            least = least_times(session, text)
+            for way, (processor, time, size) in least.items():
+                print(f"{what} {way}, memory {memory}: {processor:.2f} s of processor, {time:.2f} s{f', {size} MB' if size else ''}")
+            ratio = least[WAYS[0]][0] / least[WAYS[1]][0]
             report.want(f"{what}, memory {memory}: {ratio:.2f} of ICU's processor time", ratio <= 1)
-    alone = min(session.seconds("SELECT count(collate_key(name, 'sv')) FROM names;")[0] for _ in range(ROUNDS))
-    scan = min(session.seconds("SELECT count(name) FROM names;")[0] for _ in range(ROUNDS))
-    print(f"keys alone: {alone:.2f} s, of which reading the names takes {scan:.2f} s")
+    for text in ("count(collate_key(name, 'sv'))", "count(name)"):
+        print(f"{text}: {min(session.seconds(f'SELECT {text} FROM names;')[0] for _ in range(ROUNDS)):.2f} s of processor")
     session.close()
 
 
