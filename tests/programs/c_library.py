@@ -234,7 +234,7 @@ SELECT group_concat(hex(name), ' ') FROM (SELECT name FROM names WHERE name IS N
 SELECT count(*) FROM names WHERE collate_key(name, 'sv') >= collate_low('b', 'sv') AND collate_key(name, 'sv') < collate_high('b', 'sv');
 SELECT collate_load('first', '{table}', 'und-u-ks-level1');
 SELECT 'a' = 'A' COLLATE first, collate_high('', 'sv') IS NULL;
-SELECT collate_find('zåzÁb', 'aB', 'first'), collate_find('zab', 'aB', 'sv'), collate_find('ab', 'ab', 'sv'), collate_find(NULL, 'a', 'sv') IS NULL;
+SELECT collate_find('z' || char(229) || 'z' || char(193) || 'b', 'aB', 'first'), collate_find('zab', 'aB', 'sv'), collate_find('ab', 'ab', 'sv');
 SELECT collate_expect('sv', collate_fingerprint('sv'));
 PRAGMA trusted_schema = off;
 SELECT count(*) FROM names INDEXED BY by_key WHERE collate_key(name, 'sv') > X'';
@@ -258,7 +258,7 @@ def wrong_sqlite(room, table, program):
     given = [b"zebra", b"ab", b"", b"Ab", b"b", b"ba", b"a\xff"]
     key_of = dict(zip(given, keys_of_program(program, table, given)))
     order = " ".join(it.hex().upper() for it in sorted(given, key=key_of.get))
-    wanted = f"{order}\n{key_of[b'ab'].hex().upper()}\n{order}\n2\nfirst\n1|1\n4|0|1|1\n1\n7\n"
+    wanted = f"{order}\n{key_of[b'ab'].hex().upper()}\n{order}\n2\nfirst\n1|1\n4|0|1\n1\n7\n"
     found = [f"sqlite3: {status} {said}{error}; wanted: {wanted}"] * ((status, said, error) != (0, wanted, ""))
     # A file that is opened again: its collation and its index are found by their names.
     again = f".load {names['extension']}\nSELECT name FROM names ORDER BY name COLLATE sv LIMIT 1 OFFSET 2;\nPRAGMA integrity_check;\n"
