@@ -147,12 +147,18 @@ def _bytes_of(text: Text) -> bytes:
         return re.sub("[\ud800-\udfff]", "\ufffd", text).encode()
 
 
-def _encoded(texts: Sequence[Text]) -> List[bytes]:
-    """Texts in UTF-8."""
+def _joined(texts: Sequence[Text]) -> Tuple[bytes, Iterable[int]]:
+    """Texts in UTF-8, one after the other, and how long each is."""
     try:
-        return list(map(str.encode, texts))  # type: ignore[arg-type]
+        # What makes the bytes of all texts by one call is fastest, if no text has the character that parts them.
+        parted = "\0".join(texts).encode()  # type: ignore[arg-type]
+        parts = parted.split(b"\0")
+        if len(parts) == len(texts):
+            return parted.replace(b"\0", b""), map(len, parts)
     except (TypeError, UnicodeEncodeError):
-        return [*map(_bytes_of, texts)]
+        pass
+    parts = [*map(_bytes_of, texts)]
+    return b"".join(parts), map(len, parts)
 
 
 def _cut(joined: S, ends: List[int]) -> List[S]:
@@ -275,9 +281,9 @@ class Collator:
         """The sort keys of texts, some thousand at a time: one after the other, and where each ends."""
         left, key_ends = iter(texts), array.array("Q", bytes(8 * BATCH))
         out: Any = ctypes.create_string_buffer(1)
-        while batch := _encoded([*itertools.islice(left, BATCH)]):
-            joined, count = b"".join(batch), len(batch)
-            ends = array.array("Q", itertools.accumulate(map(len, batch)))
+        while batch := [*itertools.islice(left, BATCH)]:
+            joined, lengths = _joined(batch)
+            ends, count = array.array("Q", [*itertools.accumulate(lengths)]), len(batch)
             given, to = (joined, len(joined), ends.buffer_info()[0], count), (key_ends.buffer_info()[0], count)
             room, status = 4 * len(joined) + 16 * count, TOO_SMALL
             while status == TOO_SMALL:
@@ -325,7 +331,10 @@ class Collator:
         keys: List[str] = []
         for joined, ends in self._batches(texts):
             keys += _cut(joined.decode("latin-1"), ends)
-        return [listed[it] for it in sorted(range(len(listed)), key=keys.__getitem__, reverse=reverse)]
+        # `sort` asks for the key of each item from the first to the last: `next(keys, item)` gives it.
+        key_of: Any = functools.partial(next, iter(keys))
+        listed.sort(key=key_of, reverse=reverse)
+        return listed
 
     @property
     def cmp_key(self) -> Callable[[Text], Any]:
