@@ -116,7 +116,8 @@ def wrong_errors(made, table, room):
     collator.close()
     for call in (collator.key, collator.bounds):
         found += raised(made.ClosedCollator, call, "a")
-    found += raised(made.ClosedCollator, collator.compare, "a", "b")
+    for call in (collator.compare, collator.find):
+        found += raised(made.ClosedCollator, call, "a", "b")
     found += raised(made.ClosedCollator, collator.share)
     if other.compare("a", "b") != -1 or other.key("\ud800") != other.key("\ufffd") or len(other.key("a" * 5000)) < 5000:
         found.append("a shared collator")
@@ -130,6 +131,18 @@ def wrong_surrogates(made, table):
         keys = {collator.key(text), collator.key(other), *collator.keys([text, other])}
         found += [f"{text!a} and {other!a}: other keys"] * (len(keys) != 1 or collator.compare(text, other) != 0)
     return found
+
+
+def wrong_finds(made, table):
+    """Matches, by characters and by bytes."""
+    rows = [("ab", "xAbäab", 1, [(1, 3), (4, 6)]), ("ä", "aäÄ\u4e00ä", 2, [(1, 2), (2, 3), (4, 5)]), ("b", "\ud83d\ude00b", 3, [(2, 3)]), ("b", "", 3, [])]
+    rows += [("b", "áb" * 50, 3, [(it, it + 1) for it in range(1, 100, 2)])]
+    rows += [("ä".encode(), "aäÄä".encode(), 2, [(1, 3), (3, 5), (5, 7)])]
+    return [
+        f"{pattern!a} in {text!a}: {said}"
+        for pattern, text, strength, wanted in rows
+        if (said := made.Collator.open(table, strength=strength).find(pattern, text)) != wanted
+    ]
 
 
 def wrong_sorts(made, table):
@@ -348,6 +361,7 @@ def check_c_library(report, room, program):
     report.say("Python's keys and signs are the program's", wrong_keys(made, program, table), TEXTS)
     report.say("Python's errors", wrong_errors(made, table, room), 1)
     report.say("Python's texts with surrogates, and bytes", wrong_surrogates(made, table), 1)
+    report.say("Python's matches", wrong_finds(made, table), 1)
     report.say("Python's sorts, and threads", wrong_sorts(made, table), 1)
     report.say("Python's examples, in a wheel", wrong_wheel(room, table), 1)
     report.say("PostgreSQL's extension without a server", wrong_postgres(room, table, program), TEXTS)

@@ -24,6 +24,8 @@ True
 True
 >>> swedish.share(strength=1).compare("a", "A"), swedish.compare("a", "A")
 (0, -1)
+>>> Collator("sv", strength=1).find("a", "an Ape")
+[(0, 1), (3, 4)]
 >>> Collator("sv", strength=9)
 Traceback (most recent call last):
 collate.BadSettings: strength is one of 1, 2, 3, 4, 'identical', not 9
@@ -107,6 +109,7 @@ def _library() -> ctypes.CDLL:
         "collate_keys_utf8": (status, [handle, text, size, room, size, room, size, room, size, needed]),
         "collate_lower_bound_utf8": (status, [handle, text, size, room, size, needed]),
         "collate_upper_bound_utf8": (status, [handle, text, size, room, size, needed]),
+        "collate_find_all_utf8": (status, [handle, text, size, text, size, room, size, needed]),
         "collate_fingerprint": (status, [handle, room, size]),
         "collate_message": (status, [status, room, size, needed]),
         "collate_version": (status, []),
@@ -159,6 +162,12 @@ def _joined(texts: Sequence[Text]) -> Tuple[bytes, Iterable[int]]:
         pass
     parts = [*map(_bytes_of, texts)]
     return b"".join(parts), map(len, parts)
+
+
+def _characters_before(data: bytes, places: Sequence[int]) -> List[int]:
+    """How many characters stand before places in UTF-8, which rise."""
+    counts = (len(data[begin:end].decode()) for begin, end in zip([0, *places], places))
+    return [*itertools.accumulate(counts)]
 
 
 def _cut(joined: S, ends: List[int]) -> List[S]:
@@ -322,6 +331,25 @@ class Collator:
         data = _bytes_of(text)
         low = self._bound(_LIB.collate_lower_bound_utf8, data)
         return low, self._bound(_LIB.collate_upper_bound_utf8, data)  # type: ignore[return-value]
+
+    def find(self, pattern: Text, text: Text) -> List[Tuple[int, int]]:
+        """Where parts of a text are equal to a pattern by this order, as UTS #10 finds them: `text[begin:end]` of each, the
+        first ones that don't overlap. Other threads run meanwhile."""
+        word, data, count = _bytes_of(pattern), _bytes_of(text), 16
+        with self._lock:
+            while True:
+                found = (ctypes.c_size_t * (2 * count))()
+                status = _LIB.collate_find_all_utf8(self._at, word, len(word), data, len(data), found, count, self._needed_at)
+                if status != TOO_SMALL:
+                    break
+                count = self._needed.value
+            count = self._needed.value
+        if status:
+            _raise(status)
+        places = found[: 2 * count]
+        if len(data) != len(text):
+            places = _characters_before(data, places)
+        return [*zip(places[::2], places[1::2])]
 
     def sorted(self, items: Iterable[T], *, key: Optional[Callable[[T], Text]] = None, reverse: bool = False) -> List[T]:
         """Texts in order, or items by the texts that `key` returns of them; equal ones as they came."""
