@@ -82,12 +82,19 @@ class Cluster:
     def __enter__(self):
         from distributed import Client
 
-        self.client = Client(scheduler_file=self.file)
-        self.client.wait_for_workers(len(self.workers))
+        try:
+            self.client = Client(scheduler_file=self.file, timeout=120)
+            self.client.wait_for_workers(len(self.workers))
+        except BaseException:
+            self.end()
+            raise
         return self
 
     def __exit__(self, *_):
         self.client.close()
+        self.end()
+
+    def end(self):
         for it in [*self.workers, self.scheduler]:
             it.terminate()
         for it in [*self.workers, self.scheduler]:
@@ -128,7 +135,7 @@ def try_workers(room, path, table, wanted, rounds):
     for _ in range(rounds):
         for count in (1, 2, 4):
             with Cluster(room, count) as cluster:
-                sorts(cluster, cluster_warm(room, path), table, room, 0)
+                sorts(cluster, beginning_of(room, path), table, room, 0)
                 made, took = sorts(cluster, path, table, room, size)
                 wrong = differs(made, wanted, room)
                 if wrong:
@@ -139,13 +146,13 @@ def try_workers(room, path, table, wanted, rounds):
         say(f"{count} workers: {took:.2f} s{ratio}")
 
 
-def cluster_warm(room, path):
+def beginning_of(room, path):
     """A short file, by which workers import the module and open the table file."""
-    warm = os.path.join(room, "warm")
-    if not os.path.exists(warm):
-        with open(path, "rb") as it, open(warm, "wb") as to:
+    made = os.path.join(room, "beginning")
+    if not os.path.exists(made):
+        with open(path, "rb") as it, open(made, "wb") as to:
             to.writelines(itertools.islice(it, 20_000))
-    return warm
+    return made
 
 
 def try_killed(room, path, table, wanted):
