@@ -97,7 +97,8 @@ class _Handle(ctypes.Structure):
 
 def _library() -> ctypes.CDLL:
     """The library, whose calls release the interpreter's lock."""
-    beside = [os.path.join(it, "libcollate.so.1") for it in (HERE, os.path.dirname(HERE))]
+    folders = HERE, os.path.dirname(HERE), os.path.dirname(os.path.dirname(HERE))
+    beside = [os.path.join(it, "libcollate.so.1") for it in folders]
     found = [it for it in beside if os.path.exists(it)]
     lib = ctypes.CDLL(os.environ.get("COLLATE_LIBRARY") or (found or ["libcollate.so.1"])[0])
     handle, text, size, status = ctypes.POINTER(_Handle), ctypes.c_char_p, ctypes.c_size_t, ctypes.c_int32
