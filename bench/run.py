@@ -36,6 +36,14 @@ ROOT = f"{building.CLDR}/common/uca/FractionalUCA.txt"
 UNITS = {"ms": 1e6, "ns": 1.0}
 
 
+def add_common_words(parser, rounds):
+    """The words that scripts over table files have in common."""
+    parser.add_argument("--rounds", type=int, default=rounds)
+    parser.add_argument("--seed", type=int, default=1)
+    parser.add_argument("--folder", default=os.path.join(CACHE, "collation-bench"))
+    parser.add_argument("--program")
+
+
 class Measured:
     """A row, with what the program printed of it. Beside keys the time of the library's key stands for the peer's."""
 

@@ -45,10 +45,7 @@ def asked():
     parser = argparse.ArgumentParser(usage=__doc__.partition("usage: ")[2])
     parser.add_argument("--names", type=int, default=100_000)
     parser.add_argument("--locale", default="sv")
-    parser.add_argument("--rounds", type=int, default=5)
-    parser.add_argument("--seed", type=int, default=1)
-    parser.add_argument("--folder", default=os.path.join(run.CACHE, "collation-bench"))
-    parser.add_argument("--program")
+    run.add_common_words(parser, 5)
     parser.add_argument("--extension")
     return parser.parse_args()
 
